@@ -338,54 +338,61 @@ class LastWrite(Asker):
         print(ask("last-write 0x%x" % address), end="")
 
 
-class Origin(Asker):
-    """bpf-origin [EXPRESSION]: tells where a value came from, move by move: of a register ($r3), of the bytes of a variable (note.packet), or of
-    ADDRESS:COUNT; left out, of the address of an access that failed, or of r0. It is 'monitor origin', over the moves that are kept."""
+class PastAsker(Asker):
+    """A command that asks about the moves that are kept, as a line of 'monitor' does. The machine stays where it is."""
 
-    # whether this asks now: then the machine stays where it is, and gdb needn't forget it
+    # whether one asks now: then gdb needn't forget the machine
     asks = False
 
-    def __init__(self):
-        super().__init__("bpf-origin", gdb.COMMAND_DATA, gdb.COMPLETE_EXPRESSION)
+    def __init__(self, name, completion):
+        super().__init__(name, gdb.COMMAND_DATA, completion)
 
     def obey(self, argument):
         lines = self.lines(argument.strip())
         for line in lines:
             print(line + self.source_of(line))
-        if any(line.endswith("; before the kept history") for line in lines):
+        if any(line.endswith(("; before the kept history", " before what is kept")) for line in lines):
             print(dropped_moves())
 
     def lines(self, text):
         """The lines of the answer."""
         if not is_connected():
             raise gdb.GdbError(NOT_CONNECTED)
-        Origin.asks = True
+        PastAsker.asks = True
         try:
-            return gdb.execute(" ".join(["monitor origin", *self.what(text)]), to_string=True).splitlines()
+            return gdb.execute(" ".join(["monitor", *self.what(text)]), to_string=True).splitlines()
         finally:
-            Origin.asks = False
+            PastAsker.asks = False
 
     def source_of(self, line):
         """The line of the source of a move, behind its own."""
-        slot = re.match(r"-\d+ .*?; (\d+): ", line)
+        slot = re.match(r"-\d+ (?:.*?; )?(\d+): ", line)
         place = gdb.find_pc_line(SLOT * int(slot.group(1))) if slot else None
         return " (%s:%d)" % (os.path.basename(place.symtab.filename), place.line) if place and place.symtab else ""
+
+
+class Origin(PastAsker):
+    """bpf-origin [EXPRESSION]: tells where a value came from, move by move: of a register ($r3), of the bytes of a variable (note.packet), or of
+    ADDRESS:COUNT; left out, of the address of an access that failed, or of r0. It is 'monitor origin', over the moves that are kept."""
+
+    def __init__(self):
+        super().__init__("bpf-origin", gdb.COMPLETE_EXPRESSION)
 
     def what(self, text):
         """What is asked, in bpfdb's words."""
         if re.fullmatch(r"\$r[0-9]", text) and gdb.selected_frame() == gdb.newest_frame():
-            return [text[1:]]
+            return ["origin", text[1:]]
         address, colon, count = text.rpartition(":")
         if colon:
-            return ["0x%x:%d" % (int(gdb.parse_and_eval(address)) % 2**64, int(gdb.parse_and_eval(count)))]
+            return ["origin", "0x%x:%d" % (int(gdb.parse_and_eval(address)) % 2**64, int(gdb.parse_and_eval(count)))]
         if not text:
-            return []
+            return ["origin"]
         value = gdb.parse_and_eval(text)
         if value.address is None:
-            raise gdb.GdbError(self.why_not(text))
-        return ["0x%x:%d" % (int(value.address) % 2**64, value.type.sizeof)]
+            raise gdb.GdbError(self.no_place(text))
+        return ["origin", "0x%x:%d" % (int(value.address) % 2**64, value.type.sizeof)]
 
-    def why_not(self, text):
+    def no_place(self, text):
         """Why there is no answer of a value that isn't in memory."""
         if text.startswith("$"):
             return "bpf-origin tells of r0 to r9, in the innermost frame"
@@ -413,6 +420,39 @@ def register_of(name, frame):
         if found and found[1] in names and (not begin or int(begin, 16) <= place < int(end, 16)):
             return "r%d" % names.index(found[1])
     return None
+
+
+class Whynot(PastAsker):
+    """bpf-whynot WHAT: tells why the program did not come to a place, and what decided it: to a slot (12) or slots (12,15), a function (size_of), a
+    label, or any instruction of a line (FILE:LINE). It is 'monitor whynot', over the moves that are kept."""
+
+    def __init__(self):
+        super().__init__("bpf-whynot", gdb.COMPLETE_LOCATION)
+
+    def what(self, text):
+        """What is asked, in bpfdb's words."""
+        # (-1 and +1 would be lines to gdb, and slots to a reader)
+        if not text or text[0] in "-+":
+            raise gdb.GdbError("bpf-whynot WHAT: a slot, a function or FILE:LINE")
+        # (what begins as a number has a meaning in bpfdb alone, or is refused there)
+        return ["whynot", text if text[0].isdigit() else ",".join(str(slot) for slot in self.slots(text))]
+
+    def slots(self, text):
+        """The slots of a place: the first one of a function, all of a line, or of the next line that has any."""
+        rest, places = gdb.decode_line(text)
+        if rest or not places:
+            raise gdb.GdbError("bpf-whynot WHAT: a slot, a function or FILE:LINE")
+        if not re.search(r":\s*\d+$", text):
+            return [place.pc // SLOT for place in places]
+        lines = {line_at(place.pc) for place in places}
+        listing.read()
+        return [slot for slot in sorted(listing.texts) if line_at(SLOT * slot) in lines]
+
+
+def line_at(counter):
+    """The file and the line of an instruction."""
+    place = gdb.find_pc_line(counter)
+    return place.symtab and place.symtab.fullname(), place.line
 
 
 class Registers(Asker):
@@ -636,6 +676,7 @@ Undo("bpf-undo")
 Redo("bpf-redo")
 LastWrite()
 origin = Origin()
+Whynot()
 Registers()
 Map()
 Break("hbreak", "break")
@@ -643,7 +684,7 @@ Break("thbreak", "tbreak")
 for name in ("run", "start", "starti"):
     Refuse(name, "the program runs in bpfdb: continue goes on, and bpf-load starts it anew")
 Refuse("return", "BPF has no way to leave a call early: finish goes on to its end, and bpf-undo goes back")
-gdb.execute("define hookpost-monitor\npython Origin.asks or forget()\nend")
+gdb.execute("define hookpost-monitor\npython PastAsker.asks or forget()\nend")
 # bpfdb watches four bytes; gdb compares what is wider, and further watches, by itself, step by step.
 gdb.execute("set remote hardware-watchpoint-limit 1")
 gdb.execute("set remote hardware-watchpoint-length-limit 4")

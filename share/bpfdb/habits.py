@@ -56,7 +56,7 @@ Q11 | See 'info breaks': 'delete' and 'unwatch' need one that is there, 'break' 
 Q12 | A line has at most 1,024 bytes.
 Q13 | No move was taken back since the latest new one: go back first. A forward command or an edit forgets what was taken back before it.
 Q14 | The map or the index isn't there, or the bytes aren't as many as a value of the map has.
-Q15 | There was no memory to keep the command's first move; it wasn't made. 'bpfdb debug' never answers it: see J2.
+Q15 | There was no memory to keep the command's first move; it wasn't made. 'bpfdb debug' never answers it: see J2. In gdb also: there was none for the answer of 'monitor whynot'.
 """
 # docs/tables.sh: end
 

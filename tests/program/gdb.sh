@@ -106,7 +106,7 @@ if has python3 'sessions in gdb'; then
     same 'examples/overrun/program.bin is linked from its object' "$top/examples/overrun/program.bin" overrun.bin
     "$top/share/bpfdb-symbols" overrun.o overrun.sym
     "$top/share/bpfdb-symbols" --registers riscv overrun.o overrun.riscv
-    for number in 1 2; do
+    for number in 1 2 3; do
         story $number GDB.md > story$number.txt
         [ "$(wc -l < story$number.txt)" -gt 2 ] || complain "docs/GDB.md shows no session $number"
     done
@@ -125,7 +125,7 @@ if has python3 'sessions in gdb'; then
 
     sessions=$parts/gdb
     if serves gdb 'sessions in gdb'; then
-        for name in steps stops ends edits faults calls commands limits source sections traps bare load names habits origin windows; do
+        for name in steps stops ends edits faults calls commands limits source sections traps bare load names habits origin whynot windows; do
             transcript gdb "$sessions/$name.txt"
         done
         transcript gdb story1.txt
@@ -141,6 +141,7 @@ if has python3 'sessions in gdb'; then
         transcript gdb story2.txt
         cp "$top/examples/firewall/firewall.c" "$top/examples/firewall/context.bin" .
         transcript gdb firewall.txt
+        transcript gdb story3.txt
         cp "$top/examples/overrun/context.bin" .
 
         # Where the commands end at a fault, without `kill` or `detach`, gdb ends bpfdb.
