@@ -17,6 +17,7 @@ pub mod MapTypes
 pub mod Links
 pub mod Laid
 pub mod Shapes
+pub mod MapNames
 pub mod Refusals
 pub mod Names
 pub mod Helpers

@@ -10,6 +10,7 @@ use Rattle.bpf_link.specs.FieldRelocations.{AreLeft, IsFieldsFault}
 use Rattle.bpf_link.specs.Laid.{IsLaidOut}
 use Rattle.bpf_link.specs.Begun.{Begun, counts}
 use Rattle.bpf_link.specs.Links.{AllShapes, Made, least_maps, maps_of, program_of}
+use Rattle.bpf_link.specs.MapNames.{HasNames}
 use Rattle.bpf_link.specs.Refusals.{IsLinkFault}
 use Rattle.bpf_link.specs.Shapes.{AreDataShapes, HasShapes}
 use Rattle.bpf_isa.specs.Maps.{most_maps}
@@ -36,6 +37,7 @@ pub record HasOwnMaps (plan : Plan) (program : Program) : Type 0 where
   pub few : length program.maps.items + length program.data_maps.items ≤ most_maps
   pub maps : maps_of plan ≡ Ok program.maps.items
   pub of_data : AreDataShapes plan program.data_maps.items
+  pub names : HasNames plan program.names.items
 
 -- A program is that of a plan, and lies as the plan says.
 pub record IsProgram (plan : Plan) (slot : ℕ) (reach : List Bool) (stubs : List Stub) (program : Program) : Type 0 where
@@ -49,6 +51,7 @@ pub record IsMade (plan : Plan) (slot : ℕ) (reach : List Bool) (stubs : List S
   pub ok : program_of slot reach stubs plan ≡ Ok (linked_of program)
   pub laid : IsLaidOut plan slot reach stubs program.words.items
   pub shapes : HasShapes plan program.shapes.items
+  pub names : HasNames plan program.names.items
   pub accepted : IsAccepted program.words.items (least_maps program.maps program.data_maps.items)
 
 -- A program that is made of an object, of what counts of it.

@@ -11,6 +11,7 @@ mod image;
 pub mod laws;
 mod layout;
 mod linker;
+mod map_names;
 mod map_types;
 mod names;
 mod object;
@@ -43,7 +44,7 @@ pub use linker::{LinkOptions, Linked, link, link_with, planned};
 pub use map_types::{
     are_in_maps, name_from, name_place, section_bytes, symbol_of, told_of_types, types_in,
 };
-pub use names::fault_names;
+pub use names::{fault_names, short_at};
 pub use object::Object;
 pub use parts::{Part, Parts, Side};
 pub use patch::is_map;

@@ -4,6 +4,7 @@ ghost use Rattle.bpf_isa.specs.Checker.{IsRefused, most_slots};
 ghost use Rattle.bpf_isa.specs.declared.maps.MapShape.{MapShape};
 ghost use Rattle.bpf_isa.specs.Maps.{IsShape, most_maps};
 ghost use Rattle.bpf_link.specs.Data.{AllBelow, HasMaps, numbered};
+ghost use Rattle.bpf_link.specs.MapNames.{HasNames};
 ghost use Rattle.bpf_link.specs.Links.{AllShapes, MemoryOr, planned, program_of, program_words, plain_maps, least_maps, data_shape, data_shapes, told_of};
 ghost use Rattle.bpf_link.specs.declared.fault.LinkFault.TheVariants.{Memory};
 ghost use Rattle.bpf_link.specs.Programs.{HasOwnMaps, IsLinked, IsLinkRefusal, IsLinkedAs, IsMade, IsProgram, linked_of, made_of};
@@ -18,6 +19,7 @@ use crate::entry::entry_of;
 use crate::fault::LinkFault;
 use crate::field_relocations::fields_as_compiled;
 use crate::fields::u32_at;
+use crate::map_names::map_names;
 use crate::object::open;
 use crate::placed::Placed;
 use crate::plan::{Plan, plan_of};
@@ -59,6 +61,8 @@ struct Program {
     maps: ArrayVec<u64, MOST_MAPS>,
     data_maps: ArrayVec<MapShape, MOST_MAPS>,
     answered: usize,
+    /// Where the names of all maps stand in the file.
+    names: ArrayVec<usize, MOST_MAPS>,
 }
 
 /// Words, and how many calls of helpers are answered in them.
@@ -89,6 +93,10 @@ pub struct Linked {
     pub shapes: ArrayVec<MapShape, MOST_MAPS>,
     /// How many relocations of fields are left undone.
     pub fields: u32,
+    /// Where the names of all maps stand in the file (`short_at`), in the order of their numbers:
+    /// of the object's own those of the symbols there, of data those of the sections. The file's
+    /// end where one has none.
+    pub names: ArrayVec<usize, MOST_MAPS>,
 }
 
 /// The most bytes of a section's name.
@@ -258,11 +266,13 @@ fn program_of(
         Err(fault) => return Err(fault),
     };
     let data_maps = data_shapes(plan, taken);
+    let names = map_names(plan, own, taken);
     Ok(Program {
         words: done.words,
         answered: done.count,
         maps,
         data_maps,
+        names,
     })
 }
 
@@ -271,6 +281,7 @@ fn with_shapes(alloc: Global, plan: &Plan<'_>, program: Program) -> Result<Linke
     requires { HasOwnMaps plan.now program }
     ensures same { IfOk result (λ linked. linked_of linked ≡ made_of program) }
     ensures shapes { IfOk result (λ linked. HasShapes plan.now linked.shapes.items) }
+    ensures names { IfOk result (λ linked. HasNames plan.now linked.names.items) }
     ensures err { IfErr result (IsShapeFault plan.now) }
 {
     let own = program.maps.as_slice();
@@ -283,6 +294,7 @@ fn with_shapes(alloc: Global, plan: &Plan<'_>, program: Program) -> Result<Linke
             data_maps: program.data_maps,
             shapes,
             fields: 0,
+            names: program.names,
         }),
         Err(fault) => Err(fault),
     }
@@ -324,6 +336,7 @@ pub fn link_with(
             answered: linked.answered,
             shapes: linked.shapes,
             fields,
+            names: linked.names,
         }),
         Err(fault) => Err(fault),
     }

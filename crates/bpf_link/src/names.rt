@@ -27,8 +27,8 @@ fn cut(text: &[u8]) -> &[u8]
     &text[..text.len().min(255)]
 }
 
-/// At most 255 bytes of the name that stands at a place in the file.
-fn short_at(object: &[u8], at: usize) -> &[u8]
+/// At most 255 bytes of the name that stands at a place in the file; none behind its end.
+pub fn short_at(object: &[u8], at: usize) -> &[u8]
     ensures value { result.now ≡ short_at object.now at }
     ensures short { length result.now ≤ 255 }
 {

@@ -12,6 +12,6 @@ pub returns-in-Ok-fields_as_compiled-clause-ok : goal.returns-in-Ok-fields_as_co
 returns-in-Ok-fields_as_compiled-clause-ok c =
     let linked = c.in-Ok.ensures.ok in
     record {
-      linked = record { begun = linked.begun; made = record { ok = linked.made.ok; laid = linked.made.laid; shapes = linked.made.shapes; accepted = linked.made.accepted } };
+      linked = record { begun = linked.begun; made = record { ok = linked.made.ok; laid = linked.made.laid; shapes = linked.made.shapes; names = linked.made.names; accepted = linked.made.accepted } };
       left = c.in-Ok-fields_as_compiled.ensures.ok;
     }

@@ -15,6 +15,6 @@ returns-clause-ok c =
       laid =
           laid_out (numbered c.args.plan.now c.as_slice-own.result.now c.as_slice-taken.result.now) c.args.slot c.args.reach.now c.args.stubs.now _ c.requires.inside c.invariant.ensures
           (c.in-Ok.ensures.ok ∙ ap Ok (sym c.as_slice-own.ensures.value)) found c.in-Ok-numbered_words.ensures.ok;
-      own = record { few = few; maps = c.in-Ok.ensures.ok; of_data = (c.as_slice-taken.result.now, found, c.data_shapes-data_maps.ensures.value) };
+      own = record { few = few; maps = c.in-Ok.ensures.ok; of_data = (c.as_slice-taken.result.now, found, c.data_shapes-data_maps.ensures.value); names = record { maps = c.as_slice-own.result.now; taken = c.as_slice-taken.result.now; found = c.in-Ok.ensures.ok ∙ ap Ok (sym c.as_slice-own.ensures.value); referred = found; named = c.map_names-names.ensures } };
       possible = c.data_shapes-data_maps.ensures.possible;
     }
