@@ -67,6 +67,10 @@ profile_rule = record (new_rule (codes "profile")) { long = Some (codes "profile
 abbrev pub listing_rule : Rule
 listing_rule = record (new_rule (codes "listing")) { long = Some (codes "listing"); action = Some SetTrue }
 
+-- `--object`: FILE is an object.
+abbrev pub object_rule : Rule
+object_rule = record (new_rule (codes "object")) { long = Some (codes "object"); action = Some SetTrue }
+
 -- `--section NAME`: the code section that is linked.
 abbrev pub section_rule : Rule
 section_rule = record (new_rule (codes "section")) { long = Some (codes "section"); value_names = 1 }
@@ -136,53 +140,58 @@ goal_rule = record (new_rule (codes "what")) { required = true; index = Some 2; 
 abbrev pub file_rule : Rule
 file_rule = record (new_rule (codes "file")) { required = true; value_names = 1 }
 
+-- What is asked of the link of an object.
+abbrev pub with_link_rules : App → App
+with_link_rules app = with_rule (with_rule (with_rule (with_rule app section_rule) entry_rule) stub_rule) as_compiled_rule
+
+-- What FILE may be besides words: a listing, or an object.
+abbrev pub with_file_kinds : App → App
+with_file_kinds app = with_link_rules (with_rule (with_rule app listing_rule) object_rule)
+
 -- The subcommands and their options.
 abbrev pub run_app : App
-run_app = with_rule (with_rule (with_rule (with_rule (with_rule (new_app (codes "run"))
-    mem_rule) maps_rule) steps_rule) listing_rule) file_rule
+run_app = with_rule (with_file_kinds (with_rule (with_rule (with_rule (new_app (codes "run")) mem_rule) maps_rule) steps_rule)) file_rule
 
 abbrev pub trace_app : App
-trace_app = with_rule (with_rule (with_rule (with_rule (with_rule (with_rule (with_rule (with_rule (with_rule (new_app (codes "trace"))
-    mem_rule) maps_rule) steps_rule) from_rule) count_rule) branches_rule) profile_rule) listing_rule) file_rule
+trace_app = with_rule (with_file_kinds (with_rule (with_rule (with_rule (with_rule (with_rule (with_rule (with_rule (new_app (codes "trace"))
+    mem_rule) maps_rule) steps_rule) from_rule) count_rule) branches_rule) profile_rule)) file_rule
 
 abbrev pub debug_app : App
-debug_app = with_rule (with_rule (with_rule (with_rule (with_rule (with_rule (new_app (codes "debug"))
-    mem_rule) maps_rule) journal_rule) steps_rule) listing_rule) file_rule
+debug_app = with_rule (with_file_kinds (with_rule (with_rule (with_rule (with_rule (new_app (codes "debug"))
+    mem_rule) maps_rule) journal_rule) steps_rule)) file_rule
 
 abbrev pub asm_app : App
 asm_app = with_rule (new_app (codes "asm")) file_rule
 
 abbrev pub disasm_app : App
-disasm_app = with_rule (with_rule (with_rule (new_app (codes "disasm")) maps_rule) listing_rule) file_rule
+disasm_app = with_rule (with_file_kinds (with_rule (new_app (codes "disasm")) maps_rule)) file_rule
 
 abbrev pub lines_app : App
 lines_app = with_rule (new_app (codes "lines")) file_rule
 
 abbrev pub check_app : App
-check_app = with_rule (with_rule (with_rule (new_app (codes "check")) maps_rule) listing_rule) file_rule
+check_app = with_rule (with_file_kinds (with_rule (new_app (codes "check")) maps_rule)) file_rule
 
 abbrev pub link_app : App
-link_app =
-    with_rule (with_rule (with_rule (with_rule (with_rule (with_rule (with_rule (new_app (codes "link"))
-    section_rule) entry_rule) stub_rule) as_compiled_rule) with_functions_rule) joined_rule) file_rule
+link_app = with_rule (with_rule (with_rule (with_link_rules (new_app (codes "link"))) with_functions_rule) joined_rule) file_rule
 
 abbrev pub test_app : App
 test_app = with_rule (with_rule (with_rule (new_app (codes "test")) only_rule) show_rule) file_rule
 
 -- `gdb` opens a session as `debug` does, over a larger journal.
 abbrev pub gdb_app : App
-gdb_app = with_rule (with_rule (with_rule (with_rule (with_rule (with_rule (with_rule (new_app (codes "gdb"))
-    mem_rule) maps_rule) gdb_journal_rule) steps_rule) listing_rule) registers_rule) file_rule
+gdb_app = with_rule (with_rule (with_file_kinds (with_rule (with_rule (with_rule (with_rule (new_app (codes "gdb"))
+    mem_rule) maps_rule) gdb_journal_rule) steps_rule)) registers_rule) file_rule
 
 -- `origin` runs the program as `debug` does, over that journal, too.
 abbrev pub origin_app : App
-origin_app = with_rule (with_rule (with_rule (with_rule (with_rule (with_rule (with_rule (with_rule (with_rule (with_rule (new_app (codes "origin"))
-    mem_rule) maps_rule) gdb_journal_rule) steps_rule) script_rule) listing_rule) lines_rule) addresses_rule) what_rule) file_rule
+origin_app = with_rule (with_rule (with_rule (with_rule (with_file_kinds (with_rule (with_rule (with_rule (with_rule (with_rule (new_app (codes "origin"))
+    mem_rule) maps_rule) gdb_journal_rule) steps_rule) script_rule)) lines_rule) addresses_rule) what_rule) file_rule
 
 -- `whynot` does so, too.
 abbrev pub whynot_app : App
-whynot_app = with_rule (with_rule (with_rule (with_rule (with_rule (with_rule (with_rule (with_rule (with_rule (with_rule (with_rule (new_app (codes "whynot"))
-    mem_rule) maps_rule) gdb_journal_rule) steps_rule) script_rule) listing_rule) lines_rule) addresses_rule) alone_rule) goal_rule) file_rule
+whynot_app = with_rule (with_rule (with_rule (with_rule (with_rule (with_file_kinds (with_rule (with_rule (with_rule (with_rule (with_rule (new_app (codes "whynot"))
+    mem_rule) maps_rule) gdb_journal_rule) steps_rule) script_rule)) lines_rule) addresses_rule) alone_rule) goal_rule) file_rule
 
 -- The command without its subcommands: it can't stand without one, and it tells its version.
 abbrev pub bare_app : App

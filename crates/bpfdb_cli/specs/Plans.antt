@@ -1,5 +1,5 @@
 -- What a plan says, by what `clap`'s exact matches give for the words.
-use Rattle.std.specs.Prelude.{◌≡◌, ◌⊎◌, ◌<◌, ◌^◌, ℕ, Bool, false, List, [], Option, Some, None, option_map, codes}
+use Rattle.std.specs.Prelude.{◌≡◌, ◌⊎◌, ◌<◌, ◌^◌, ◌||◌, ◌&&◌, ℕ, Bool, true, false, not, if◌then◌else◌, List, [], Option, Some, None, is_some, option_map, codes}
 use Rattle.std.specs.Option.{option_map_or}
 use Rattle.std.specs.Str.{bytes_eq}
 use Rattle.std.specs.Str.Parse.{IsNumeral, digits_value, without_leading_plus}
@@ -51,6 +51,7 @@ pub record Chooses (rows : List Row) (options : Options) : Type 0 where
   pub branches : options.only_branches ≡ is_given (first_of (codes "branches") rows)
   pub profile : options.is_profile ≡ is_given (first_of (codes "profile") rows)
   pub listing : options.is_listing ≡ is_given (first_of (codes "listing") rows)
+  pub object : options.is_object ≡ is_given (first_of (codes "object") rows)
   pub section : option_map (λ s. s.now) options.section ≡ first_of (codes "section") rows
   pub entry : option_map (λ s. s.now) options.entry ≡ first_of (codes "entry") rows
   pub stubs : option_map (λ s. s.now) options.stubs ≡ first_of (codes "stub") rows
@@ -95,17 +96,30 @@ pub record AreInRange (rows : List Row) (options : Options) : Type 0 where
   pub limit : IsLimit options.limit
   pub most : IsLimit options.lines
 
--- A plan says what a subcommand's matches say, with numbers in their ranges.
+-- Something is asked of the link of an object.
+abbrev pub asks_of_link : List Row → Bool
+asks_of_link rows = is_some (first_of (codes "section") rows) || (is_some (first_of (codes "entry") rows)
+    || (is_some (first_of (codes "stub") rows) || is_given (first_of (codes "as-compiled") rows)))
+
+-- Options go together: an object is no listing and has maps of its own, and of a link is asked only where an object is linked.
+abbrev pub go_together : Text → List Row → Bool
+go_together name rows = if is_given (first_of (codes "object") rows)
+    then not (is_given (first_of (codes "listing") rows)) && not (is_some (first_of (codes "maps") rows))
+    else bytes_eq name (codes "link") || not (asks_of_link rows)
+
+-- A plan says what a subcommand's matches say, with numbers in their ranges and options that go together.
 pub record IsPlanOf (name : Text) (rows : List Row) (plan : Plan) : Type 0 where
   pub says : Says name rows plan
   pub numbers : AreInRange rows plan.options
+  pub together : go_together name rows ≡ true
 
--- A plan says what the words say, the program's name first, and `clap` finds no fault in these words.
+-- A plan says what the words say, the program's name first; their options go together, and `clap` finds no fault in these words.
 pub record IsPlan (words : List Text) (plan : Plan) : Type 0 where
   pub name : Text
   pub rows : List Row
   pub met : subcommand_of command_app words ≡ Some (name, rows)
   pub says : Says name rows plan
+  pub together : go_together name rows ≡ true
   pub clear : fault_of command_app words ≡ []
 
 -- No plan says what the words say.
@@ -113,7 +127,7 @@ abbrev pub HasNoPlan : List Text → Type 0
 HasNoPlan words = (name : Text) (rows : List Row) (plan : Plan) → subcommand_of command_app words ≡ Some (name, rows) → IsPlanOf name rows plan → ⊥
 
 -- Why words are no plan. What is told of them has a kind that `clap` gives for these words, so help and the version are shown only where they
--- ask for them; or a number is out of its range. Want of memory may come with any words.
+-- ask for them; or a value is none that its option takes, or options don't go together. Want of memory may come with any words.
 abbrev pub IsFaultOf : List Text → PlanFault → Type 0
 IsFaultOf words Memory = Unit {0}
 IsFaultOf words (Usage fault) = IsAmong (kind_of fault) (fault_of command_app words) ⊎ ((kind_of fault ≡ kind.ValueValidation) × HasNoPlan words)

@@ -77,6 +77,7 @@ fn argument_of<'a>(alloc: Global, option: CliOption) -> Arg<'a>
         CliOption::Branches => flag(alloc, "branches", help::BRANCHES),
         CliOption::Profile => flag(alloc, "profile", help::PROFILE),
         CliOption::Listing => flag(alloc, "listing", help::LISTING),
+        CliOption::Object => flag(alloc, "object", help::OBJECT),
         CliOption::Registers => text_option(
             alloc,
             "registers",

@@ -11,10 +11,10 @@ pub const BPFDB: &str = "Runs BPF programs (RFC 9669) forwards and backwards";
 pub const BPFDB_LONG: &str = "Runs BPF programs (RFC 9669) forwards and backwards.
 
 FILE holds a program: raw little-endian words, with relocations applied. `bpfdb
-link` makes them from an object of clang. With --listing FILE is a text, one
-instruction a line; without --listing such a text is refused, mostly with C3 or
-C4. The context is the bytes that the program works on: r1 has their address, r2
-their number.
+link` makes them from an object of clang; with --object FILE is that object, and
+is linked first. With --listing FILE is a text, one instruction a line; without
+--listing such a text is refused, mostly with C3 or C4. The context is the bytes
+that the program works on: r1 has their address, r2 their number.
 
 Without arguments bpfdb debugs a small program that is built in: mov r0, 42 and
 exit.";
@@ -284,8 +284,8 @@ pub const MAPS: &str = "Maps: V bytes a value, 1 to 256, N entries, 1 to 4096";
 
 pub const MAPS_LONG: &str = "The program's maps, at most 16, each as VxN: V bytes a value, 1 to
 256, and N entries, 1 to 4096; at most 65536 bytes a map. Without it
-there are none, and a program that names a map is refused (C12).
-Example: --maps 8x2,4x256";
+there are none, and a program that names a map is refused (C12). An
+object has maps of its own. Example: --maps 8x2,4x256";
 
 /// `--journal`.
 pub const JOURNAL: &str = "Bytes of journal, 1024 to 16777216";
@@ -323,6 +323,9 @@ pub const PROFILE: &str = "Tells how often each instruction ran, and no steps";
 
 /// `--listing`.
 pub const LISTING: &str = "FILE is a listing (docs/LISTING.md), assembled first";
+
+/// `--object`.
+pub const OBJECT: &str = "FILE is an object of clang, linked first";
 
 /// `--registers`.
 pub const REGISTERS: &str = "Machine for gdb: x86, riscv or bpf";
@@ -416,7 +419,8 @@ pub const WHAT: &str = "r0 to r9, or ADDRESS:COUNT; without it r0, or a fault's 
 pub const GOAL: &str = "Slot, or slots with commas between";
 
 /// FILE.
-pub const PROGRAM: &str = "Program: its raw words, or with --listing its listing";
+pub const PROGRAM: &str =
+    "Program: its raw words, or with --listing its listing, with --object its object";
 
 pub const LISTING_FILE: &str = "Listing to be assembled";
 

@@ -1,10 +1,10 @@
 //! From the words of a command line to a plan.
-ghost use Rattle.std.specs.Prelude.{◌≡◌, ◌<◌, ◌^◌, IfErr, IfNone, IfOk, IfSome, MatchOption, Option, Some, List, map, option_map};
+ghost use Rattle.std.specs.Prelude.{◌≡◌, ◌<◌, ◌^◌, IfErr, IfNone, IfOk, IfSome, MatchOption, OnErr, OnOk, OnSome, Option, Some, List, codes, false, is_some, map, not, option_map, true, ◌&&◌};
 ghost use Rattle.std.specs.Str.Parse.{IsNumeral, digits_value, without_leading_plus};
 ghost use Rattle.clap.specs.Words.{Row, Text, first_of, found_of, rows_of, subcommand_rows_of};
 ghost use Rattle.bpfdb_limits.specs.Limits.{IsLimit};
 ghost use Rattle.bpfdb_cli.specs.Scaffolding.{AskAlike};
-ghost use Rattle.bpfdb_cli.specs.Plans.{AreInRange, Chooses, HasKindIfTold, IsFaultOf, IsPlan, IsPlanOf, NamesPart, NamesRegisters, Says, Tells, is_given, number_or, other_in};
+ghost use Rattle.bpfdb_cli.specs.Plans.{AreInRange, Chooses, HasKindIfTold, IsFaultOf, IsPlan, IsPlanOf, NamesPart, NamesRegisters, Says, Tells, asks_of_link, go_together, is_given, number_or, other_in};
 
 use crate::command_line::command_line;
 use crate::plans::{Plan, PlanFault};
@@ -17,6 +17,13 @@ use std::alloc::Global;
 /// What is said of a name that `--registers` doesn't take. It would be said of a number, too, that
 /// `clap` lets pass out of its range: it lets none pass, which isn't drawn from its contract here.
 const BAD_VALUE: &str = "a value is none of those that its option takes";
+
+/// What is said of options that don't go together.
+const OBJECT_AND_LISTING: &str = "the argument '--object' cannot be used with '--listing'";
+
+const OBJECT_AND_MAPS: &str = "the argument '--object' cannot be used with '--maps <VxN,VxN>'";
+
+const NO_OBJECT: &str = "'--section', '--entry', '--stub' and '--as-compiled' need '--object'";
 
 /// The plan of a command line, of which the first word is the program's name.
 pub fn plan<'a>(alloc: Global, words: &'a [&'a str]) -> Result<Plan<'a>, PlanFault>
@@ -33,8 +40,8 @@ pub fn plan<'a>(alloc: Global, words: &'a [&'a str]) -> Result<Plan<'a>, PlanFau
         Err(error) => return Err(told_by(error)),
     };
     match plan_of(&matches) {
-        Some(plan) => Ok(plan),
-        None => Err(bad_value(&mut command)),
+        Ok(plan) => Ok(plan),
+        Err(why) => Err(no_plan(&mut command, why)),
     }
 }
 
@@ -69,56 +76,105 @@ fn told_by(error: Error) -> PlanFault
     }
 }
 
-/// The fault of a value that its option doesn't take.
-fn bad_value(command: &mut Command<'_>) -> PlanFault
+/// The fault of words that are no plan though `clap` takes them.
+fn no_plan(command: &mut Command<'_>, why: &str) -> PlanFault
     ensures { HasKindIfTold ErrorKind.ValueValidation result }
 {
-    match command.error(ErrorKind::ValueValidation, BAD_VALUE) {
+    match command.error(ErrorKind::ValueValidation, why) {
         Ok(error) => PlanFault::Usage(error),
         Err(_) => PlanFault::Memory,
     }
 }
 
-/// The plan of the words' matches.
-fn plan_of<'a>(matches: &ArgMatches<'a>) -> Option<Plan<'a>>
-    ensures value { IfSome result (λ plan. (name : Text) × (rows : List Row)
-        × (subcommand_rows_of matches.now ≡ Some (name, rows)) × Says name rows plan) }
-    ensures none { IfNone result ((name : Text) (rows : List Row) (plan : Plan)
+/// The plan of the words' matches, or why there is none.
+fn plan_of<'a>(matches: &ArgMatches<'a>) -> Result<Plan<'a>, &'static str>
+    ensures value { IfOk result (λ plan. (name : Text) × (rows : List Row)
+        × (subcommand_rows_of matches.now ≡ Some (name, rows)) × Says name rows plan
+        × (go_together name rows ≡ true)) }
+    ensures none { OnErr result ((name : Text) (rows : List Row) (plan : Plan)
         → subcommand_rows_of matches.now ≡ Some (name, rows) → IsPlanOf name rows plan → ⊥) }
-    ensures limit { IfSome result (λ plan. IsLimit plan.options.limit) }
+    ensures limit { IfOk result (λ plan. IsLimit plan.options.limit) }
 {
     match matches.subcommand() {
-        Some((name, found)) => plan_in(name, found),
-        None => None,
+        Some((name, found)) => match plan_in(name, found) {
+            Ok(plan) => Ok(plan),
+            Err(why) => Err(why),
+        },
+        None => Err(BAD_VALUE),
     }
 }
 
-/// The plan of a subcommand's matches.
-fn plan_in<'a>(name: &'a str, found: &ArgMatches<'a>) -> Option<Plan<'a>>
-    ensures value { IfSome result (Says name.now (rows_of (found_of found.now))) }
-    ensures none { IfNone result ((plan : Plan) →
+/// The plan of a subcommand's matches, or why there is none.
+fn plan_in<'a>(name: &'a str, found: &ArgMatches<'a>) -> Result<Plan<'a>, &'static str>
+    ensures value { IfOk result (Says name.now (rows_of (found_of found.now))) }
+    ensures fits { OnOk result (go_together name.now (rows_of (found_of found.now)) ≡ true) }
+    ensures none { OnErr result ((plan : Plan) →
         IsPlanOf name.now (rows_of (found_of found.now)) plan → ⊥) }
-    ensures limit { IfSome result (λ plan. IsLimit plan.options.limit) }
+    ensures limit { IfOk result (λ plan. IsLimit plan.options.limit) }
 {
     let subcommand = match Subcommand::named(name) {
         Some(subcommand) => subcommand,
-        None => return None,
+        None => return Err(BAD_VALUE),
     };
     let file = match text_of(found, "file") {
         Some(file) => file,
-        None => return None,
+        None => return Err(BAD_VALUE),
     };
     let options = match options_in(found) {
         Some(options) => options,
-        None => return None,
+        None => return Err(BAD_VALUE),
     };
-    Some(Plan {
+    match misfit_in(name, found) {
+        Some(why) => return Err(why),
+        None => {}
+    }
+    Ok(Plan {
         subcommand,
         file,
         memory: text_of(found, "mem"),
         other: other_of(found),
         options,
     })
+}
+
+/// Why the options of a subcommand's matches don't go together, if they don't. (`clap` could be told
+/// of that; but then its contract doesn't say what it refuses.)
+fn misfit_in(name: &str, found: &ArgMatches<'_>) -> Option<&'static str>
+    ensures none { IfNone result (go_together name.now (rows_of (found_of found.now)) ≡ true) }
+    ensures some { OnSome result (go_together name.now (rows_of (found_of found.now)) ≡ false) }
+{
+    if is_given(text_of(found, "object")) {
+        misfit_with_object(found)
+    } else if name == "link" {
+        None
+    } else if asks_of_link(found) {
+        Some(NO_OBJECT)
+    } else {
+        None
+    }
+}
+
+/// What doesn't go together with `--object`, if there is something.
+fn misfit_with_object(found: &ArgMatches<'_>) -> Option<&'static str>
+    ensures { is_some result ≡ not (not (is_given (first_of (codes "listing") (rows_of (found_of found.now))))
+        && not (is_some (first_of (codes "maps") (rows_of (found_of found.now))))) }
+{
+    if is_given(text_of(found, "listing")) {
+        Some(OBJECT_AND_LISTING)
+    } else if text_of(found, "maps").is_some() {
+        Some(OBJECT_AND_MAPS)
+    } else {
+        None
+    }
+}
+
+/// Whether something is asked of the link of an object.
+fn asks_of_link(found: &ArgMatches<'_>) -> bool
+    ensures { result ≡ asks_of_link (rows_of (found_of found.now)) }
+{
+    let chooses = text_of(found, "section").is_some() || text_of(found, "entry").is_some();
+    let leaves = text_of(found, "stub").is_some() || is_given(text_of(found, "as-compiled"));
+    chooses || leaves
 }
 
 /// The options of a subcommand's matches. None where a number is out of its range, or a name none
@@ -152,6 +208,7 @@ fn options_in<'a>(found: &ArgMatches<'a>) -> Option<Options<'a>>
         only_branches: is_given(text_of(found, "branches")),
         is_profile: is_given(text_of(found, "profile")),
         is_listing: is_given(text_of(found, "listing")),
+        is_object: is_given(text_of(found, "object")),
         section: text_of(found, "section"),
         entry: text_of(found, "entry"),
         stubs: text_of(found, "stub"),

@@ -25,6 +25,8 @@ pub struct Options<'a> {
     pub is_profile: bool,
     /// FILE is a listing, assembled first.
     pub is_listing: bool,
+    /// FILE is an object; it is linked first.
+    pub is_object: bool,
     /// The name of the code section that is linked; without one it is the only one.
     pub section: Option<&'a str>,
     /// The name of the function of that section at which the program begins; without one it is the
@@ -63,6 +65,7 @@ pub const NO_OPTIONS: Options<'static> = Options {
     only_branches: false,
     is_profile: false,
     is_listing: false,
+    is_object: false,
     section: None,
     entry: None,
     stubs: None,

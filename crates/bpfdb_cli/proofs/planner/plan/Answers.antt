@@ -46,24 +46,24 @@ same_words words asked (inr helped) clear = absurd (some_kind (sym (help_faults 
 met : (a : App) (words : List Text) (m : ArgMatches) → a ≡ command_app → HasMatchesOf a words m → subcommand_of command_app words ≡ subcommand_rows_of m
 met a words m is has = sym ((subst (λ (b : App). HasMatchesOf b words m) is has) simple).1
 
-pub returns-in-Some-clause-value : goal.returns-in-Some-clause-value
-returns-in-Some-clause-value c =
-    let v = c.in-Some.ensures.value in
+pub returns-in-Ok-plan_of-clause-value : goal.returns-in-Ok-plan_of-clause-value
+returns-in-Ok-plan_of-clause-value c =
+    let v = c.in-Ok-plan_of.ensures.value in
     let words = map (λ word. word.now) c.args.words.now in
     let asked = map (λ word. word.now) c.asked_of.result.now in
     let line : app_of c.in-Ok.command ≡ command_app = c.in-Ok.ensures in
     let m = met (app_of c.in-Ok.command) _ c.in-Ok-try_get_matches_from_mut.matches line c.in-Ok-try_get_matches_from_mut.ensures.ok.2 in
     let kinds = c.in-Ok-try_get_matches_from_mut.ensures.kinds (ap is_simple_and_free line ∙ simple_and_free) in
     let clear : fault_of command_app asked ≡ [] = subst (λ app. fault_of app asked ≡ []) line kinds in
-    let plan : IsPlan asked c.in-Some.plan = record { name = v.0; rows = v.1; met = m ∙ v.2; says = v.3; clear = clear } in
-    subst (λ (ws : List Text). IsPlan ws c.in-Some.plan) (same_words words asked c.asked_of.ensures clear) plan
+    let plan : IsPlan asked c.in-Ok-plan_of.plan = record { name = v.0; rows = v.1; met = m ∙ v.2; says = v.3; together = v.4; clear = clear } in
+    subst (λ (ws : List Text). IsPlan ws c.in-Ok-plan_of.plan) (same_words words asked c.asked_of.ensures clear) plan
 
 -- An error of `clap` that is told.
 told : (words : List Text) (error : Error) (fault : PlanFault) → Tells error fault → HasKind (fault_of command_app words) error → IsFaultOf words fault
 told words error Memory tells has = tt {0}
 told words error (Usage e) (same, other) has = ⊎_elim (λ memory. absurd (other memory)) (λ among. inl (subst (λ x. IsAmong (kind_of x) (fault_of command_app words)) (sym same) among)) has
 
--- A number that is out of its range.
+-- A value that its option doesn't take, or options that don't go together.
 out_of_range : (words : List Text) (fault : PlanFault) → HasKindIfTold ValueValidation fault → HasNoPlan words → IsFaultOf words fault
 out_of_range words Memory kind none = tt {0}
 out_of_range words (Usage e) kind none = inr (kind, none)
@@ -89,4 +89,4 @@ returns-clause-fault c =
     let clear : fault_of command_app asked ≡ [] = subst (λ app. fault_of app asked ≡ []) line kinds in
     let same : asked ≡ words = same_words words asked c.asked_of.ensures clear in
     let rows = matches.1 ∙ ap (λ app. subcommand_of app asked) line ∙ ap (subcommand_of command_app) same in
-    out_of_range words _ c.bad_value.ensures (λ name found plan met. c.in-None.ensures.none name found plan (rows ∙ met))
+    out_of_range words _ c.no_plan.ensures (λ name found plan met. c.in-Err-plan_of.ensures.none name found plan (rows ∙ met))
