@@ -184,7 +184,7 @@ ROWS
         done
         mkdir bin typed shown installed-here
         ln -s "$program" bin/bpfdb
-        ln -s "$top/share/bpfdb-events" "$top/share/bpfdb-context" bin
+        ln -s "$top/share/bpfdb-events" "$top/share/bpfdb-context" "$top/share/bpfdb-shell" bin
         built clang "$top/share/bpfdb-linux.c" installed-here/bpfdb-linux.o
         awk '
             /^## / { inside = /^## (An event that is wrong|An installed tool)$/ }
