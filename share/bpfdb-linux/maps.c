@@ -83,6 +83,17 @@ HELPER long bpf_map_delete_elem(struct map *m, const void *key)
 	return 0;
 }
 
+/* The storage of the cgroup that there is: one value a map, which the first look makes. (NULL only where the heap has no
+   room: in Linux there always is one.) */
+HELPER void *bpf_get_local_storage(struct map *m, u64 flags UNUSED)
+{
+	if (!is_of(m, KIND(CGROUP_STORAGE) | KIND(PERCPU_CGROUP_STORAGE)))
+		return NULL;
+	if (!m->table)
+		m->table = take(m->value_size);
+	return m->table ? at(m->table) : NULL;
+}
+
 /* A program that redirects to a key of such a map. */
 HELPER long bpf_redirect_map(struct map *m, u64 key, u64 flags)
 {

@@ -107,3 +107,24 @@ HELPER long bpf_fib_lookup(void *context UNUSED, const u8 *asked, s32 size, u32 
 		return -EINVAL;
 	return *asked == IPV4 || *asked == IPV6 ? NOT_FORWARDED : -EAFNOSUPPORT;
 }
+
+/* A world without sockets: none is found, so none that is found is given back. */
+HELPER void *bpf_sk_lookup_tcp(void *context UNUSED, void *tuple UNUSED, u32 size UNUSED)
+{
+	return NULL;
+}
+
+HELPER void *bpf_sk_lookup_udp(void *context UNUSED, void *tuple UNUSED, u32 size UNUSED)
+{
+	return NULL;
+}
+
+HELPER void *bpf_skc_lookup_tcp(void *context UNUSED, void *tuple UNUSED, u32 size UNUSED)
+{
+	return NULL;
+}
+
+HELPER long bpf_sk_release(void *socket UNUSED)
+{
+	return 0;
+}

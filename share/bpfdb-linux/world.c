@@ -1,9 +1,19 @@
 /* What the world is: bpfdb_world says it. */
 
-/* What the kernel's configuration is, for those who ask (`__kconfig` of libbpf): version 6.1, on x86-64. */
+/* What the kernel's configuration is, for those who ask (`__kconfig` of libbpf): version 6.1, on x86-64, as Debian has
+   it. (Programs have numbers of whatever size for it: each has 8 bytes.) */
 int LINUX_KERNEL_VERSION WORLD = 0x060100;
 _Bool LINUX_HAS_BPF_COOKIE WORLD = 1;
 _Bool LINUX_HAS_SYSCALL_WRAPPER WORLD = 1;
+u64 CONFIG_HZ WORLD = 250;
+u64 CONFIG_BPF_SYSCALL WORLD = 1;
+u64 CONFIG_CGROUP_PIDS WORLD = 1;
+u64 CONFIG_IPV6_SUBTREES WORLD = 1;
+u64 CONFIG_PREEMPT WORLD = 0;
+u64 CONFIG_SECURITY_SELINUX WORLD = 1;
+
+/* What the system call gives where a program of a cgroup refuses it: 0 before one says so. */
+s64 bpfdb_retval WORLD = 0;
 
 INLINE u64 look_at_time(void)
 {
@@ -85,6 +95,17 @@ HELPER u64 bpf_get_current_task_btf(void)
 HELPER u64 bpf_get_current_cgroup_id(void)
 {
 	return bpfdb_world.cgroup;
+}
+
+HELPER long bpf_get_retval(void)
+{
+	return bpfdb_retval;
+}
+
+HELPER long bpf_set_retval(int result)
+{
+	bpfdb_retval = result;
+	return 0;
 }
 
 HELPER long bpf_current_task_under_cgroup(struct map *m, u32 index)

@@ -260,6 +260,36 @@ int redirect_of_tc(struct __sk_buff *ctx)
 	return bpf_redirect(asked.place, asked.flags);
 }
 
+#define LOOK_FOR_SOCKET(KIND) \
+	struct bpf_sock_tuple tuple = {}; \
+	struct bpf_sock *found; \
+	ASKED; \
+	tuple.ipv4.saddr = asked.from; \
+	tuple.ipv4.daddr = asked.to; \
+	tuple.ipv4.dport = asked.first; \
+	found = bpf_##KIND(ctx, &tuple, sizeof(tuple.ipv4), -1, 0); \
+	if (found) \
+		bpf_sk_release(found); \
+	return !!found
+
+SEC("xdp")
+int no_socket_of_tcp(struct xdp_md *ctx)
+{
+	LOOK_FOR_SOCKET(sk_lookup_tcp);
+}
+
+SEC("tc")
+int no_socket_of_udp(struct __sk_buff *ctx)
+{
+	LOOK_FOR_SOCKET(sk_lookup_udp);
+}
+
+SEC("tc")
+int no_socket_at_all(struct __sk_buff *ctx)
+{
+	LOOK_FOR_SOCKET(skc_lookup_tcp);
+}
+
 SEC("tc")
 int sent_of_tc(struct __sk_buff *ctx)
 {

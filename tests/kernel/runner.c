@@ -176,7 +176,7 @@ static void run_line(const char *object, const char *entry, const char *inputs)
 	}
 	/* (what has no size is for whoever loads it to say) */
 	bpf_object__for_each_map(map, opened)
-		if (!bpf_map__max_entries(map) && bpf_map__type(map) != BPF_MAP_TYPE_PERF_EVENT_ARRAY)
+		if (!bpf_map__max_entries(map) && (bpf_map__type(map) == BPF_MAP_TYPE_HASH || bpf_map__type(map) == BPF_MAP_TYPE_ARRAY))
 			bpf_map__set_max_entries(map, 4096);
 	words[0] = 0;
 	error = chosen ? bpf_object__load(opened) : -ENOENT;

@@ -236,3 +236,13 @@ TEST(routes)
 	WANT(fib_lookup(context, asked, 64, 0) == -97);
 	return 0;
 }
+
+TEST(no_sockets)
+{
+	u8 tuple[12] = { 127, 0, 0, 1, 127, 0, 0, 1, 0, 80, 0, 80 };
+
+	WANT(!sk_lookup_tcp(context, tuple, 12, -1, 0) && !sk_lookup_udp(context, tuple, 12, -1, 0));
+	WANT(!skc_lookup_tcp(context, tuple, 12, -1, 0));
+	WANT(sk_release(NULL) == 0);
+	return 0;
+}

@@ -101,11 +101,50 @@ TEST(nobody_put_one_there)
 
 extern int LINUX_KERNEL_VERSION __attribute__((section(".kconfig")));
 extern _Bool LINUX_HAS_BPF_COOKIE __attribute__((section(".kconfig")));
+extern u64 CONFIG_HZ __attribute__((section(".kconfig")));
+extern _Bool CONFIG_BPF_SYSCALL __attribute__((section(".kconfig")));
+extern _Bool CONFIG_CGROUP_PIDS __attribute__((section(".kconfig")));
+extern u32 CONFIG_IPV6_SUBTREES __attribute__((section(".kconfig")));
+extern _Bool CONFIG_PREEMPT __attribute__((section(".kconfig")));
+extern _Bool CONFIG_SECURITY_SELINUX __attribute__((section(".kconfig")));
 
 OWN_TEST(configuration_is_told)
 {
 	WANT(LINUX_KERNEL_VERSION == (6 << 16 | 1 << 8));
 	WANT(LINUX_HAS_BPF_COOKIE == 1);
+	/* (of Debian's kernel; what is y is 1 in whatever type, what isn't set is 0) */
+	WANT(CONFIG_HZ == 250 && CONFIG_BPF_SYSCALL && CONFIG_CGROUP_PIDS && CONFIG_IPV6_SUBTREES == 1);
+	WANT(!CONFIG_PREEMPT && CONFIG_SECURITY_SELINUX);
+	return 0;
+}
+
+/* (A number of an error is an int.) */
+OWN_TEST(result_of_a_system_call)
+{
+	WANT(get_retval() == 0);
+	WANT(set_retval(-13) == 0 && get_retval() == -13);
+	WANT(set_retval(0x1ffffffffull) == 0 && get_retval() == -1);
+	WANT(set_retval(0) == 0 && get_retval() == 0);
+	return 0;
+}
+
+struct storage_key { u64 cgroup; u32 kind; };
+MAP(storage, BPFDB_CGROUP_STORAGE, 0, struct storage_key, u64);
+MAP(storage_of_cpu, BPFDB_PERCPU_CGROUP_STORAGE, 0, struct storage_key, u32);
+
+/* (Each map has one value for the one cgroup: it is zero at first, and the same at each look.) */
+OWN_TEST(storage_of_a_cgroup)
+{
+	u64 *found = get_local_storage(&storage, 0);
+	u32 *other = get_local_storage(&storage_of_cpu, 0);
+
+	WANT(found && *found == 0 && other && *other == 0 && (void *)other != (void *)found);
+	*found = 0x1122334455667788;
+	*other = 7;
+	found = get_local_storage(&storage, 0);
+	other = get_local_storage(&storage_of_cpu, 0);
+	WANT(found && *found == 0x1122334455667788 && other && *other == 7);
+	WANT(get_local_storage(&programs, 0) == NULL);
 	return 0;
 }
 
