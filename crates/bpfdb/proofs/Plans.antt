@@ -1,9 +1,11 @@
 -- The exit status of a plan.
-use Rattle.std.proofs.Common.{ℕ, ◌≡◌, ◌≢◌, ◌∙◌, Bool, List, Option, subst}
+use Rattle.std.proofs.Common.{ℕ, ◌≡◌, ◌≢◌, ◌∙◌, Bool, true, false, List, Option, subst}
 use Rattle.counted_io.specs.Counted.{Tally}
 use Rattle.bpfdb_cli.specs.declared.plans.Plan.{Plan}
-use Rattle.bpfdb_jobs.specs.Statuses.{EndsWith}
+use Rattle.bpfdb_jobs.specs.Objects.{links_first}
+use Rattle.bpfdb_jobs.specs.Statuses.{EndsAs, EndsWith}
 use Rattle.bpfdb_jobs.proofs.Statuses.{ends_with}
+use Rattle.bpfdb_jobs.specs.declared.job.Job.{Job}
 use Rattle.bpfdb_options.specs.declared.subcommand.Subcommand.{Subcommand}
 use Rattle.bpfdb_options.specs.declared.subcommand.Subcommand.TheVariants.{Debug}
 use Rattle.bpfdb.specs.Done.{DoesPlan, Done, EndsPlanWith, Unread}
@@ -22,8 +24,13 @@ ends_plan_with bytes_at remaining contents lines at_terminal plan r r' w w' e e'
   ends = ends_with remaining contents lines job.subcommand job r r' w w' e does.told status does.does other;
 }
 
--- Of a plan to debug it is 0 then.
+-- Of a job of `debug` it is 0 then.
+debug_ends_as : (links : Bool) (job : Job) (status : ℕ) → EndsAs links Debug job status → status ≡ 0
+debug_ends_as false job status ends = ends.2
+debug_ends_as true job status ends = ends.4.2
+
+-- So it is of a plan to debug.
 pub debug_ends_with : (plan : Plan) (status : ℕ) → plan.subcommand ≡ Debug → EndsPlanWith plan status → status ≡ 0
 debug_ends_with plan status debugs ends =
     let at : EndsWith Debug ends.job status = subst (λ (s : Subcommand). EndsWith s ends.job status) (ends.is.subcommand ∙ debugs) ends.ends in
-    at.2
+    debug_ends_as (links_first Debug ends.job) ends.job status at

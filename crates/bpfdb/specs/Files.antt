@@ -1,5 +1,5 @@
 -- What the files of a plan hold, and what a fault of one tells.
-use Rattle.std.specs.Prelude.{ℕ, ◌≡◌, Bool, if◌then◌else◌, List, [], ◌∷◌, Option, Some, None, ⊤}
+use Rattle.std.specs.Prelude.{ℕ, ◌≡◌, ◌||◌, Bool, if◌then◌else◌, List, [], ◌∷◌, Option, Some, None, ⊤}
 use Rattle.std.specs.Borrow.{Bor}
 use Rattle.bpfdb_cli.specs.declared.plans.Plan.{Plan}
 use Rattle.bpfdb_files.specs.Reading.{Gives}
@@ -10,16 +10,16 @@ use Rattle.bpfdb_faults.specs.declared.fault.JobFault.TheVariants.{Unreadable, M
 use Rattle.bpfdb_options.specs.declared.subcommand.Subcommand.{Subcommand}
 use Rattle.bpfdb_options.specs.declared.subcommand.Subcommand.TheVariants.{Asm, Lines, Link, Test}
 
--- What FILE is read as, by the subcommand and whether it is said to be a listing.
+-- What FILE is read as, by the subcommand and whether it is said to be a listing or an object.
 abbrev pub kind_in : Subcommand → Bool → FileKind
-kind_in Asm is_listing = Source
-kind_in Lines is_listing = Source
-kind_in Link is_listing = Source
-kind_in Test is_listing = Source
-kind_in subcommand is_listing = if is_listing then Source else Program
+kind_in Asm is_source = Source
+kind_in Lines is_source = Source
+kind_in Link is_source = Source
+kind_in Test is_source = Source
+kind_in subcommand is_source = if is_source then Source else Program
 
 abbrev pub kind_of : Plan → FileKind
-kind_of plan = kind_in plan.subcommand plan.options.is_listing
+kind_of plan = kind_in plan.subcommand (plan.options.is_listing || plan.options.is_object)
 
 -- What is read of the file of a path that may not be there: where there is none, no bytes.
 abbrev pub GivesNamed : (List ℕ → Option (List ℕ)) → FileKind → Option (Bor (List ℕ)) → List ℕ → Type 0

@@ -17,4 +17,5 @@ pub record IsJobOf (plan : Plan) (of_file of_path of_other : List ℕ) (job : Jo
   pub file : job.file.now ≡ of_file
   pub context : job.context.now ≡ of_path
   pub other : IsNamed plan.other of_other job.other
+  pub shapes : job.shapes ≡ None
   pub options : job.options ≡ plan.options

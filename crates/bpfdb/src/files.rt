@@ -10,8 +10,8 @@ use bpfdb_options::Subcommand;
 use counted_io::Counted;
 use std::alloc::Global;
 
-/// What FILE is read as: a listing for `asm` and `lines` and where the plan says so, an object for
-/// `link`, a file of tests for `test`, and else a program's words.
+/// What FILE is read as: a listing for `asm` and `lines`, an object for `link`, and each where the
+/// plan says so; a file of tests for `test`, and else a program's words.
 pub fn kind_of(plan: &Plan<'_>) -> FileKind
     ensures { result ≡ kind_of plan.now }
 {
@@ -21,7 +21,7 @@ pub fn kind_of(plan: &Plan<'_>) -> FileKind
         Subcommand::Link => FileKind::Source,
         Subcommand::Test => FileKind::Source,
         _ => {
-            if plan.options.is_listing {
+            if plan.options.is_listing || plan.options.is_object {
                 FileKind::Source
             } else {
                 FileKind::Program

@@ -18,6 +18,7 @@ pub fn job_of<'a>(plan: &Plan<'a>, file: &'a [u8], context: &'a [u8], other: &'a
             Some(_) => Some(other),
             None => None,
         },
+        shapes: None,
         options: plan.options,
     }
 }

@@ -18,22 +18,13 @@ use Rattle.bpfdb_faults.specs.Streams.{Told}
 use Rattle.shown_text.specs.Shown.{shown}
 use Rattle.bpfdb_jobs.specs.Jobs.{IsProgramOf}
 use Rattle.bpfdb_jobs.specs.Looks.{is_object, is_text}
+use Rattle.bpfdb_jobs.specs.Objects.{is_check}
 use Rattle.bpfdb_jobs.specs.Refusals.{RefusesProgram}
 use Rattle.bpfdb_jobs.specs.declared.hint.Hint.{Hint}
 use Rattle.bpfdb_jobs.specs.declared.hint.Hint.TheVariants as hint
 use Rattle.bpfdb_jobs.specs.declared.job.Job.{Job}
 use Rattle.bpfdb_faults.specs.declared.refusal.JobRefusal.{JobRefusal}
 use Rattle.bpfdb_faults.specs.declared.refusal.JobRefusal.TheVariants.{Load}
-use Rattle.bpfdb_options.specs.declared.subcommand.Subcommand.{Subcommand}
-use Rattle.bpfdb_options.specs.declared.subcommand.Subcommand.TheVariants.{Asm, Lines, Link, Test}
-
--- Subcommands that check a program.
-abbrev pub is_check : Subcommand → Bool
-is_check Asm = false
-is_check Lines = false
-is_check Link = false
-is_check Test = false
-is_check subcommand = true
 
 -- The faults of a file that isn't words: C3, and at the first slot C4 and C6.
 abbrev pub is_of_file : LoadFault → Bool
@@ -68,9 +59,11 @@ abbrev pub place_after : JobRefusal → List ℕ → Option Hint
 place_after (Load (At slot fault)) table = option_map (hint.Line slot) (line_at slot (lines table))
 place_after refusal table = None
 
--- The hint of a job, if there is one: none where FILE isn't read as a program, or that is accepted, or no table is made of a listing.
+-- The hint of a job, if there is one: none where FILE isn't read as a program, or is an object, or the program is accepted, or no table is made of a
+-- listing.
 pub data IsHintOf (job : Job) (hint : Option Hint) : Type 0 where
   Unchecked : is_check job.subcommand ≡ false → hint ≡ None → IsHintOf job hint
+  Linked : job.options.is_object ≡ true → hint ≡ None → IsHintOf job hint
   Accepted : (code : Checked) → IsProgramOf job code → hint ≡ None → IsHintOf job hint
   Looks : (refusal : JobRefusal) → is_check job.subcommand ≡ true → job.options.is_listing ≡ false → RefusesProgram job refusal
       → hint ≡ look_after refusal job.file.now → IsHintOf job hint

@@ -40,10 +40,14 @@ use Rattle.bpfdb_jobs.specs.declared.job.Job.{Job}
 use Rattle.bpfdb_options.specs.declared.subcommand.Subcommand.{Subcommand}
 use Rattle.bpfdb_options.specs.declared.subcommand.Subcommand.TheVariants.{Run, Trace, Debug, Origin, Whynot, Gdb, Asm, Disasm, Lines, Check, Link, Test}
 
--- The map table that a text names; no map where there is no text.
-abbrev pub HasMaps : Option (Bor (List ℕ)) → List MapShape → Type 0
-HasMaps None maps = maps ≡ []
-HasMaps (Some text) maps = IsMapList text.now × (maps ≡ map shape_of (items_of text.now))
+-- The maps of an object that was linked; else the map table that a text names; no map where there is no text.
+abbrev pub AreMapsOf : Option (Bor (List MapShape)) → Option (Bor (List ℕ)) → List MapShape → Type 0
+AreMapsOf (Some shapes) text maps = maps ≡ shapes.now
+AreMapsOf None None maps = maps ≡ []
+AreMapsOf None (Some text) maps = IsMapList text.now × (maps ≡ map shape_of (items_of text.now))
+
+abbrev pub HasMaps : Job → List MapShape → Type 0
+HasMaps job maps = AreMapsOf job.shapes job.options.maps maps
 
 -- The words of a program: FILE's bytes, or those of the listing that FILE is.
 abbrev pub HasWords : Bool → List ℕ → List ℕ → Type 0
@@ -52,7 +56,7 @@ HasWords true file words = IsListing file words
 
 -- The job's program: the checker accepted its words with its maps.
 pub record IsProgramOf (job : Job) (code : Checked) : Type 0 where
-  pub maps : HasMaps job.options.maps code.maps
+  pub maps : HasMaps job code.maps
   pub words : HasWords job.options.is_listing job.file.now code.bytes
   pub accepted : IsProgram code
 

@@ -3,12 +3,13 @@
 use Rattle.std.specs.Prelude.{◌≡◌, ◌⊎◌, List, [], ℕ, Option, Some, None, Ok, Err, true, codes}
 use Rattle.std.specs.Borrow.{Bor}
 use Rattle.bpf_isa.specs.Checker.{IsRefused}
-use Rattle.bpf_isa.specs.Maps.{IsListFault}
+use Rattle.bpf_isa.specs.Maps.{IsFirstBadMap, IsListFault}
 use Rattle.bpf_join.specs.Joined.{IsJoinFault}
 use Rattle.bpf_join.specs.declared.fault.JoinFault.{JoinFault}
 use Rattle.bpf_join.specs.declared.fault.JoinFault.TheVariants.{First, Second}
 use Rattle.bpf_link.specs.declared.fault.LinkFault.{LinkFault}
 use Rattle.bpf_isa.specs.Programs.{Checked}
+use Rattle.bpf_isa.specs.declared.fault.MapFault.{MapFault}
 use Rattle.bpf_isa.specs.declared.maps.MapShape.{MapShape}
 use Rattle.bpf_text.specs.Listing.{IsFaultOf}
 use Rattle.bpf_link.specs.Names.{fault_names}
@@ -30,12 +31,18 @@ use Rattle.bpfdb_faults.specs.declared.refusal.JobRefusal.TheVariants.{Maps, Lis
 use Rattle.bpfdb_options.specs.declared.subcommand.Subcommand.{Subcommand}
 use Rattle.bpfdb_options.specs.declared.subcommand.Subcommand.TheVariants.{Run, Trace, Debug, Origin, Whynot, Gdb, Asm, Disasm, Lines, Check, Link, Test}
 
+-- The maps of an object that was linked are out of their limits; or the text of a map table is none.
+abbrev pub RefusesMaps : Option (Bor (List MapShape)) → Option (Bor (List ℕ)) → MapFault → Type 0
+RefusesMaps (Some shapes) text fault = IsFirstBadMap shapes.now fault
+RefusesMaps None None fault = ⊥
+RefusesMaps None (Some text) fault = IsListFault text.now fault
+
 -- Each refusal comes where those before don't.
 abbrev pub Refuses : Job → JobRefusal → Type 0
-Refuses job (Maps fault) = (text : Bor (List ℕ)) × (job.options.maps ≡ Some text) × IsListFault text.now fault
-Refuses job (Listing fault) = (shapes : List MapShape) × HasMaps job.options.maps shapes × (job.options.is_listing ≡ true)
+Refuses job (Maps fault) = RefusesMaps job.shapes job.options.maps fault
+Refuses job (Listing fault) = (shapes : List MapShape) × HasMaps job shapes × (job.options.is_listing ≡ true)
     × IsFaultOf job.file.now fault
-Refuses job (Load fault) = (shapes : List MapShape) × HasMaps job.options.maps shapes
+Refuses job (Load fault) = (shapes : List MapShape) × HasMaps job shapes
     × (words : List ℕ) × HasWords job.options.is_listing job.file.now words × IsRefused words shapes fault
 Refuses job (Open fault) = (code : Checked) × IsProgramOf job code × Refused job.context.now fault
 Refuses job (Journal fault) = (code : Checked) × Opens job code × RefusesSize job.options.journal fault

@@ -1,10 +1,12 @@
 -- The exit status of a job that is done, other than 2.
-use Rattle.std.specs.Prelude.{ℕ, ◌≡◌, List, [], ◌∷◌, Option, Some, None}
+use Rattle.std.specs.Prelude.{ℕ, ◌≡◌, Bool, true, false, List, [], ◌∷◌, Option, Some, None}
 use Rattle.bpf_isa.specs.Programs.{Checked}
+use Rattle.bpf_link.specs.declared.linker.Linked.{Linked}
 use Rattle.bpf_suite.specs.Outcomes.{Outcome}
 use Rattle.bpf_suite.specs.Reports.{AreOutcomes, all_pass}
 use Rattle.bpf_suite.specs.declared.section.Section.{Section}
 use Rattle.bpfdb_jobs.specs.Jobs.{OpensSession, Print, Prints}
+use Rattle.bpfdb_jobs.specs.Objects.{IsOver, LinksTo, links_first}
 use Rattle.bpfdb_jobs.specs.Shown.{Shows}
 use Rattle.bpfdb_jobs.specs.Suites.{AreTestsOf, status_of}
 use Rattle.bpfdb_jobs.specs.declared.job.Job.{Job}
@@ -23,8 +25,17 @@ EndsTestWith None job status = (asked : List (List Section)) × (outcomes : List
 EndsTestWith (Some part) job status = (test : List Section) × (bytes : List ℕ) × AreTestsOf job (test ∷ []) × Shows part test bytes × (status ≡ 0)
 
 -- Each other subcommand printed.
+abbrev pub EndsPlainWith : Subcommand → Job → ℕ → Type 0
+EndsPlainWith Debug job status = EndsSessionWith job status
+EndsPlainWith Gdb job status = EndsSessionWith job status
+EndsPlainWith Test job status = EndsTestWith job.options.show job status
+EndsPlainWith subcommand job status = (a : Print) × Prints subcommand job a × (status ≡ a.status)
+
+-- Where FILE is an object it was linked, and that of the job over its words counts.
+abbrev pub EndsAs : Bool → Subcommand → Job → ℕ → Type 0
+EndsAs false subcommand job status = EndsPlainWith subcommand job status
+EndsAs true subcommand job status = (program : Linked) × (over : Job) × LinksTo job program × IsOver job program.words.items program.shapes.items over
+    × EndsPlainWith subcommand over status
+
 abbrev pub EndsWith : Subcommand → Job → ℕ → Type 0
-EndsWith Debug job status = EndsSessionWith job status
-EndsWith Gdb job status = EndsSessionWith job status
-EndsWith Test job status = EndsTestWith job.options.show job status
-EndsWith subcommand job status = (a : Print) × Prints subcommand job a × (status ≡ a.status)
+EndsWith subcommand job = EndsAs (links_first subcommand job) subcommand job

@@ -1,12 +1,13 @@
 //! The program without its command line and its files: a job, done.
 ghost use Rattle.std.specs.Prelude.{◌≤◌};
-ghost use Rattle.bpfdb_jobs.specs.Done.{DoesJob};
+ghost use Rattle.bpfdb_jobs.specs.Done.{DoesJob, DoesPlain};
 ghost use Rattle.bpfdb_limits.specs.Limits.{IsLimit};
 
 use crate::check::check_job;
 use crate::debug::debug_job;
 use crate::gdb::gdb_job;
 use crate::job::Job;
+use crate::linked::{linked_tool, links_first};
 use crate::listing::{asm_job, disasm_job, lines_job};
 use crate::object::link_job;
 use crate::origin::origin_job;
@@ -25,7 +26,7 @@ use std::io::{Read, Write};
 /// where the job is refused, where input or output fails, and where memory runs out.
 ///
 /// Results, replies and answers go to the writer. A refusal, a fault or a limit is one line on
-/// `errors`, and so are the maps of an object that is linked. The reader is read by `debug` and
+/// `errors`, and so are the maps of an object that `link` links. The reader is read by `debug` and
 /// `gdb` alone.
 pub fn tool<R: Read, W: Write, E: Write>(
     alloc: Global,
@@ -36,6 +37,26 @@ pub fn tool<R: Read, W: Write, E: Write>(
 ) -> u8
     requires limit { IsLimit job.now.options.limit }
     ensures does { DoesJob R.remaining W.contents E.contents job.now.subcommand job.now
+        reader.old reader.new writer.old writer.new errors.old errors.new result }
+    ensures status { result ≤ 2 }
+{
+    if links_first(job) {
+        linked_tool(alloc, job, reader, writer, errors)
+    } else {
+        plain_tool(alloc, job, reader, writer, errors)
+    }
+}
+
+/// Does a job over FILE's bytes as they are, or over its listing, as `tool` does it.
+pub fn plain_tool<R: Read, W: Write, E: Write>(
+    alloc: Global,
+    job: &Job<'_>,
+    reader: &mut Counted<R>,
+    writer: &mut Counted<W>,
+    errors: &mut Counted<E>,
+) -> u8
+    requires limit { IsLimit job.now.options.limit }
+    ensures does { DoesPlain R.remaining W.contents E.contents job.now.subcommand job.now
         reader.old reader.new writer.old writer.new errors.old errors.new result }
     ensures status { result ≤ 2 }
 {

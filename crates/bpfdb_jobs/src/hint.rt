@@ -4,11 +4,13 @@ ghost use Rattle.std.specs.Prelude.{◌≡◌, option_map, true};
 ghost use Rattle.counted_io.specs.Lines.{lines};
 ghost use Rattle.counted_io.specs.Writing.{Writes};
 ghost use Rattle.bpfdb_faults.specs.Streams.{Told};
-ghost use Rattle.bpfdb_jobs.specs.Hints.{AddsHint, AddsLine, IsHintOf, hint_line, is_check, is_of_file, line_at, look_after, look_of, place_after};
+ghost use Rattle.bpfdb_jobs.specs.Hints.{AddsHint, AddsLine, IsHintOf, hint_line, is_of_file, line_at, look_after, look_of, place_after};
+ghost use Rattle.bpfdb_jobs.specs.Objects.{is_check};
 ghost use Rattle.bpfdb_jobs.specs.Refusals.{RefusesProgram};
 ghost use Rattle.bpfdb_jobs.specs.declared.hint.Hint.TheVariants as hint;
 
 use crate::job::Job;
+use crate::linked::is_check;
 use crate::look::{is_object, is_text};
 use crate::opening::program_of;
 use bpfdb_faults::JobRefusal;
@@ -16,7 +18,6 @@ use bpfdb_faults::flush_after;
 use crate::row::line_at;
 use bpf_isa::{LoadFault, PieceFault, WordFault};
 use bpf_text::line_table;
-use bpfdb_options::Subcommand;
 use counted_io::{Counted, Piece, WriteFault, put, put_all};
 use shown_text::put_shown;
 use std::alloc::Global;
@@ -57,6 +58,9 @@ fn hint_of(alloc: Global, job: &Job<'_>) -> Option<Hint>
     if !is_check(job.subcommand) {
         return None;
     }
+    if job.options.is_object {
+        return None;
+    }
     match program_of(alloc, job) {
         Ok(_) => None,
         Err(refusal) => hint_behind(alloc, job, &refusal),
@@ -75,19 +79,6 @@ fn hint_behind(alloc: Global, job: &Job<'_>, refusal: &JobRefusal<'_>) -> Option
     match line_table(alloc, job.file) {
         Ok(table) => place_after(refusal, table.as_slice()),
         Err(_) => None,
-    }
-}
-
-/// Whether a subcommand checks a program.
-fn is_check(subcommand: Subcommand) -> bool
-    ensures { result ≡ is_check subcommand }
-{
-    match subcommand {
-        Subcommand::Asm => false,
-        Subcommand::Lines => false,
-        Subcommand::Link => false,
-        Subcommand::Test => false,
-        _ => true,
     }
 }
 

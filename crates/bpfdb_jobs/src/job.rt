@@ -1,4 +1,5 @@
 //! What `tool` is given to do.
+use bpf_isa::MapShape;
 use bpfdb_options::{Options, Subcommand};
 
 /// A subcommand, with the bytes of its files and its options.
@@ -16,5 +17,8 @@ pub struct Job<'a> {
     /// asks, without which the program runs; or of the object with functions that `link` joins to
     /// FILE.
     pub other: Option<&'a [u8]>,
+    /// The maps of the object that was linked to FILE's words, where one was; without them the maps
+    /// are those that the options name.
+    pub shapes: Option<&'a [MapShape]>,
     pub options: Options<'a>,
 }

@@ -7,6 +7,7 @@ mod dispatch;
 mod gdb;
 mod hint;
 mod job;
+mod linked;
 mod listing;
 mod look;
 mod maps;

@@ -136,7 +136,12 @@ fn or_count(counted: Option<u32>, count: u32) -> u32
 }
 
 /// Tells why no program is made of an object, and answers the exit status, 2.
-fn refuse<E: Write>(job: &Job<'_>, object: &[u8], errors: &mut Counted<E>, fault: LinkFault) -> u8
+pub fn refuse<E: Write>(
+    job: &Job<'_>,
+    object: &[u8],
+    errors: &mut Counted<E>,
+    fault: LinkFault,
+) -> u8
     ensures value { result ≡ 2 }
     ensures told { (name : Bor (List ℕ))
         × (name.now ≡ fault_names object.now (section_of job.now) fault)
@@ -184,7 +189,7 @@ fn refuse_functions<E: Write>(functions: &[u8], errors: &mut Counted<E>, fault: 
 }
 
 /// The program of an object, with the calls of some helpers answered.
-fn linked_from(
+pub fn linked_from(
     alloc: Global,
     job: &Job<'_>,
     object: &[u8],
@@ -208,7 +213,7 @@ fn linked_from(
 }
 
 /// The helpers whose calls are answered.
-fn stubs_of(job: &Job<'_>) -> Result<ArrayVec<Stub, MOST_STUBS>, LinkFault>
+pub fn stubs_of(job: &Job<'_>) -> Result<ArrayVec<Stub, MOST_STUBS>, LinkFault>
     ensures ok { IfOk result (λ stubs. stubs_of job.now ≡ Ok stubs.items) }
     ensures err { IfErr result (λ fault. stubs_of job.now ≡ Err fault) }
 {

@@ -1,6 +1,7 @@
 //! What a job is done with: its program, a machine, a machine with its journal, a session.
 ghost use Rattle.std.specs.Prelude.{◌≡◌, IfErr, IfOk, false, true};
 ghost use Rattle.bpf_entries.specs.Status.{has_ended};
+ghost use Rattle.bpf_isa.specs.Maps.{IsFirstBadMap};
 ghost use Rattle.bpf_isa.specs.Programs.{Checked};
 ghost use Rattle.bpf_machine.specs.State.{initial};
 ghost use Rattle.bpfdb_jobs.specs.Jobs.{HasMaps, HasWords, IsProgramOf, Opens};
@@ -12,7 +13,7 @@ ghost use Rattle.bpfdb_limits.specs.Limits.{IsLimit};
 
 use crate::job::Job;
 use bpfdb_faults::{JobRefusal, open_machine};
-use bpf_isa::{MapTable, Program, check};
+use bpf_isa::{MapFault, MapShape, MapTable, Program, check};
 use bpf_journal::{JournalFault, RingKeeper, Timeline};
 use bpf_machine::Cpu;
 use bpf_origin::Wanted;
@@ -20,18 +21,39 @@ use bpf_session::Session;
 use bpf_text::assemble;
 use std::alloc::Global;
 
-/// The map table.
+/// The map table: that of an object's maps, or the one that the options name.
 fn maps_of(job: &Job<'_>) -> Result<MapTable, JobRefusal<'static>>
-    ensures ok { IfOk result (HasMaps job.now.options.maps) }
+    ensures ok { IfOk result (HasMaps job.now) }
     ensures err { IfErr result (RefusesProgram job.now) }
 {
-    match job.options.maps {
-        None => Ok(MapTable::empty()),
-        Some(text) => match MapTable::parse(text.as_bytes()) {
+    match job.shapes {
+        Some(shapes) => match table_of(shapes) {
             Ok(maps) => Ok(maps),
             Err(fault) => Err(JobRefusal::Maps(fault)),
         },
+        None => match job.options.maps {
+            None => Ok(MapTable::empty()),
+            Some(text) => match MapTable::parse(text.as_bytes()) {
+                Ok(maps) => Ok(maps),
+                Err(fault) => Err(JobRefusal::Maps(fault)),
+            },
+        },
     }
+}
+
+/// The table of these maps.
+fn table_of(shapes: &[MapShape]) -> Result<MapTable, MapFault>
+    ensures ok { IfOk result (λ maps. maps ≡ shapes.now) }
+    ensures err { IfErr result (IsFirstBadMap shapes.now) }
+{
+    let mut maps = MapTable::empty();
+    for shape in shapes {
+        match maps.add(shape.value_size, shape.entries) {
+            Ok(()) => {}
+            Err(fault) => return Err(fault),
+        }
+    }
+    Ok(maps)
 }
 
 /// The program: first its maps are read, then the listing, if FILE is one, is assembled, then the
@@ -53,7 +75,7 @@ pub fn program_of(alloc: Global, job: &Job<'_>) -> Result<Program, JobRefusal<'s
 
 /// The program of a listing.
 fn assembled(alloc: Global, job: &Job<'_>, maps: &MapTable) -> Result<Program, JobRefusal<'static>>
-    requires maps { HasMaps job.now.options.maps maps.now }
+    requires maps { HasMaps job.now maps.now }
     requires listing { job.now.options.is_listing ≡ true }
     ensures ok { IfOk result (IsProgramOf job.now) }
     ensures err { IfErr result (RefusesProgram job.now) }
@@ -71,7 +93,7 @@ fn checked(
     words: &[u8],
     maps: &MapTable,
 ) -> Result<Program, JobRefusal<'static>>
-    requires maps { HasMaps job.now.options.maps maps.now }
+    requires maps { HasMaps job.now maps.now }
     requires words { HasWords job.now.options.is_listing job.now.file.now words.now }
     ensures ok { IfOk result (IsProgramOf job.now) }
     ensures err { IfErr result (RefusesProgram job.now) }
