@@ -205,7 +205,9 @@ def opened(program, given):
     source, kept, path = Source(), [], file
     if file and start_of(file, 4) == b'\x7fELF':
         content, said = linked(program, file, link)
-        debug = debug + ([] if has(debug, '--maps') else maps_of(said)[0])
+        # (--object says what is known already)
+        debug = [word for word in debug if word != '--object']
+        debug += [] if has(debug, '--maps') else maps_of(said)[0]
         kept, path = [content], f'/dev/fd/{content.fileno()}'
         if sys.stdin.isatty():
             warn(f"> bpfdb link {' '.join([*link, file])}\n{said}", '')

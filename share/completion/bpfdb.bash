@@ -60,19 +60,19 @@ _bpfdb() {
         return
     fi
     case $job in
-    run) words="-m --mem --maps --steps --listing -h --help" ;;
-    trace) words="-m --mem --maps --steps --from --count --branches --profile --listing -h --help" ;;
-    debug) words="-m --mem --maps --journal --steps --listing -h --help" ;;
-    origin) words="-m --mem --maps --journal --steps --listing --script --lines --addresses -h --help" ;;
-    whynot) words="-m --mem --maps --journal --steps --listing --script --lines --addresses --alone -h --help" ;;
+    run) words="-m --mem --maps --steps --listing --object --section --entry --stub --as-compiled -h --help" ;;
+    trace) words="-m --mem --maps --steps --from --count --branches --profile --listing --object --section --entry --stub --as-compiled -h --help" ;;
+    debug) words="-m --mem --maps --journal --steps --listing --object --section --entry --stub --as-compiled -h --help" ;;
+    origin) words="-m --mem --maps --journal --steps --listing --object --section --entry --stub --script --as-compiled --lines --addresses -h --help" ;;
+    whynot) words="-m --mem --maps --journal --steps --listing --object --section --entry --stub --script --as-compiled --lines --addresses --alone -h --help" ;;
     asm) words="-h --help" ;;
-    disasm) words="--maps --listing -h --help" ;;
+    disasm) words="--maps --listing --object --section --entry --stub --as-compiled -h --help" ;;
     lines) words="-h --help" ;;
-    check) words="--maps --listing -h --help" ;;
+    check) words="--maps --listing --object --section --entry --stub --as-compiled -h --help" ;;
     link) words="--section --entry --stub --as-compiled --with --joined -h --help" ;;
-    gdb) words="-m --mem --maps --journal --steps --listing --registers -h --help" ;;
+    gdb) words="-m --mem --maps --journal --steps --listing --object --registers --section --entry --stub --as-compiled -h --help" ;;
     test) words="--only --show -h --help" ;;
-    shell) words="-m --mem --maps --journal --steps --listing --section --entry --stub --as-compiled -h --help" ;;
+    shell) words="-m --mem --maps --journal --steps --listing --object --section --entry --stub --as-compiled -h --help" ;;
     page) words="-m --mem --maps --steps --listing --section --entry --stub --as-compiled -o --output --from --count --title --object -h --help" ;;
     dap) words="--port --over -h --help" ;;
     help) words="run trace debug origin whynot asm disasm lines check link gdb test" ;;

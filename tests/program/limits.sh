@@ -173,6 +173,9 @@ object calls
 "$program" link typed.o > typed 2> told
 bytes overrun.o $(sed 's/../& /g' "$top/examples/overrun/object.hex")
 "$program" link --with calls.o overrun.o > both
+# (an object whose code is the longest program: it stands behind the object text.o, of 448 bytes, whose section has its offset and size at 344)
+object text
+{ head -c 344 text.o; printf '\300\001\0\0\0\0\0\0\370\377\007\0\0\0\0\0'; tail -c +361 text.o; cat longest; } > longest.o
 cp "$parts/suites/cells.test" "$parts/suites/alone.test" .
 (
     ulimit -s 256
@@ -187,6 +190,16 @@ cp "$parts/suites/cells.test" "$parts/suites/alone.test" .
     output 'trace with 256 kB of stack' profile trace -m context --maps $sixteen --profile --listing two.s
     output 'link with 256 kB of stack' "$top/examples/overrun/program.bin" link overrun.o
     output 'link of two objects with 256 kB of stack' both link --with calls.o overrun.o
+    for subcommand in run trace debug origin gdb check disasm; do
+        : > script
+        run $subcommand $(cat told) typed
+        cp found/out wanted/out
+        cp found/err wanted/err
+        cp found/status wanted/status
+        run $subcommand --object typed.o
+        compare "$subcommand --object with 256 kB of stack"
+    done
+    result '0xfffe\n' run --object -m context longest.o
     whence 'origin with 256 kB of stack'
     echo continue > path
     result 'at 0: ja L0\nleft r0 = 0x0; at the opening\n' origin --steps 9 --script path endless
@@ -269,6 +282,7 @@ little|path|check --listing count.s
 little|path|asm count.s
 little|path|disasm --listing count.s
 little|path|test alone.test
+little|path|run --object typed.o
 little|path|link overrun.o
 little|path|link --joined --with calls.o overrun.o
 little|path|origin --journal 1024 --listing count.s
@@ -280,6 +294,7 @@ more|path|trace -m context --maps $sixteen --from 65535 longest
 more|path|lines two.s
 more|path|disasm --maps $sixteen longest
 more|path|check --listing two.s
+more|path|run --object -m context longest.o
 more|path|asm labels.s
 more|path|run --listing line.s
 more|path|origin -m context --maps $sixteen --journal 16777216 longest

@@ -137,6 +137,7 @@ bytes linked 85 10 00 00 06 00 00 00 bf 01 00 00 00 00 00 00 85 10 00 00 01 00 0
     bf 10 00 00 00 00 00 00 07 00 00 00 01 00 00 00 EXIT bf 10 00 00 00 00 00 00 27 00 00 00 03 00 00 00 EXIT
 wants "$plain$e26" 0 "$text" '' link calls.o
 object point
+object text
 bytes stored \
     06 00 00 00 0b 00 00 00 18 62 00 00 00 00 00 00 00 00 00 00 00 00 00 00 7b 12 08 00 00 00 00 00 \
     18 61 00 00 00 00 00 00 00 00 00 00 18 00 00 00 79 12 00 00 00 00 00 00 bf 23 00 00 00 00 00 00 \
@@ -147,6 +148,14 @@ bytes stored \
     00 00 00 00 03 00 00 00 7b 43 18 00 00 00 00 00 b7 03 00 00 00 00 00 00 b7 04 00 00 00 00 00 00 \
     06 00 00 00 e4 ff ff ff
 wants "$plain$e26" 0 "$text" '--maps 8x5\n' link point.o
+# An object in one step: first it is linked, and then the job is done.
+wants "$plain$e26$c13$o2" 0 '0x3\n' '' run --object point.o
+wants "$plain$e26$c13" 0 'ok 22 instructions in 29 slots\n' '' check --object point.o
+wants "$plain$e26$c13" 0 'mov r0, 7\nexit\n' '' disasm --object text.o
+wants "$plain$e26$c13$o2" 0 '1 0: mov r0, 7; r0 = 0x7\n2 1: exit\nexited at 1: r0 0x7\n' '' trace --object text.o
+wants "$plain$e26$c13$o2$j2" 0 'exited at 1: r0 0x7\n-2 r0 = 0x7; 0: mov r0, 7\n' '' origin --object text.o
+wants "$plain$e26$c13$o2$j2" 0 'exited at 1: r0 0x7\nit was reached 2 moves back\n' '' whynot --object text.o 0
+wants "$plain$e26$c13$o2$j2" 0 '' '' debug --journal 1024 --object text.o
 # Two objects as one: the code of both, and the records of maps.
 if has_clang 'link --with where memory is refused'; then
     for source in program functions; do

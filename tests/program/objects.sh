@@ -4,6 +4,14 @@ for name in calls maps arrays typed text two extern data point programs; do
     object $name
 done
 
+# unlinked LINE ARGUMENT..: an object that `link` refuses by this line; so does `run --object`.
+unlinked() {
+    line=$1
+    shift
+    refused "$line" link "$@"
+    refused "$line" run --object "$@"
+}
+
 # The words, and the words as they are run. Each line has the arguments, and the words.
 while IFS='|' read -r arguments words; do
     bytes words $(printf '%s' "$words" | tr -d ' ' | sed 's/../& /g')
@@ -63,7 +71,7 @@ while IFS='|' read -r place octal told; do
     { head -c "$place" typed.o; printf "$octal"; tail -c +$((place + count_of + 1)) typed.o; } > changed.o
     case $told in
         --maps*) row "bpfdb link typed.o, with $octal at $place" 0 "$script_unread" "$text" "$told\n" link changed.o ;;
-        *) refused "refused $told" link changed.o ;;
+        *) unlinked "refused $told" changed.o ;;
     esac
 done <<'ROWS'
 352|\002|--maps 8x2,16x256
@@ -93,16 +101,16 @@ ROWS
 # (of sizes that are both out of range the value's is told, which is M1 of the list of maps)
 for octal in '\000\000' '\001\020'; do
     { head -c 596 typed.o; printf "$octal"; tail -c +599 typed.o | head -c 22; printf '\001\001'; tail -c +623 typed.o; } > changed.o
-    refused 'refused E52: value size not 1 to 256: counts' link changed.o
+    unlinked 'refused E52: value size not 1 to 256: counts' changed.o
 done
 # (a name with control bytes, in the table of names, from 1338 on)
 { head -c 1338 typed.o; printf '\033['; tail -c +1341 typed.o; } > changed.o
-refused 'refused E45: map has no description in BTF: \\x1b[tals' link changed.o
+unlinked 'refused E45: map has no description in BTF: \\x1b[tals' changed.o
 # (so have bytes that are no character of UTF-8)
 { head -c 1338 typed.o; printf '\233m'; tail -c +1341 typed.o; } > changed.o
-refused 'refused E45: map has no description in BTF: \\x9bmtals' link changed.o
+unlinked 'refused E45: map has no description in BTF: \\x9bmtals' changed.o
 { head -c 1338 typed.o; printf '\342\200'; tail -c +1341 typed.o; } > changed.o
-refused 'refused E45: map has no description in BTF: \\xe2\\x80tals' link changed.o
+unlinked 'refused E45: map has no description in BTF: \\xe2\\x80tals' changed.o
 
 text=$text_of_arrays
 
@@ -127,31 +135,41 @@ result "$text" link hash.o
 # What is refused. In the last one the first byte of the code is an opcode that there is not.
 : > empty
 head -c 63 calls.o > cut.o
-refused 'refused E1: no ELF file' link empty
-refused 'refused E1: no ELF file' link cut.o
-refused 'refused E1: no ELF file' link /dev/null
-refused 'cannot read /dev/zero' link /dev/zero
+unlinked 'refused E1: no ELF file' empty
+unlinked 'refused E1: no ELF file' cut.o
+unlinked 'refused E1: no ELF file' /dev/null
+unlinked 'cannot read /dev/zero' /dev/zero
 # A section or a function that isn't there, or isn't chosen: those that there are, in the order of the tables, and no empty one and no static function that couldn't
 # be meant.
-refused 'refused E8: no such code section: .text, prog' link --section frob calls.o
-refused 'refused E8: no such code section: .text, prog' link --section text calls.o
-refused 'refused E9: more than one code section: --section NAME chooses one: a, b' link two.o
-refused 'refused E30: more than one program in the code section: --entry NAME chooses one: first, second' link programs.o
-refused 'refused E31: no such function in the code section: twice, first, second' link --entry third programs.o
+unlinked 'refused E8: no such code section: .text, prog' --section frob calls.o
+unlinked 'refused E8: no such code section: .text, prog' --section text calls.o
+unlinked 'refused E9: more than one code section: --section NAME chooses one: a, b' two.o
+unlinked 'refused E30: more than one program in the code section: --entry NAME chooses one: first, second' programs.o
+unlinked 'refused E31: no such function in the code section: twice, first, second' --entry third programs.o
 # (`second` calls helper 5, which isn't there; behind the jump to it that is a slot later than in the section. `first` doesn't come there, so it is linked: what isn't
 # reached is `exit`, and its calls aren't answered)
+<<<<<<< HEAD
 clock='unknown helper 5 (bpf_ktime_get_ns): --with OBJECT or --stub 5=VALUE answers it: prog, slot 7'
 refused "refused E25 at slot 8: $clock" link --section=prog --entry=second programs.o
 refused "refused E25 at slot 8: $clock" link --entry second --stub 4=0,6=0 programs.o
+=======
+clock='unknown helper 5 (bpf_ktime_get_ns): --stub 5=VALUE answers it: prog, slot 7'
+unlinked "refused E25 at slot 8: $clock" --section=prog --entry=second programs.o
+unlinked "refused E25 at slot 8: $clock" --entry second --stub 4=0,6=0 programs.o
+>>>>>>> c0cb368f (tests, docs: --object)
 bytes words $(printf '%s' 'bf21000000000000 8510000002000000 0700000001000000 9500000000000000 bf10000000000000 6700000001000000 9500000000000000 9500000000000000 9500000000000000 9500000000000000 9500000000000000 9500000000000000 9500000000000000' | tr -d ' ' | sed 's/../& /g')
 row 'bpfdb link --entry first' 0 "$script_unread" "$text" '' link --entry first programs.o
 row 'bpfdb link --entry first --stub 5=7' 0 "$script_unread" "$text" 'calls answered by --stub: 0\n' link --entry first --stub 5=7 programs.o
 # The number of the helper is at 124. The first and the last that have a name (in the kernel's header), and those beside them; 1, 2 and 64 are there.
 while IFS='|' read -r octal helper; do
     { head -c 124 programs.o; printf "$octal"; tail -c +129 programs.o; } > changed.o
+<<<<<<< HEAD
     # (a function of another object answers a helper by its name)
     case $helper in *' '*) way='--with OBJECT or --stub' ;; *) way=--stub ;; esac
     refused "refused E25 at slot 8: unknown helper $helper: $way ${helper%% *}=VALUE answers it: prog, slot 7" link --entry second changed.o
+=======
+    unlinked "refused E25 at slot 8: unknown helper $helper: --stub ${helper%% *}=VALUE answers it: prog, slot 7" --entry second changed.o
+>>>>>>> c0cb368f (tests, docs: --object)
 done <<'ROWS'
 \0\0\0\0|0
 \003\0\0\0|3 (bpf_map_delete_elem)
@@ -172,30 +190,36 @@ ROWS
 # A call by BTF id (src_reg 2) of the number 5 is no call of helper 5, and bpfdb doesn't have it: no stub answers it.
 { head -c 121 programs.o; printf '\040'; tail -c +123 programs.o; } > changed.o
 for list in 5=7 4=0,5=0; do
-    refused 'refused E25 at slot 8: unknown instruction: prog, slot 7' link --entry second --stub "$list" changed.o
+    unlinked 'refused E25 at slot 8: unknown instruction: prog, slot 7' --entry second --stub "$list" changed.o
 done
-refused 'refused E25 at slot 8: unknown instruction: prog, slot 7' link --entry second changed.o
+unlinked 'refused E25 at slot 8: unknown instruction: prog, slot 7' --entry second changed.o
 # The symbol that isn't defined; a control byte of it is shown as such.
-refused 'refused E19 at slot 1: symbol is not defined in the object: elsewhere' link extern.o
+unlinked 'refused E19 at slot 1: symbol is not defined in the object: elsewhere' extern.o
 place=$(LC_ALL=C grep -obUa elsewhere extern.o | sed 's/:.*//')
 { head -c "$place" extern.o; printf '\033[1m'; tail -c +$((place + 5)) extern.o; } > changed.o
-refused 'refused E19 at slot 1: symbol is not defined in the object: \\x1b[1mwhere' link changed.o
+unlinked 'refused E19 at slot 1: symbol is not defined in the object: \\x1b[1mwhere' changed.o
 long_name=$(printf '%0255d' 0)
-refused 'refused E8: no such code section: .text, prog' link --section "$long_name" calls.o
-refused 'refused E7: section name longer than 255 bytes' link --section "${long_name}0" calls.o
-refused 'refused E7: section name longer than 255 bytes' link --section "${long_name}0" empty
+unlinked 'refused E8: no such code section: .text, prog' --section "$long_name" calls.o
+unlinked 'refused E7: section name longer than 255 bytes' --section "${long_name}0" calls.o
+unlinked 'refused E7: section name longer than 255 bytes' --section "${long_name}0" empty
 { head -c 64 text.o; printf '\377'; tail -c +66 text.o; } > unknown.o
-refused 'refused E25 at slot 0: unknown instruction: .text, slot 0' link unknown.o
+unlinked 'refused E25 at slot 0: unknown instruction: .text, slot 0' unknown.o
 
 # Lists of stubs that are none, before all else. The first item with a fault is told: a helper that is answered already comes before what stands behind it. At each
 # limit of the numbers a list is taken (and `programs.o`, whose helper isn't in it, refused for that).
+<<<<<<< HEAD
 for list in '' , 5 5= =0 5=0, ,5=0 5:0 5=0,,6=0 '5 =0' '5= 0' '5=0 ' 5=+0 +5=0 -5=0 5=- 5=--1 5=0x 5==0 5=0=0 5=a 5=0,a=0 '5=0;6=0' get_prandom_u3=0 get_prandom_u322=0 \
     bpf_=0 bpf_bpf_ktime_get_ns=0 BPF_ktime_get_ns=0 ktime_get_ns ktime_get_ns= 'ktime_get_ns =0' ' ktime_get_ns=0' unspec=0 ktime_get_ns=ktime_get_ns; do
     refused 'refused E32: malformed list of stubs' link --stub="$list" programs.o
+=======
+for list in '' , 5 5= =0 5=0, ,5=0 5:0 5=0,,6=0 '5 =0' '5= 0' '5=0 ' 5=+0 +5=0 -5=0 5=- 5=--1 5=0x 5==0 5=0=0 5=a 'bpf_get_prandom_u32=0' 5=0,a=0 '5=0;6=0'; do
+    unlinked 'refused E32: malformed list of stubs' --stub="$list" programs.o
+>>>>>>> c0cb368f (tests, docs: --object)
 done
 for list in 4294967296=0 5=2147483648 5=-2147483649 5=18446744073709551616 99999999999999999999999=0 5=0xffffffff 5=0,6=2147483648; do
-    refused 'refused E33: helper or value of a stub out of range' link --stub "$list" programs.o
+    unlinked 'refused E33: helper or value of a stub out of range' --stub "$list" programs.o
 done
+<<<<<<< HEAD
 for list in 5=0,5=0 5=0,0x5=1 5=0,6=0,05=0 5=0,5=0,a 0=0,0=0 5=0,ktime_get_ns=1 ktime_get_ns=0,bpf_ktime_get_ns=0 get_prandom_u32=0,7=0; do
     refused 'refused E34: two stubs of one helper' link --stub "$list" programs.o
 done
@@ -206,6 +230,17 @@ refused 'refused E32: malformed list of stubs' link --stub a empty
 for list in "$sixteen" 4294967295=0 0=0 4=2147483647 4=-2147483648 4=-0 4=0x7fffffff 4=-0x80000000 0004=0000 \
     map_lookup_elem=0 bpf_cgrp_storage_delete=0 ktime_get_boot_ns=0; do
     refused "refused E25 at slot 8: $clock" link --entry second --stub "$list" programs.o
+=======
+for list in 5=0,5=0 5=0,0x5=1 5=0,6=0,05=0 5=0,5=0,a 0=0,0=0; do
+    unlinked 'refused E34: two stubs of one helper' --stub "$list" programs.o
+done
+sixteen=$(seq -s , 101 116 | sed 's/,/=0,/g')=0
+unlinked 'refused E35: more than 16 stubs' --stub "$sixteen,117=0" programs.o
+unlinked 'refused E34: two stubs of one helper' --stub "$sixteen,116=0" programs.o
+unlinked 'refused E32: malformed list of stubs' --stub a empty
+for list in "$sixteen" 4294967295=0 0=0 4=2147483647 4=-2147483648 4=-0 4=0x7fffffff 4=-0x80000000 0004=0000; do
+    unlinked "refused E25 at slot 8: $clock" --entry second --stub "$list" programs.o
+>>>>>>> c0cb368f (tests, docs: --object)
 done
 
 # Calls of helpers that a list answers are `mov r0, VALUE`: in `second` that of helper 5. What is told follows the maps.
@@ -273,12 +308,12 @@ calls answered by --stub: 2'
 printf '\002\000\000\000' > context
 result '0x1\n' run --maps 8x2,16x256 -m context arrays
 
-# The line of the page on programs from C takes the maps alone.
+# The line of the page on programs from C takes the maps, and says nothing of calls.
 mkdir bin
 ln -s "$program" bin/bpfdb
 cp arrays.o filter.o
 recipe=$(sed -n 's/^ *`\(bpfdb run .*\)`$/\1/p' "$top/examples/README.md")
-(PATH=$PWD/bin:$PATH && sh -c "$(echo "$recipe" | sed 's/link/link --stub 2=7,1=0/; s/filter.bin$/-m context filter.bin/')") > found/out 2> found/err
+(PATH=$PWD/bin:$PATH && sh -c "$recipe --stub 2=7,1=0 -m context") > found/out 2> found/err
 echo $? > found/status
 check "$recipe" 0 '0x1\n' ''
 
@@ -323,7 +358,7 @@ sized '--maps 8x1' '\000\000\000\000'
 bytes words $(printf '%s' '8510000001000000 9500000000000000 1861000000000000 0000000003000000 6110000000000000 0700000001000000 6301000000000000 9500000000000000' | tr -d ' ' | sed 's/../& /g')
 row 'bpfdb link added.o' 0 "$script_unread" "$text" '--maps 8x1\n' link added.o
 { head -c 68 deep.o; printf '\010'; tail -c +70 deep.o; } > added.o
-refused 'refused E25 at slot 2: no such map or offset: .text, slot 0' link added.o
+unlinked 'refused E25 at slot 2: no such map or offset: .text, slot 0' added.o
 
 # Each line has an object, a place of it and the byte that stands there instead, in octal, and what is told. The calls of calls.o are at the slots 0 and 2, the
 # wide loads of maps.o at 1 and 6, and 14 is its last slot. In the last line its entry is the second half of a wide load, so that the jump before the code has a
@@ -331,7 +366,7 @@ refused 'refused E25 at slot 2: no such map or offset: .text, slot 0' link added
 # in point.o, has none.
 while IFS='|' read -r name place byte told; do
     { head -c "$place" "$name.o"; printf "\\$byte"; tail -c +$((place + 2)) "$name.o"; } > changed.o
-    refused "refused $told" link changed.o
+    unlinked "refused $told" changed.o
 done <<'ROWS'
 calls|288|040|E17: relocation at no slot, or out of order
 calls|300|006|E18 at slot 0: relocation against no symbol
@@ -382,7 +417,7 @@ exits 65535 > words
 { moved text 344 '\300\001\0\0\0\0\0\0\370\377\007\0\0\0\0\0'; exits 65535; } > long.o
 linked 'link of a section of 65,535 slots' long.o
 { moved text 344 '\300\001\0\0\0\0\0\0\0\0\010\0\0\0\0\0'; exits 65536; } > long.o
-refused 'refused E11: program too long' link long.o
+unlinked 'refused E11: program too long' long.o
 
 # The same with those of `.text`, 65,531 behind the four of the section that calls it, and one more: its own six, and `exit`.
 tail -c +65 calls.o | head -c 48 > six
@@ -391,7 +426,7 @@ bytes four 85 10 00 00 06 00 00 00 bf 01 00 00 00 00 00 00 85 10 00 00 01 00 00 
 { moved calls 536 '\0\003\0\0\0\0\0\0\330\377\007\0\0\0\0\0'; cat six; exits 65525; } > long.o
 linked 'link of 65,535 slots, of which 65,531 are of .text' long.o
 { moved calls 536 '\0\003\0\0\0\0\0\0\340\377\007\0\0\0\0\0'; cat six; exits 65526; } > long.o
-refused 'refused E11: program too long' link long.o
+unlinked 'refused E11: program too long' long.o
 
 # A map that no code refers to is none, however many symbols name one: the object's own two are all, with fourteen symbols more, and with fifteen.
 # symbols COUNT: the object's symbols, and the fifth so many times more.
@@ -412,7 +447,7 @@ bytes words b7 00 00 00 07 00 00 00 EXIT
 { head -c 60 text.o; printf '\377\376'; tail -c +63 text.o; head -c $((64 * (0xfeff - 4))) /dev/zero; } > sections.o
 linked 'link of an object of 65,279 sections' sections.o
 { head -c 60 text.o; printf '\000\377'; tail -c +63 text.o; head -c $((64 * (0xff00 - 4))) /dev/zero; } > sections.o
-refused 'refused E6: malformed section table' link sections.o
+unlinked 'refused E6: malformed section table' sections.o
 
 # Twenty calls of the first slot of `.text`, each with a relocation of its own: call I, of slot I, is 20 - I slots before it. Nothing calls the second function there.
 twenty=$(seq 0 19)
@@ -480,7 +515,7 @@ if has_clang 'link of files of C'; then
         "$program" link "$name.o" > words17 2> told
         [ "$(cat told)" = "--maps $(seq -s , 16 | sed 's/[0-9][0-9]*/8x1/g')" ] || complain "what is told of $name.o"
     done
-    refused 'refused E15: more than 16 maps' link maps1717.o
+    unlinked 'refused E15: more than 16 maps' maps1717.o
     clang -O1 -target bpf -c -o sum.o sum.c
     "$program" link sum.o > sum
     printf '\001\002\375' > context
@@ -504,26 +539,26 @@ __attribute__((section("prog"))) int first(void) { return 1; }
 __attribute__((section("prog"))) int second(void) { return 2; }
 C
     clang -O1 -target bpf -c -o entries.o entries.c
-    refused 'refused E30: more than one program in the code section: --entry NAME chooses one: first, second' link entries.o
+    unlinked 'refused E30: more than one program in the code section: --entry NAME chooses one: first, second' entries.o
     # Of sixteen functions all are told, and of more the first sixteen.
     {
         for i in $(seq 16); do echo "__attribute__((section(\"prog\"))) int f$i(void) { return $i; }"; done
     } > many.c
     sixteen_names=$(seq -s ' ' 16 | sed 's/ /, f/g; s/^/f/')
     clang -O1 -target bpf -c -o many.o many.c
-    refused "refused E30: more than one program in the code section: --entry NAME chooses one: $sixteen_names" link many.o
+    unlinked "refused E30: more than one program in the code section: --entry NAME chooses one: $sixteen_names" many.o
     echo '__attribute__((section("prog"))) int f17(void) { return 17; }' >> many.c
     clang -O1 -target bpf -c -o many.o many.c
-    refused "refused E30: more than one program in the code section: --entry NAME chooses one: $sixteen_names, .." link many.o
+    unlinked "refused E30: more than one program in the code section: --entry NAME chooses one: $sixteen_names, .." many.o
     echo '__attribute__((section("prog"))) int f18(void) { return 18; }' >> many.c
     clang -O1 -target bpf -c -o many.o many.c
-    refused "refused E30: more than one program in the code section: --entry NAME chooses one: $sixteen_names, .." link many.o
+    unlinked "refused E30: more than one program in the code section: --entry NAME chooses one: $sixteen_names, .." many.o
     # A name of 255 bytes is told whole, and of a longer one as many. A map's name may have as many, too.
     for more in '' y; do
         symbol=x$(printf '%0254d' 0)
         printf 'int %s(void); __attribute__((section("prog"))) int entry(void) { return %s(); }\n' "$symbol$more" "$symbol$more" > long.c
         clang -O1 -target bpf -c -o long.o long.c
-        refused "refused E19 at slot 0: symbol is not defined in the object: $symbol" link long.o
+        unlinked "refused E19 at slot 0: symbol is not defined in the object: $symbol" long.o
         cat > long.c <<C
 struct { int (*type)[2]; unsigned *key; long *value; int (*max_entries)[3]; } $symbol$more __attribute__((section(".maps")));
 static void *(*lookup)(void *, const void *) = (void *)1;
@@ -532,7 +567,7 @@ C
         clang -g -O2 -target bpf -c -o long.o long.c
         case $more in
             '') "$program" link long.o > long 2> told; check_told '--maps 8x3' ;;
-            *) refused "refused E54: name of a map longer than 255 bytes: $symbol" link long.o ;;
+            *) unlinked "refused E54: name of a map longer than 255 bytes: $symbol" long.o ;;
         esac
     done
     for entry in first second; do
@@ -546,7 +581,7 @@ C
         clang -O1 -target bpf -c -o long.o long.c
         case $more in
             '') "$program" link --entry "$symbol" long.o > long 2> told; result '0x1\n' run long ;;
-            *) refused "refused E31: no such function in the code section: $symbol, z" link --entry "$symbol$more" long.o ;;
+            *) unlinked "refused E31: no such function in the code section: $symbol, z" --entry "$symbol$more" long.o ;;
         esac
         "$program" link --entry z long.o > long
         result '0x2\n' run long
@@ -564,7 +599,7 @@ C
     printf '\001\0\0\0\002\0\0\0\005\0\0\0\0\0\0\0' > context
     while IFS='|' read -r section many slot first told; do
         [ "$many" = 0 ] ||
-            refused "refused E36 at slot $slot: relocations of fields, $many in all: --as-compiled leaves them undone: $first" link --section $section core.o
+            unlinked "refused E36 at slot $slot: relocations of fields, $many in all: --as-compiled leaves them undone: $first" --section $section core.o
         "$program" link --as-compiled --section=$section core.o > core 2> left || complain "$section isn't linked as compiled"
         [ "$(cat left)" = "fields left by --as-compiled: $many" ] || complain "what is told of the fields of $section"
         result "$told\n" run -m context core
@@ -579,7 +614,7 @@ ROWS
     # A damaged list is refused, and of each byte that is turned something is told.
     place=$(LC_ALL=C grep -obUa "$(printf '\237\353')" core.o | LC_ALL=C sed -n '2s/:.*//p')
     { head -c "$place" core.o; printf '\0'; tail -c +$((place + 2)) core.o; } > changed.o
-    refused 'refused E53: malformed section .BTF.ext' link --as-compiled --section none changed.o
+    unlinked 'refused E53: malformed section .BTF.ext' --as-compiled --section none changed.o
     for at in $(seq "$place" $((place + 200))); do
         { head -c "$at" core.o; printf '\377'; tail -c +$((at + 2)) core.o; } > changed.o
         "$program" link --section both changed.o > core 2> left
@@ -633,15 +668,15 @@ C
         '__attribute__((section("prog"))) long entry(void *at, unsigned long size) { return call(size); }' > table.c
     clang -O2 -target bpf -c -o address.o address.c
     clang -O2 -target bpf -c -o table.o table.c
-    refused 'refused E23 at slot 1: reference to data that is no map' link address.o
-    refused 'refused E29: address in data of what is no data' link table.o
+    unlinked 'refused E23 at slot 1: reference to data that is no map' address.o
+    unlinked 'refused E29: address in data of what is no data' table.o
     # (that of one known outside has its name)
     for name in address table; do
         sed 's/^static __/__/' $name.c > named.c
         clang -O2 -target bpf -c -o $name.o named.c
     done
-    refused 'refused E23 at slot 1: reference to data that is no map: f' link address.o
-    refused 'refused E29: address in data of what is no data: f' link table.o
+    unlinked 'refused E23 at slot 1: reference to data that is no map: f' address.o
+    unlinked 'refused E29: address in data of what is no data: f' table.o
     # Sixteen sections of data, one for each variable, and a seventeenth.
     for most in 16 17; do
         {
@@ -654,7 +689,7 @@ C
     done
     "$program" link sections16.o > sections 2> told
     result '0x88\n' run $(cat told) sections
-    refused 'refused E15: more than 16 maps' link sections17.o
+    unlinked 'refused E15: more than 16 maps' sections17.o
     # Programs of C, whose results are those of this machine, at each level and for each processor, by each clang that is installed, of one version once.
     if has cc 'results of files of C'; then
         printf 'abc 12 zz9!' > context

@@ -101,10 +101,10 @@ compare 'bpfdb asm first.s'
 # Options that the subcommand doesn't have.
 for absent in 'run --journal=65536' 'debug -j=65536' 'asm -m=context' 'asm --mem=context' 'asm --maps=8x2' 'asm --journal=65536' \
     'asm --steps=7' 'asm --listing' 'disasm -m=context' 'disasm --mem=context' 'disasm --journal=65536' 'disasm --steps=7' \
-    'check -m=context' 'check --mem=context' 'check --journal=65536' 'check --steps=7' 'run --section=a' 'debug --section=a' 'asm --section=a' 'run --entry=a' 'asm --entry=a' 'run --stub=5=0' 'debug --stub=5=0' \
-    'disasm --section=a' 'check --section=a' 'link -m=context' 'link --mem=context' 'link --maps=8x2' 'link --journal=65536' 'link --steps=7' 'link --listing' 'gdb --section=a' \
-    'run --from=7' 'run --count=7' 'run --branches' 'run --profile' 'debug --from=7' 'debug --count=7' 'debug --profile' 'trace --journal=65536' 'trace --section=a' 'trace --registers=x86' \
-    'origin --section=a' 'origin --entry=a' 'origin --registers=x86' 'origin --alone' 'gdb --alone' 'whynot --section=a' 'whynot --registers=x86' 'run --lines=7' 'debug --lines=7' 'debug --addresses' 'gdb --lines=7' 'lines --lines=7' 'lines --listing' 'lines --maps=8x2' 'lines -m=context' 'lines --steps=7' 'lines --section=a' 'run --registers=x86' 'debug --registers=x86' 'test --listing' 'test --maps=8x2' 'test --steps=7' 'run --only=a' 'debug --only=a' 'link --only=a' 'run --show=program' 'debug --show=script'
+    'check -m=context' 'check --mem=context' 'check --journal=65536' 'check --steps=7' 'asm --section=a' 'asm --entry=a' 'asm --object' 'link --object' 'test --object' 'run --with=a' 'debug --joined' \
+    'link -m=context' 'link --mem=context' 'link --maps=8x2' 'link --journal=65536' 'link --steps=7' 'link --listing' \
+    'run --from=7' 'run --count=7' 'run --branches' 'run --profile' 'debug --from=7' 'debug --count=7' 'debug --profile' 'trace --journal=65536' 'trace --registers=x86' \
+    'origin --registers=x86' 'origin --alone' 'gdb --alone' 'whynot --registers=x86' 'run --lines=7' 'debug --lines=7' 'debug --addresses' 'gdb --lines=7' 'lines --lines=7' 'lines --listing' 'lines --maps=8x2' 'lines -m=context' 'lines --steps=7' 'lines --section=a' 'run --registers=x86' 'debug --registers=x86' 'test --listing' 'test --maps=8x2' 'test --steps=7' 'run --only=a' 'debug --only=a' 'link --only=a' 'run --show=program' 'debug --show=script'
 do
     subcommand=${absent%% *} option=${absent#* }
     name=${option%%=*}
@@ -131,6 +131,24 @@ usage "unexpected argument '--step' found" run --step 7 first
 usage "unexpected argument '--Steps' found" run --Steps 7 first
 usage "unexpected argument 'second' found" run first second
 usage 'a value is none of those that its option takes' gdb --registers arm first
+# Options that don't go together: an object is no listing and has its own maps, and of a link is asked where an object is linked.
+for subcommand in run trace debug origin whynot gdb disasm check; do
+    what=''
+    [ $subcommand != whynot ] || what=0
+    # (what is asked about is a word without blanks, or none)
+    usage "the argument '--object' cannot be used with '--listing'" $subcommand --object --listing first $what
+    usage "the argument '--object' cannot be used with '--listing'" $subcommand --listing --maps 8x2 --section a --object first $what
+    usage "the argument '--object' cannot be used with '--maps <VxN,VxN>'" $subcommand --maps 8x2 --object first $what
+    usage "the argument '--object' cannot be used with '--maps <VxN,VxN>'" $subcommand --object first $what --maps=
+    for option in --section=a --section= --entry=a --stub=5=0 --as-compiled; do
+        usage "'--section', '--entry', '--stub' and '--as-compiled' need '--object'" $subcommand $option first $what
+        usage "'--section', '--entry', '--stub' and '--as-compiled' need '--object'" $subcommand first $what --listing $option
+    done
+    usage "the argument '--object' cannot be used multiple times" $subcommand --object --object first $what
+    usage "unexpected value 'yes' for '--object' found; no more were expected" $subcommand --object=yes first $what
+    usage "a value is required for '--section <NAME>' but none was supplied" $subcommand first $what --object --section
+    usage "the argument '--entry <NAME>' cannot be used multiple times" $subcommand --object --entry a --entry a first $what
+done
 usage 'a value is none of those that its option takes' test --show words two.test
 for subcommand in $subcommands; do
     usage 'the following required arguments were not provided:' $subcommand
