@@ -282,7 +282,7 @@ little|path|check --listing count.s
 little|path|asm count.s
 little|path|disasm --listing count.s
 little|path|test alone.test
-little|path|run --object typed.o
+little|path|run --object calls.o
 little|path|link overrun.o
 little|path|link --joined --with calls.o overrun.o
 little|path|origin --journal 1024 --listing count.s
