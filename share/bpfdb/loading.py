@@ -65,7 +65,7 @@ class Loaded:
 
     def __init__(self, program, wanted):
         self.wanted, self.kept, self.source, path = wanted, [], Source(), wanted.file
-        words, shapes, names = wanted.for_debug(), wanted.maps, []
+        words, shapes, names = wanted.for_debug(), wanted.maps, {}
         if wanted.is_object():
             link, places = wanted.for_link()
             content, said = linked(program, wanted.file, link)
@@ -80,7 +80,7 @@ class Loaded:
         self.line = [program, 'debug', *words, '--', path]
         # (a list that bpfdb refuses never comes to use)
         self.maps = [tuple(int(part) for part in shape.split('x')) for shape in shapes.split(',')] if SHAPES.fullmatch(shapes) else []
-        self.map_names = [names[at] if at < len(names) else f'map {at}' for at in range(len(self.maps))]
+        self.map_names = [names.get(at, f'map {at}') for at in range(len(self.maps))]
         self.context_size = self.size_of_context()
 
     def size_of_context(self):

@@ -3,6 +3,7 @@
 import re
 
 from bpfdb.expressions import REGISTER
+from bpfdb.machine import MAP_STRIDE, MAPS
 from bpfdb.places import NAME
 from bpfdb.session import Hint
 from bpfdb.texts import MASK, number
@@ -15,7 +16,7 @@ class Meanings:
     """What words mean where the session stands: part of the Shell."""
 
     def value(self, text):
-        """The value of a number, a register, a label, or a sum of these; None if it is none of them."""
+        """The value of a number, a register, a label, a map (the address of its values), or a sum of these; None if it is none of them."""
         text = text.strip()
         while text.startswith('(') and text.endswith(')'):
             text = text[1:-1].strip()
@@ -37,6 +38,8 @@ class Meanings:
             return self.registers()[{'sp': 'r10', 'fp': 'r10'}.get(found[1], found[1])]
         if word in self.source.labels:
             return self.source.labels[word]
+        if word in self.source.maps:
+            return MAPS + MAP_STRIDE * self.source.maps[word]
         return number(word)
 
     def word(self, text):

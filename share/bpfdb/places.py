@@ -15,13 +15,14 @@ ADDRESS_LINE = re.compile(r'^0x([0-9a-f]+): (.+):([1-9][0-9]*)\b', re.MULTILINE)
 
 
 class Source:
-    """What a program was written as: for slots their file, line and text, and the path of the file, and the slots of labels or functions."""
+    """What a program was written as: for slots their file, line and text, and the path of the file, the slots of labels or functions, and the
+    numbers of maps."""
 
     # whether each line is one instruction
     of_instructions = False
 
     def __init__(self):
-        self.lines, self.labels, self.paths = {}, {}, {}
+        self.lines, self.labels, self.paths, self.maps = {}, {}, {}, {}
 
     def name(self, slot):
         """A slot by the nearest label at or before it: `loop+1`; empty if there is none."""

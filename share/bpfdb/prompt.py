@@ -98,7 +98,7 @@ class Prompt:
         elif before[0] == 'set' and len(before) == 1:
             known = {'reg', 'mem', 'cell', 'pc'}
         else:
-            known = {f'{sign}r{at}' for at in range(11) for sign in ('$', '')} | {'$pc'} | set(self.source.labels)
+            known = {f'{sign}r{at}' for at in range(11) for sign in ('$', '')} | {'$pc'} | set(self.source.labels) | set(self.source.maps)
         found = sorted(word for word in known if word.startswith(text))
         return found[state] + ' ' if state < len(found) else None
 

@@ -14,6 +14,8 @@ SHOWS = ('info', 'x', 'disas', 'last-write')
 WITH_VALUE = ('-m', '--mem', '--maps', '--journal', '--steps', '--section', '--entry', '--stub')
 FOR_LINK = ('--section', '--entry', '--stub', '--as-compiled')
 FOR_SYMBOLS = ('--section', '--entry')
+# What `link` says of a map's name.
+MAP_LINE = re.compile(r'map (\d+): (.*)')
 # The mnemonics of instructions that take two slots.
 WIDE = ('lddw', 'ldmap', 'ldmapval')
 MOVE = re.compile(r'(\d+) (forward|back|redone); (\w+); (.*)')
@@ -160,6 +162,8 @@ def linked(program, file, link):
 
 
 def maps_of(said):
-    """The option for the maps in what `link` said, and their names, as far as it has a line for them."""
-    words = said.split('\n')[0].split(' ')
-    return (words[:2], words[2:]) if words[0] == '--maps' else ([], [])
+    """The option for the maps in what `link` said, and their names by their numbers, as far as it has a line for them."""
+    first, *lines = said.split('\n')
+    words = first.split(' ')
+    named = [MAP_LINE.fullmatch(line) for line in lines]
+    return (words[:2] if words[0] == '--maps' else [], {int(found[1]): found[2] for found in named if found})

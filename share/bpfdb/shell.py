@@ -207,12 +207,14 @@ def opened(program, given):
         content, said = linked(program, file, link)
         # (--object says what is known already)
         debug = [word for word in debug if word != '--object']
-        debug += [] if has(debug, '--maps') else maps_of(said)[0]
+        maps, names = maps_of(said)
+        debug += [] if has(debug, '--maps') else maps
         kept, path = [content], f'/dev/fd/{content.fileno()}'
         if sys.stdin.isatty():
             warn(f"> bpfdb link {' '.join([*link, file])}\n{said}", '')
         places = [word for option in options for word in option if option[0].split('=')[0] in FOR_SYMBOLS]
         source = Object(file, places, os.fstat(content.fileno()).st_size)
+        source.maps = {name: number for number, name in names.items()}
     else:
         debug = debug + link
         if file and file.endswith('.s') and os.path.isfile(file) and '--listing' not in debug:

@@ -133,6 +133,8 @@ class Values:
             return self.send(f'set reg {more[0].lstrip("$")} {self.word(more[1])}')
         if part == 'mem' and len(more) == 2:
             return self.send(f'set mem {self.word(more[0])} {more[1]}')
+        if part == 'cell' and more and more[0] in self.source.maps:
+            return self.send(f"set cell {' '.join([str(self.source.maps[more[0]]), *more[1:]])}")
         if part == 'pc' and len(more) == 1:
             return self.send(f'set pc {self.slot(more[0])}')
         if part in ('reg', 'mem', 'cell', 'pc'):

@@ -352,7 +352,7 @@ for all in '' all; do
             state 1 '' 'step limit 7 reached at 0\n'
             errors $piece $kind run --steps 7 endless
             cp linked stated
-            echo '--maps 8x2,16x256' > told
+            printf '%s\n' '--maps 8x2,16x256' 'map 0: counts' 'map 1: names' > told
             sweep write 2 $piece $kind link arrays.o
             hold_bytes
             hold_told

@@ -142,6 +142,11 @@ object() {
     ' "$top/crates/bpf_link_tests/src/objects.rt")
 }
 
+# told_maps: the option for the maps in what `link` told.
+told_maps() {
+    sed -n '/^--maps /p' told
+}
+
 # text FILE: the lines of a file, as printf's %b reads them.
 text() {
     sed 's/\\/\\\\/g; s/$/\\n/' "$1" | tr -d '\n'

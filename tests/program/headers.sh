@@ -20,7 +20,7 @@ linked() {
     shift 2
     "$program" link "$@" program.o > words 2> told || complain "$name: link $*: status $?"
     count=$((count + 1))
-    case $(cat told) in
+    case $(grep -v '^map [0-9]*: ' told) in
     $wanted) mv words "$name.words" && mv told "$name.told" ;;
     *) complain "$name: link $*: $(cat told)" ;;
     esac

@@ -11,7 +11,7 @@ gives() {
         mv next.o joined.o
     done
     "$program" link --section "$section" joined.o > words 2> told || complain "$section: $(cat told)"
-    result "$value\n" run $(cat told) words
+    result "$value\n" run $(told_maps) words
 }
 
 if has_clang 'link --with'; then
@@ -35,7 +35,7 @@ for compiler in $compilers; do
 
     # In one step, and step by step: a call of FILE is answered, a call of the functions is the machine's.
     "$program" link --with functions.o --section trace program.o > words 2> told || complain "trace: $(cat told)"
-    printf 'continue\ninfo trace\n' | "$program" debug $(cat told) words > found/out
+    printf 'continue\ninfo trace\n' | "$program" debug $(told_maps) words > found/out
     count=$((count + 1))
     [ "$(tail -n 1 found/out)" = 'trace 2 0x6b 0x8' ] || complain "helper 64 in both objects: $(cat found/out)"
     "$program" link --with functions.o --section cells program.o > words 2> told || complain "maps: $(cat told)"

@@ -147,7 +147,7 @@ bytes stored \
     18 04 00 00 03 00 00 00 00 00 00 00 00 00 00 00 7b 43 10 00 00 00 00 00 18 04 00 00 10 00 00 00 \
     00 00 00 00 03 00 00 00 7b 43 18 00 00 00 00 00 b7 03 00 00 00 00 00 00 b7 04 00 00 00 00 00 00 \
     06 00 00 00 e4 ff ff ff
-wants "$plain$e26" 0 "$text" '--maps 8x5\n' link point.o
+wants "$plain$e26" 0 "$text" '--maps 8x5\nmap 0: .data\n' link point.o
 # An object in one step: first it is linked, and then the job is done.
 wants "$plain$e26$c13$o2" 0 '0x3\n' '' run --object point.o
 wants "$plain$e26$c13" 0 'ok 22 instructions in 29 slots\n' '' check --object point.o

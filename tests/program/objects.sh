@@ -38,31 +38,33 @@ result 'ok 13 instructions in 15 slots\n' check --maps 8x2,4x256 maps
 # An object that defines its maps as arrays tells them, and the words run with just that: under the key 2 there is an entry in the second map alone, under
 # 1000 in neither.
 bytes words $(printf '%s' 'bf16000000000000 1851000001000000 0000000000000000 bf62000000000000 8500000001000000 bf07000000000000 1851000000000000 0000000000000000 bf62000000000000 8500000001000000 bf01000000000000 b700000001000000 1d17010000000000 b700000000000000 9500000000000000' | tr -d ' ' | sed 's/../& /g')
-row 'bpfdb link arrays.o' 0 "$script_unread" "$text" '--maps 8x2,16x256\n' link arrays.o
+row 'bpfdb link arrays.o' 0 "$script_unread" "$text" '--maps 8x2,16x256\nmap 0: counts\nmap 1: names\n' link arrays.o
 "$program" link arrays.o > arrays 2> told
 refused 'refused C12 at slot 1: no such map or offset' check arrays
-result 'ok 13 instructions in 15 slots\n' check $(cat told) arrays
+result 'ok 13 instructions in 15 slots\n' check $(told_maps) arrays
 printf '\002\000\000\000' > context
-result '0x0\n' run $(cat told) -m context arrays
+result '0x0\n' run $(told_maps) -m context arrays
 printf '\350\003\000\000' > context
-result '0x1\n' run $(cat told) -m context arrays
+result '0x1\n' run $(told_maps) -m context arrays
 
 text_of_arrays=$text
 # The shapes of maps in `.maps` come from BTF, in the order of their places, in which clang lays them out as the code uses them first: the second map of the
 # source is number 0. Where the places are the other way round, so are the numbers; without BTF the words are the same, and nothing is told.
 bytes words $(printf '%s' "bf17000000000000 1851000000000000 0000000000000000 bf72000000000000 8500000001000000 b706000001000000 b708000001000000 5500010000000000 b708000000000000 1851000001000000 0000000000000000 bf72000000000000 8500000001000000 5500010000000000 b706000000000000 6706000001000000 4f86000000000000 bf60000000000000 9500000000000000" | tr -d ' ' | sed 's/../& /g')
-row 'bpfdb link typed.o' 0 "$script_unread" "$text" '--maps 8x2,16x256\n' link typed.o
+row 'bpfdb link typed.o' 0 "$script_unread" "$text" '--maps 8x2,16x256\nmap 0: totals\nmap 1: counts\n' link typed.o
 { head -c 1784 typed.o; printf '\000'; tail -c +1786 typed.o; } > untyped.o
 result "$text" link untyped.o
 "$program" link typed.o > typed 2> told
 printf '\001\000\000\000' > context
-result '0x3\n' run $(cat told) -m context typed
+result '0x3\n' run $(told_maps) -m context typed
 printf '\002\000\000\000' > context
-result '0x2\n' run $(cat told) -m context typed
+result '0x2\n' run $(told_maps) -m context typed
 { head -c 1240 typed.o; printf '\040'; tail -c +1242 typed.o | head -c 23; printf '\000'; tail -c +1266 typed.o; } > swapped.o
 "$program" link swapped.o > swapped 2> told
-result '0x2\n' run $(cat told) -m context swapped
-[ "$(cat told)" = '--maps 16x256,8x2' ] || complain 'what is told of maps that changed places'
+result '0x2\n' run $(told_maps) -m context swapped
+[ "$(tail -n 2 told)" = 'map 0: counts
+map 1: totals' ] || complain 'names of maps that changed places'
+[ "$(head -n 1 told)" = '--maps 16x256,8x2' ] || complain 'what is told of maps that changed places'
 
 # Each line has what is changed of typed.o, a place and bytes in octal, and what is told: at each limit of the sizes, and a map that is no array, or too large;
 # then BTF that is damaged, and sections of it that don't lie in the file or are two.
@@ -70,7 +72,7 @@ while IFS='|' read -r place octal told; do
     count_of=$(printf "$octal" | wc -c)
     { head -c "$place" typed.o; printf "$octal"; tail -c +$((place + count_of + 1)) typed.o; } > changed.o
     case $told in
-        --maps*) row "bpfdb link typed.o, with $octal at $place" 0 "$script_unread" "$text" "$told\n" link changed.o ;;
+        --maps*) row "bpfdb link typed.o, with $octal at $place" 0 "$script_unread" "$text" "$told\nmap 0: totals\nmap 1: counts\n" link changed.o ;;
         *) unlinked "refused $told" changed.o ;;
     esac
 done <<'ROWS'
@@ -127,7 +129,7 @@ check 'bpfdb link arrays.o, and the output is full' 2 '' 'cannot write output\n'
 # What bpfdb can't have. Of sizes that are out of range the option is told, and then refused (the first map has values of no byte); of a map that is no array
 # none is (the type of the first is that of a hash).
 { head -c 192 arrays.o; printf '\000'; tail -c +194 arrays.o; } > sizeless.o
-row 'bpfdb link sizeless.o' 0 "$script_unread" "$text" '--maps 0x2,16x256\n' link sizeless.o
+row 'bpfdb link sizeless.o' 0 "$script_unread" "$text" '--maps 0x2,16x256\nmap 0: counts\nmap 1: names\n' link sizeless.o
 refused 'refused M1: value size not 1 to 256' check --maps 0x2,16x256 arrays
 { head -c 184 arrays.o; printf '\001'; tail -c +186 arrays.o; } > hash.o
 result "$text" link hash.o
@@ -148,28 +150,18 @@ unlinked 'refused E30: more than one program in the code section: --entry NAME c
 unlinked 'refused E31: no such function in the code section: twice, first, second' --entry third programs.o
 # (`second` calls helper 5, which isn't there; behind the jump to it that is a slot later than in the section. `first` doesn't come there, so it is linked: what isn't
 # reached is `exit`, and its calls aren't answered)
-<<<<<<< HEAD
 clock='unknown helper 5 (bpf_ktime_get_ns): --with OBJECT or --stub 5=VALUE answers it: prog, slot 7'
-refused "refused E25 at slot 8: $clock" link --section=prog --entry=second programs.o
-refused "refused E25 at slot 8: $clock" link --entry second --stub 4=0,6=0 programs.o
-=======
-clock='unknown helper 5 (bpf_ktime_get_ns): --stub 5=VALUE answers it: prog, slot 7'
 unlinked "refused E25 at slot 8: $clock" --section=prog --entry=second programs.o
 unlinked "refused E25 at slot 8: $clock" --entry second --stub 4=0,6=0 programs.o
->>>>>>> c0cb368f (tests, docs: --object)
 bytes words $(printf '%s' 'bf21000000000000 8510000002000000 0700000001000000 9500000000000000 bf10000000000000 6700000001000000 9500000000000000 9500000000000000 9500000000000000 9500000000000000 9500000000000000 9500000000000000 9500000000000000' | tr -d ' ' | sed 's/../& /g')
 row 'bpfdb link --entry first' 0 "$script_unread" "$text" '' link --entry first programs.o
 row 'bpfdb link --entry first --stub 5=7' 0 "$script_unread" "$text" 'calls answered by --stub: 0\n' link --entry first --stub 5=7 programs.o
 # The number of the helper is at 124. The first and the last that have a name (in the kernel's header), and those beside them; 1, 2 and 64 are there.
 while IFS='|' read -r octal helper; do
     { head -c 124 programs.o; printf "$octal"; tail -c +129 programs.o; } > changed.o
-<<<<<<< HEAD
     # (a function of another object answers a helper by its name)
     case $helper in *' '*) way='--with OBJECT or --stub' ;; *) way=--stub ;; esac
-    refused "refused E25 at slot 8: unknown helper $helper: $way ${helper%% *}=VALUE answers it: prog, slot 7" link --entry second changed.o
-=======
-    unlinked "refused E25 at slot 8: unknown helper $helper: --stub ${helper%% *}=VALUE answers it: prog, slot 7" --entry second changed.o
->>>>>>> c0cb368f (tests, docs: --object)
+    unlinked "refused E25 at slot 8: unknown helper $helper: $way ${helper%% *}=VALUE answers it: prog, slot 7" --entry second changed.o
 done <<'ROWS'
 \0\0\0\0|0
 \003\0\0\0|3 (bpf_map_delete_elem)
@@ -207,40 +199,23 @@ unlinked 'refused E25 at slot 0: unknown instruction: .text, slot 0' unknown.o
 
 # Lists of stubs that are none, before all else. The first item with a fault is told: a helper that is answered already comes before what stands behind it. At each
 # limit of the numbers a list is taken (and `programs.o`, whose helper isn't in it, refused for that).
-<<<<<<< HEAD
 for list in '' , 5 5= =0 5=0, ,5=0 5:0 5=0,,6=0 '5 =0' '5= 0' '5=0 ' 5=+0 +5=0 -5=0 5=- 5=--1 5=0x 5==0 5=0=0 5=a 5=0,a=0 '5=0;6=0' get_prandom_u3=0 get_prandom_u322=0 \
     bpf_=0 bpf_bpf_ktime_get_ns=0 BPF_ktime_get_ns=0 ktime_get_ns ktime_get_ns= 'ktime_get_ns =0' ' ktime_get_ns=0' unspec=0 ktime_get_ns=ktime_get_ns; do
-    refused 'refused E32: malformed list of stubs' link --stub="$list" programs.o
-=======
-for list in '' , 5 5= =0 5=0, ,5=0 5:0 5=0,,6=0 '5 =0' '5= 0' '5=0 ' 5=+0 +5=0 -5=0 5=- 5=--1 5=0x 5==0 5=0=0 5=a 'bpf_get_prandom_u32=0' 5=0,a=0 '5=0;6=0'; do
     unlinked 'refused E32: malformed list of stubs' --stub="$list" programs.o
->>>>>>> c0cb368f (tests, docs: --object)
 done
 for list in 4294967296=0 5=2147483648 5=-2147483649 5=18446744073709551616 99999999999999999999999=0 5=0xffffffff 5=0,6=2147483648; do
     unlinked 'refused E33: helper or value of a stub out of range' --stub "$list" programs.o
 done
-<<<<<<< HEAD
 for list in 5=0,5=0 5=0,0x5=1 5=0,6=0,05=0 5=0,5=0,a 0=0,0=0 5=0,ktime_get_ns=1 ktime_get_ns=0,bpf_ktime_get_ns=0 get_prandom_u32=0,7=0; do
-    refused 'refused E34: two stubs of one helper' link --stub "$list" programs.o
-done
-sixteen=$(seq -s , 101 116 | sed 's/,/=0,/g')=0
-refused 'refused E35: more than 16 stubs' link --stub "$sixteen,117=0" programs.o
-refused 'refused E34: two stubs of one helper' link --stub "$sixteen,116=0" programs.o
-refused 'refused E32: malformed list of stubs' link --stub a empty
-for list in "$sixteen" 4294967295=0 0=0 4=2147483647 4=-2147483648 4=-0 4=0x7fffffff 4=-0x80000000 0004=0000 \
-    map_lookup_elem=0 bpf_cgrp_storage_delete=0 ktime_get_boot_ns=0; do
-    refused "refused E25 at slot 8: $clock" link --entry second --stub "$list" programs.o
-=======
-for list in 5=0,5=0 5=0,0x5=1 5=0,6=0,05=0 5=0,5=0,a 0=0,0=0; do
     unlinked 'refused E34: two stubs of one helper' --stub "$list" programs.o
 done
 sixteen=$(seq -s , 101 116 | sed 's/,/=0,/g')=0
 unlinked 'refused E35: more than 16 stubs' --stub "$sixteen,117=0" programs.o
 unlinked 'refused E34: two stubs of one helper' --stub "$sixteen,116=0" programs.o
 unlinked 'refused E32: malformed list of stubs' --stub a empty
-for list in "$sixteen" 4294967295=0 0=0 4=2147483647 4=-2147483648 4=-0 4=0x7fffffff 4=-0x80000000 0004=0000; do
+for list in "$sixteen" 4294967295=0 0=0 4=2147483647 4=-2147483648 4=-0 4=0x7fffffff 4=-0x80000000 0004=0000 \
+    map_lookup_elem=0 bpf_cgrp_storage_delete=0 ktime_get_boot_ns=0; do
     unlinked "refused E25 at slot 8: $clock" --entry second --stub "$list" programs.o
->>>>>>> c0cb368f (tests, docs: --object)
 done
 
 # Calls of helpers that a list answers are `mov r0, VALUE`: in `second` that of helper 5. What is told follows the maps.
@@ -286,15 +261,21 @@ OBJECT
 # Its data are zeros at the start: they become a map, the only one, and so the load is one of its first byte. The section has 4 bytes; with a fifth there are
 # values of 8 bytes, and one of them.
 bytes words $(printf '%s' '8510000001000000 9500000000000000 1861000000000000 0000000000000000 6110000000000000 0700000001000000 6301000000000000 9500000000000000' | tr -d ' ' | sed 's/../& /g')
-row 'bpfdb link deep.o' 0 "$script_unread" "$text" '--maps 8x1\n' link deep.o
+row 'bpfdb link deep.o' 0 "$script_unread" "$text" '--maps 8x1\nmap 0: .bss\n' link deep.o
 "$program" link deep.o > deep 2> told
-result '0x1\n' run $(cat told) deep
+result '0x1\n' run $(told_maps) deep
 refused 'refused C12 at slot 2: no such map or offset' check deep
 
-# check_told LINE: that is what `link` left in the file `told`.
+# check_told LINE: that is what `link` left in the file `told`, but for the names of maps.
 check_told() {
     count=$((count + 1))
-    [ "$(cat told)" = "$1" ] || complain "what is told of maps: $1"
+    [ "$(grep -v '^map [0-9]*: ' told)" = "$1" ] || complain "what is told of maps: $1"
+}
+
+# check_names NAME..: those of the maps 0 and on, there.
+check_names() {
+    count=$((count + 1))
+    [ "$(sed -n 's/^map //p' told)" = "$(printf '%s\n' "$@" | awk '{ print NR - 1 ": " $0 }')" ] || complain "names of maps: $*, and not $(sed -n '/^map/p' told)"
 }
 
 # What is told of calls follows the maps, also where nothing calls the helper; each call is counted, and none but that helper's is answered: the two of arrays.o
@@ -307,6 +288,21 @@ check_told '--maps 8x2,16x256
 calls answered by --stub: 2'
 printf '\002\000\000\000' > context
 result '0x1\n' run --maps 8x2,16x256 -m context arrays
+text=$text_of_arrays
+# A name is shown as any other text of an object: what would steer a terminal is spelled out, and so are bytes that are no character; a map whose symbol has
+# no name (its place is the end of the file) has no line. The rows have the place of a symbol's name or of a byte of names in arrays.o.
+while IFS='|' read -r place octal names; do
+    count_of=$(printf "$octal" | wc -c)
+    { head -c "$place" arrays.o; printf "$octal"; tail -c +$((place + count_of + 1)) arrays.o; } > changed.o
+    row "bpfdb link arrays.o, with $octal at $place" 0 "$script_unread" "$text" "--maps 8x2,16x256\n$names\n" link changed.o
+done <<'ROWS'
+425|\033|map 0: counts\nmap 1: \\x1bames
+425|\233|map 0: counts\nmap 1: \\x9bames
+425|\342\200\256|map 0: counts\nmap 1: \\xe2\\x80\\xaees
+425|\303\244|map 0: counts\nmap 1: ämes
+425|a b |map 0: counts\nmap 1: a b s
+320|\377\377\377\377|map 0: counts
+ROWS
 
 # The line of the page on programs from C takes the maps, and says nothing of calls.
 mkdir bin
@@ -321,13 +317,14 @@ check "$recipe" 0 '0x1\n' ''
 # variable is the address of the last of three numbers, which is 3.)
 "$program" link data.o > data 2> told
 check_told '--maps 8x1'
-result '0x3\n' run $(cat told) data
+check_names .data
+result '0x3\n' run $(told_maps) data
 "$program" link point.o > point 2> told
 check_told '--maps 8x5'
-result 'ok 22 instructions in 29 slots\n' check $(cat told) point
+result 'ok 22 instructions in 29 slots\n' check $(told_maps) point
 printf 'context' > context
-result '0x3\n' run $(cat told) -m context point
-result '0x3\n' run $(cat told) point
+result '0x3\n' run $(told_maps) -m context point
+result '0x3\n' run $(told_maps) point
 
 # At the entry the data stand in their map, and all else is as at the opening. The setup of point.o takes ja32, ldmapval, lddw and stxdw for each of its four
 # numbers, two moves and ja32; that of data.o has one number.
@@ -335,7 +332,7 @@ zeros='r3=0x0 r4=0x0 r5=0x0 r6=0x0 r7=0x0 r8=0x0 r9=0x0 r10=0x200000200'
 session 'the setup of point.o' 'stepi 13\ninfo regs\nx 0x300000000 40\nx 0x100000000 7\nx 0x200000000 8\ninfo frames\n' \
     "13 forward; done; at 1: ldmapval r2, 0, 0\nr0=0x0 r1=0x100000000 r2=0x7 $zeros\nat 1: ldmapval r2, 0, 0\n\
 0x300000000: 01000000000000000200000000000000030000000000000010000000030000000000000000000000\n\
-0x100000000: 636f6e74657874\n0x200000000: 0000000000000000\ndepth 0\n" debug $(cat told) -m context point
+0x100000000: 636f6e74657874\n0x200000000: 0000000000000000\ndepth 0\n" debug $(told_maps) -m context point
 session 'the setup of data.o' 'stepi 7\ninfo regs\nx 0x300000000 8\n' \
     "7 forward; done; at 1: ldmapval r1, 0, 0\nr0=0x0 r1=0x0 r2=0x0 $zeros\nat 1: ldmapval r1, 0, 0\n0x300000000: 0300000000000000\n" debug --maps 8x1 data
 
@@ -351,12 +348,12 @@ sized '--maps 8x4096' '\377\177\000\000'
 sized '--maps 16x2049' '\000\200\000\000'
 sized '--maps 16x4096' '\360\377\000\000'
 sized '--maps 16x4096' '\000\000\001\000'
-result 'ok 7 instructions in 8 slots\n' check $(cat told) sized
+result 'ok 7 instructions in 8 slots\n' check $(told_maps) sized
 sized 'refused E27: data longer than 65536 bytes' '\001\000\001\000'
 sized '--maps 8x1' '\000\000\000\000'
 { head -c 68 deep.o; printf '\003'; tail -c +70 deep.o; } > added.o
 bytes words $(printf '%s' '8510000001000000 9500000000000000 1861000000000000 0000000003000000 6110000000000000 0700000001000000 6301000000000000 9500000000000000' | tr -d ' ' | sed 's/../& /g')
-row 'bpfdb link added.o' 0 "$script_unread" "$text" '--maps 8x1\n' link added.o
+row 'bpfdb link added.o' 0 "$script_unread" "$text" '--maps 8x1\nmap 0: .bss\n' link added.o
 { head -c 68 deep.o; printf '\010'; tail -c +70 deep.o; } > added.o
 unlinked 'refused E25 at slot 2: no such map or offset: .text, slot 0' added.o
 
@@ -513,7 +510,7 @@ if has_clang 'link of files of C'; then
     done
     for name in maps1616 maps1716; do
         "$program" link "$name.o" > words17 2> told
-        [ "$(cat told)" = "--maps $(seq -s , 16 | sed 's/[0-9][0-9]*/8x1/g')" ] || complain "what is told of $name.o"
+        [ "$(head -n 1 told)" = "--maps $(seq -s , 16 | sed 's/[0-9][0-9]*/8x1/g')" ] || complain "what is told of $name.o"
     done
     unlinked 'refused E15: more than 16 maps' maps1717.o
     clang -O1 -target bpf -c -o sum.o sum.c
@@ -531,7 +528,7 @@ C
     "$program" link keys.o > keys 2> told
     for key in 001 002 377; do
         printf "\\$key\\000\\000\\000" > context
-        result "$([ $key = 001 ] && echo 0x3 || echo 0x2)\n" run $(cat told) -m context keys
+        result "$([ $key = 001 ] && echo 0x3 || echo 0x2)\n" run $(told_maps) -m context keys
     done
     # Of two programs in a section the one that is asked for runs; without a name both are refused.
     cat > entries.c <<'C'
@@ -566,7 +563,7 @@ __attribute__((section("prog"))) long entry(const void *key) { return lookup(&$s
 C
         clang -g -O2 -target bpf -c -o long.o long.c
         case $more in
-            '') "$program" link long.o > long 2> told; check_told '--maps 8x3' ;;
+            '') "$program" link long.o > long 2> told; check_told '--maps 8x3'; check_names "$symbol" ;;
             *) unlinked "refused E54: name of a map longer than 255 bytes: $symbol" long.o ;;
         esac
     done
@@ -625,7 +622,7 @@ ROWS
     echo 'static const char names[] = "bpfdb"; __attribute__((section("prog"))) int entry(const void *at, unsigned long size) { return names[size & 3]; }' > constants.c
     clang -O1 -target bpf -c -o zeros.o zeros.c
     "$program" link zeros.o > zeros 2> told
-    result '0x1\n' run $(cat told) zeros
+    result '0x1\n' run $(told_maps) zeros
     cat > both.c <<'C'
 struct bpf_map_def { unsigned int type, key_size, value_size, max_entries, map_flags; };
 __attribute__((section("maps"))) struct bpf_map_def counts = { 2, 4, 8, 2, 0 };
@@ -645,12 +642,13 @@ C
         clang -O$level -target bpf -c -o both.o both.c
         "$program" link both.o > both 2> told
         check_told '--maps 8x2,8x7'
-        result '0x1d58\n' run $(cat told) -m context both
+        check_names counts .bss
+        result '0x1d58\n' run $(told_maps) -m context both
     done
     clang -O1 -target bpf -c -o constants.o constants.c
     "$program" link constants.o > constants 2> told
     printf 'abc' > context
-    result '0x64\n' run $(cat told) -m context constants
+    result '0x64\n' run $(told_maps) -m context constants
     # A static function of the section before the entry is none; the entry is reached by a jump, or from the setup.
     for first in 'static __attribute__((noinline, used, section("prog"))) long twice(long n) { return 2 * n; }' \
         'static volatile long two = 2; static __attribute__((noinline, used, section("prog"))) long twice(long n) { return two * n; }'; do
@@ -658,7 +656,7 @@ C
         for level in 0 1 2; do
             clang -O$level -target bpf -c -o second.o second.c
             "$program" link second.o > second 2> told
-            result '0x7\n' run $(cat told) -m context second
+            result '0x7\n' run $(told_maps) -m context second
         done
     done
     # An address of a function is none of data, in code and in data.
@@ -688,7 +686,7 @@ C
         clang -O2 -fdata-sections -target bpf -c -o "sections$most.o" sections.c
     done
     "$program" link sections16.o > sections 2> told
-    result '0x88\n' run $(cat told) sections
+    result '0x88\n' run $(told_maps) sections
     unlinked 'refused E15: more than 16 maps' sections17.o
     # Programs of C, whose results are those of this machine, at each level and for each processor, by each clang that is installed, of one version once.
     if has cc 'results of files of C'; then
@@ -715,7 +713,7 @@ C
                         "$compiler" -w -fwrapv -fno-builtin -O$level -mcpu=$cpu -target bpf -c -o c.o "$source" 2> /dev/null || continue
                         compiled=$((compiled + 1))
                         "$program" link c.o > c 2> told || complain "$name.c isn't linked: $compiler -O$level, $cpu"
-                        result "$wanted\n" run $(cat told) -m context c
+                        result "$wanted\n" run $(told_maps) -m context c
                     done
                 done
             done

@@ -242,7 +242,7 @@ PYTHON
 #!/bin/sh
 echo "$*" | sed 's|/dev/fd/[0-9]*|LINKED|' >> called
 case $1 in
-link) printf '\225\0\0\0\0\0\0\0' && printf -- '--maps 8x2 counters\ncalls answered by --stub: 1\n' >&2 ;;
+link) printf '\225\0\0\0\0\0\0\0' && printf -- '--maps 8x2\nmap 0: counters\ncalls answered by --stub: 1\n' >&2 ;;
 *) exec "$REAL" ;;
 esac
 SCRIPT

@@ -1,5 +1,5 @@
 -- The slots that a text names, with what tells from where a program can come to them.
-use Rattle.std.specs.Prelude.{◌≡◌, ℕ, List, Ok, Err, Unit}
+use Rattle.std.specs.Prelude.{◌≡◌, ℕ, List, Ok, Err}
 use Rattle.bpf_isa.specs.Programs.{Checked}
 use Rattle.bpf_whynot.specs.Asked.{goals_in}
 use Rattle.bpf_whynot.specs.Reach.{TellsReach}

@@ -112,20 +112,12 @@ abbrev pub or_count : Option ℕ → ℕ → ℕ
 or_count None count = count
 or_count (Some counted) count = counted
 
--- The words that the object is linked to; the shapes of the maps, in the order of their numbers: none unless the object defines each as
--- an array; how many calls are answered; and how many fields are left as compiled.
-pub record IsLinkedTo (job : Job) (words : List ℕ) (shapes : List MapShape) (answered fields : ℕ) : Type 0 where
+-- The program that the object is linked to.
+pub record IsLinkedTo (job : Job) (object : List ℕ) (counted : Option ℕ) (program : Linked) : Type 0 where
   pub stubs : List Stub
   pub asked : stubs_of job ≡ Ok stubs
-  pub program : Linked
-  pub object : List ℕ
-  pub counted : Option ℕ
   pub of_object : IsObjectOf job object counted
   pub linked : IsLinkedAs object (section_of job) (entry_of job) stubs job.options.as_compiled program
-  pub of_words : words ≡ program.words.items
-  pub of_shapes : shapes ≡ program.shapes.items
-  pub of_answered : answered ≡ program.answered
-  pub of_fields : fields ≡ or_count counted program.fields
 
 -- How many calls are answered is told with the option alone.
 abbrev pub answered_if : Option (Bor (List ℕ)) → ℕ → Option ℕ
@@ -203,10 +195,18 @@ unfoldable pub check_line : Checked → List ℕ
 check_line code =
     codes "ok " ++ decimal (count_by is_some code.insns) ++ codes " instructions in " ++ decimal (length code.insns) ++ codes " slots\n"
 
--- `link`: the words of the program; or with `--joined` the object that would be linked.
+-- `link`: the words of the program, and what is told of it: the shapes of its maps, in the order of their numbers (none unless the object
+-- defines each as an array), and their names; how many calls are answered; and how many fields are left as compiled. Or with `--joined` the
+-- object that would be linked.
+abbrev pub link_print : Job → List ℕ → Option ℕ → Linked → Print
+link_print job object counted program = record (printed program.words.items) {
+  err = linked_told object program.shapes.items program.names.items (answered_if job.options.stubs program.answered)
+      (fields_if job.options.as_compiled (or_count counted program.fields));
+}
+
 abbrev pub LinkPrints : Bool → Job → Print → Type 0
-LinkPrints false job a = (words : List ℕ) × (shapes : List MapShape) × (count : ℕ) × (fields : ℕ) × IsLinkedTo job words shapes count fields
-    × (a ≡ record (printed words) { err = linked_told shapes (answered_if job.options.stubs count) (fields_if job.options.as_compiled fields) })
+LinkPrints false job a = (object : List ℕ) × (counted : Option ℕ) × (program : Linked) × IsLinkedTo job object counted program
+    × (a ≡ link_print job object counted program)
 LinkPrints true job a = (object : List ℕ) × (counted : Option ℕ) × IsObjectOf job object counted × (a ≡ printed object)
 
 -- What a subcommand prints of a job that has what it needs: one that reads no standard input. (`test` has a definition of its own.)

@@ -27,8 +27,8 @@ use std::alloc::Global;
 use std::io::Write;
 
 /// Writes the words that an object's code section is linked to, and tells the maps that the object
-/// defines, and how many calls are answered, and fields left, where that is asked for. Where there
-/// is an object with functions, that is joined to it first.
+/// defines, their names, and how many calls are answered, and fields left, where that is asked for.
+/// Where there is an object with functions, that is joined to it first.
 pub fn link_job<W: Write, E: Write>(
     alloc: Global,
     job: &Job<'_>,
@@ -118,7 +118,14 @@ fn put_program<W: Write, E: Write>(
     let fields = fields_if(job, or_count(counted, linked.fields));
     match write_out(writer, linked.words.as_slice()) {
         Ok(()) => told_as(
-            tell_linked(errors, linked.shapes.as_slice(), answered, fields),
+            tell_linked(
+                errors,
+                object,
+                linked.shapes.as_slice(),
+                linked.names.as_slice(),
+                answered,
+                fields,
+            ),
             0,
         ),
         Err(WriteFault) => give_up(errors, &JobFault::Output),
