@@ -4,8 +4,8 @@ ghost use Rattle.bpfdb.specs.Files.{GivesNamed, Names, NamesGiven, kind_of};
 ghost use Rattle.bpfdb_files.specs.Reading.{Gives};
 
 use bpfdb_cli::Plan;
-use bpfdb_files::{FileKind, FirstFault, Opener, read_kind};
 use bpfdb_faults::JobFault;
+use bpfdb_files::{FileKind, FirstFault, Opener, read_kind};
 use bpfdb_options::Subcommand;
 use counted_io::Counted;
 use std::alloc::Global;

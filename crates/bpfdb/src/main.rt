@@ -17,8 +17,8 @@ mod prompt;
 mod words;
 
 use bpfdb_cli::{Plan, PlanFault, plan};
-use bpfdb_files::{Opener, Retrying};
 use bpfdb_faults::{JobFault, give_up, tell_usage};
+use bpfdb_files::{Opener, Retrying};
 use bpfdb_options::Subcommand;
 use clap::Error;
 use counted_io::Counted;

@@ -3,8 +3,7 @@ use Rattle.std.proofs.Common.{◌≡◌, refl, subst, sym}
 use Rattle.bpf_isa.specs.Programs.{Checked}
 use Rattle.bpf_ring.specs.declared.fault.JournalFault.TheVariants.{OutOfMemory}
 use Rattle.bpfdb_faults.specs.Faults.{refusal_line, session_line}
-use Rattle.bpfdb_faults.specs.Machines.{RefusesOpening}
-use Rattle.bpfdb_jobs.specs.Jobs.{IsProgramOf, OpensSession}
+use Rattle.bpfdb_jobs.specs.Jobs.{OpensSession}
 use Rattle.bpfdb_jobs.specs.Refusals.{Refuses, RefusesArrival, RefusesMachine, RefusesOrigin, RefusesProgram, RefusesWhynot}
 use Rattle.bpfdb_jobs.specs.declared.job.Job.{Job}
 use Rattle.bpfdb_faults.specs.declared.refusal.JobRefusal.{JobRefusal}
@@ -25,23 +24,6 @@ program-machine job (Functions fault name) p = absurd p
 program-machine job (Tests fault line) p = absurd p
 program-machine job (NoTest name) p = absurd p
 program-machine job ManyTests p = absurd p
-
--- why no machine is opened on a job's program
-pub opening-machine : (job : Job) (code : Checked) (refusal : JobRefusal) → IsProgramOf job code → RefusesOpening job.context.now refusal
-    → RefusesMachine job refusal
-opening-machine job code (Open fault) program refused = (code, program, refused)
-opening-machine job code (Maps fault) program refused = absurd refused
-opening-machine job code (Listing fault) program refused = absurd refused
-opening-machine job code (Load fault) program refused = absurd refused
-opening-machine job code (Journal fault) program refused = absurd refused
-opening-machine job code (Script refusal) program refused = absurd refused
-opening-machine job code (What fault) program refused = absurd refused
-opening-machine job code (Goal fault) program refused = absurd refused
-opening-machine job code (Object fault name) program refused = absurd refused
-opening-machine job code (Functions fault name) program refused = absurd refused
-opening-machine job code (Tests fault line) program refused = absurd refused
-opening-machine job code (NoTest name) program refused = absurd refused
-opening-machine job code ManyTests program refused = absurd refused
 
 pub machine-session : (job : Job) (refusal : JobRefusal) → RefusesMachine job refusal → Refuses job refusal
 machine-session job (Maps fault) p = p

@@ -5,11 +5,10 @@ ghost use Rattle.bpfdb_jobs.specs.Endings.{EndsPrinted};
 ghost use Rattle.bpfdb_jobs.specs.Jobs.{check_line};
 ghost use Rattle.bpfdb_options.specs.declared.subcommand.Subcommand.TheVariants.{Check};
 
-use bpfdb_faults::JobFault;
 use crate::job::Job;
 use crate::opening::program_of;
-use bpfdb_faults::{ended, flush_after, give_up};
 use bpf_isa::Program;
+use bpfdb_faults::{JobFault, ended, flush_after, give_up};
 use counted_io::{Counted, Piece, WriteFault, put_all};
 use std::alloc::Global;
 use std::io::Write;

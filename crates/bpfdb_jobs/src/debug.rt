@@ -3,12 +3,11 @@ ghost use Rattle.std.specs.Prelude.{◌≤◌};
 ghost use Rattle.bpfdb_jobs.specs.Done.{Debugs};
 ghost use Rattle.bpfdb_limits.specs.Limits.{IsLimit};
 
-use bpfdb_faults::JobFault;
 use crate::job::Job;
 use crate::opening::session_of;
-use bpfdb_faults::give_up;
 use bpf_session::laws::nothing_refused_nothing_missing;
 use bpf_session::{RunFault, run};
+use bpfdb_faults::{JobFault, give_up};
 use counted_io::Counted;
 use std::alloc::Global;
 use std::io::{Read, Write};

@@ -4,12 +4,11 @@ ghost use Rattle.bpfdb_jobs.specs.Connections.{layout_of};
 ghost use Rattle.bpfdb_jobs.specs.Done.{ServesGdb};
 ghost use Rattle.bpfdb_limits.specs.Limits.{IsLimit};
 
-use bpfdb_faults::JobFault;
 use crate::job::Job;
 use crate::opening::{session_of, wanted_of};
-use bpfdb_faults::give_up;
 use bpf_remote::{Layout, serve};
 use bpf_session::RunFault;
+use bpfdb_faults::{JobFault, give_up};
 use bpfdb_options::Registers;
 use counted_io::Counted;
 use std::alloc::Global;

@@ -3,12 +3,10 @@ ghost use Rattle.std.specs.Prelude.{◌≤◌};
 ghost use Rattle.bpfdb_jobs.specs.Endings.{EndsPrinted};
 ghost use Rattle.bpfdb_options.specs.declared.subcommand.Subcommand.TheVariants.{Asm, Disasm, Lines};
 
-use bpfdb_faults::JobFault;
 use crate::job::Job;
 use crate::opening::program_of;
-use bpfdb_faults::JobRefusal;
-use bpfdb_faults::{ended, give_up, write_out};
 use bpf_text::{assemble, disassemble, line_table};
+use bpfdb_faults::{JobFault, JobRefusal, ended, give_up, write_out};
 use counted_io::Counted;
 use std::alloc::Global;
 use std::io::Write;

@@ -4,9 +4,9 @@ ghost use Rattle.counted_io.specs.Writing.{Writes, WritesAfter};
 ghost use Rattle.bpfdb_faults.specs.Streams.{Gets, Loses};
 ghost use Rattle.bpfdb_jobs.specs.MapLines.{count_line, linked_text, linked_told, maps_line, name_line, name_lines, names_behind, shape_text};
 
-use bpfdb_faults::flush_after;
 use bpf_isa::MapShape;
 use bpf_link::short_at;
+use bpfdb_faults::flush_after;
 use counted_io::{Counted, Piece, WriteFault, put, put_all};
 use shown_text::put_shown;
 use std::io::Write;

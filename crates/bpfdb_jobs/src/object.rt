@@ -12,16 +12,14 @@ ghost use Rattle.bpfdb_jobs.specs.Refusals.{RefusesObject};
 ghost use Rattle.bpfdb_faults.specs.declared.refusal.JobRefusal.{JobRefusal as WhyRefused};
 ghost use Rattle.bpfdb_options.specs.declared.subcommand.Subcommand.TheVariants.{Link};
 
-use bpfdb_faults::JobFault;
 use crate::job::Job;
 use crate::maps::tell_linked;
-use bpfdb_faults::JobRefusal;
-use bpfdb_faults::{ended, give_up, told_as, write_out};
 use arrayvec::ArrayVec;
 use bpf_join::{JoinFault, join};
 use bpf_link::{
     LinkFault, LinkOptions, Linked, MOST_STUBS, Stub, fault_names, link_with, stubs_in,
 };
+use bpfdb_faults::{JobFault, JobRefusal, ended, give_up, told_as, write_out};
 use counted_io::{Counted, WriteFault};
 use std::alloc::Global;
 use std::io::Write;

@@ -12,13 +12,13 @@ ghost use Rattle.bpf_ring.specs.declared.fault.JournalFault.TheVariants.{OutOfMe
 ghost use Rattle.bpfdb_limits.specs.Limits.{IsLimit};
 
 use crate::job::Job;
-use bpfdb_faults::{JobRefusal, open_machine};
 use bpf_isa::{MapFault, MapShape, MapTable, Program, check};
 use bpf_journal::{JournalFault, RingKeeper, Timeline};
 use bpf_machine::Cpu;
 use bpf_origin::Wanted;
 use bpf_session::Session;
 use bpf_text::assemble;
+use bpfdb_faults::{JobRefusal, open_machine};
 use std::alloc::Global;
 
 /// The map table: that of an object's maps, or the one that the options name.

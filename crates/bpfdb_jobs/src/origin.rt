@@ -11,11 +11,8 @@ ghost use Rattle.bpfdb_jobs.specs.Refusals.{RefusesArrival};
 ghost use Rattle.bpfdb_limits.specs.Limits.{IsLimit};
 ghost use Rattle.bpfdb_options.specs.declared.subcommand.Subcommand.TheVariants.{Origin};
 
-use bpfdb_faults::JobFault;
 use crate::job::Job;
 use crate::opening::{session_of, timeline_of, wanted_of};
-use bpfdb_faults::JobRefusal;
-use bpfdb_faults::{flush_after, give_up};
 use crate::script::obey_script;
 use bpf_journal::{Keeper, RingKeeper, Timeline};
 use bpf_machine::Cpu;
@@ -23,6 +20,7 @@ use bpf_origin::{
     Extent, Part, Parts, Question, Told, Wanted, What, WhatFault, parts_asked, put_answer,
 };
 use bpf_session::run_kept;
+use bpfdb_faults::{JobFault, JobRefusal, flush_after, give_up};
 use bpfdb_replies::write_place;
 use counted_io::{Counted, WriteFault, put};
 use std::alloc::Global;

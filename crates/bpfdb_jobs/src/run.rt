@@ -3,11 +3,10 @@ ghost use Rattle.std.specs.Prelude.{◌≤◌};
 ghost use Rattle.bpfdb_jobs.specs.Endings.{EndsPrinted};
 ghost use Rattle.bpfdb_options.specs.declared.subcommand.Subcommand.TheVariants.{Run};
 
-use bpfdb_faults::JobFault;
 use crate::job::Job;
 use crate::opening::machine_of;
-use bpfdb_faults::{give_up, tell, tell_place, told_as};
 use bpf_session::{Ending, run_plain};
+use bpfdb_faults::{JobFault, give_up, tell, tell_place, told_as};
 use counted_io::Counted;
 use std::alloc::Global;
 use std::io::Write;

@@ -5,12 +5,10 @@ ghost use Rattle.bpfdb_jobs.specs.Shown.{EndsShown, HidesPart, Shows};
 ghost use Rattle.bpfdb_jobs.specs.Suites.{AreTestsOf};
 ghost use Rattle.bpfdb_options.specs.declared.test_part.TestPart.TheVariants.{Program};
 
-use bpfdb_faults::JobFault;
 use crate::job::Job;
-use bpfdb_faults::JobRefusal;
-use bpfdb_faults::{ended, give_up, write_out};
 use crate::suite::{asked_tests, refuse};
 use bpf_suite::{Suite, Test, TestList, WordsFault};
+use bpfdb_faults::{JobFault, JobRefusal, ended, give_up, write_out};
 use bpfdb_options::TestPart;
 use counted_io::Counted;
 use std::alloc::Global;

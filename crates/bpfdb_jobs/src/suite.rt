@@ -9,12 +9,10 @@ ghost use Rattle.bpfdb_jobs.specs.Shown.{EndsTest};
 ghost use Rattle.bpfdb_jobs.specs.Suites.{AreAsked, EndsTests, fault_of_file, fault_of_suite, report, status_of};
 ghost use Rattle.counted_io.specs.Writing.{Writes};
 
-use bpfdb_faults::JobFault;
 use crate::job::Job;
-use bpfdb_faults::JobRefusal;
-use bpfdb_faults::give_up;
 use crate::show::show_job;
 use bpf_suite::{FileFault, Suite, SuiteFault, TestList, choose, run_tests, write_plan};
+use bpfdb_faults::{JobFault, JobRefusal, give_up};
 use counted_io::{Counted, WriteFault};
 use std::alloc::Global;
 use std::io::Write;

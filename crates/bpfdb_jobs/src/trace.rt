@@ -10,12 +10,11 @@ ghost use Rattle.bpfdb_jobs.specs.Jobs.{shown_of, status_of_end, trace_out};
 ghost use Rattle.bpfdb_jobs.specs.Tellings.{Tells, fault_of_told};
 ghost use Rattle.bpfdb_options.specs.declared.subcommand.Subcommand.TheVariants.{Trace};
 
-use bpfdb_faults::JobFault;
 use crate::job::Job;
 use crate::opening::machine_of;
-use bpfdb_faults::give_up;
 use bpf_machine::{Cpu, Status};
 use bpf_trace::{Profile, Shown, Texts, put_profile, write_trace};
+use bpfdb_faults::{JobFault, give_up};
 use counted_io::{Counted, WriteFault};
 use std::alloc::Global;
 use std::io::Write;

@@ -15,15 +15,13 @@ ghost use Rattle.bpfdb_jobs.specs.Whynots.{RefusesGoals};
 ghost use Rattle.bpfdb_limits.specs.Limits.{IsLimit};
 ghost use Rattle.bpfdb_options.specs.declared.subcommand.Subcommand.TheVariants.{Whynot};
 
-use bpfdb_faults::JobFault;
 use crate::job::Job;
 use crate::origin::{Arrived, arrive, status_of};
-use bpfdb_faults::JobRefusal;
-use bpfdb_faults::{flush_after, give_up};
 use bpf_isa::Program;
 use bpf_journal::{JournalFault, Keeper, Timeline};
 use bpf_origin::{Question, Told, Wanted};
 use bpf_whynot::{Aim, AimFault, Search, put_whynot};
+use bpfdb_faults::{JobFault, JobRefusal, flush_after, give_up};
 use bpfdb_replies::write_place;
 use counted_io::{Counted, WriteFault, put};
 use std::alloc::Global;
