@@ -1,5 +1,5 @@
 -- Answers to why a slot was not come to.
-use Rattle.std.proofs.Common.{◌≡◌, ◌/◌, inl, inr, ℕ, List, [], Option, Some, None, Bool, true, false, Result, Ok, Err, IfOk, length, refl, sym, ap, subst, ◌∙◌, arith}
+use Rattle.std.proofs.Common.{◌≡◌, ◌/◌, inl, inr, ℕ, List, [], Option, Some, None, true, false, Result, Ok, Err, IfOk, length, refl, sym, ap, subst, ◌∙◌, arith}
 use Rattle.std.specs.Prelude.{◌==◌, IfErr, IfNone, IfSome, MatchResult}
 use Rattle.std.proofs.lemmas.Grind.{common_steps}
 use Rattle.std.specs.Result.{result_ok}
@@ -96,6 +96,6 @@ module _ {K : Type 0} (holds : K → List Kept → Type 0) (refusals room : K �
   -- Why there is none.
   pub tells-none : (fault : AimFault) (asked : List ℕ) (s : SessionValue K) (moves : ℕ) (shown : List ℕ)
       → IsNoAim s.moment.state.program asked fault → Fits (aim_refusal fault) shown → TellsWhynot holds refusals room asked s s moves 0 shown
-  tells-none (Goal fault) asked s moves shown no fits =
-      inl (subst (λ (goals : Result (List ℕ) GoalFault). TellsGoals holds refusals room goals s s moves 0 shown) (sym no) (refl, refl, fits))
-  tells-none OutOfMemory asked s moves shown no fits = inr (refl, refl, fits)
+  tells-none (Goal fault) asked s moves shown none fits =
+      inl (subst (λ (goals : Result (List ℕ) GoalFault). TellsGoals holds refusals room goals s s moves 0 shown) (sym none) (refl, refl, fits))
+  tells-none OutOfMemory asked s moves shown none fits = inr (refl, refl, fits)

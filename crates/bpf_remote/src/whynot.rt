@@ -57,8 +57,9 @@ fn aim_by(alloc: Global, program: &Program, digits: &[u8]) -> Option<Result<Aim,
 {
     let len = digits.len() / 2;
     let mut buffer = [0; LONGEST_BODY / 2];
-    match hex::decode_to_slice(digits, &mut buffer[..len]) {
-        Ok(()) => Some(Aim::find(alloc, program, &buffer[..len])),
+    let text = &mut buffer[..len];
+    match hex::decode_to_slice(digits, text) {
+        Ok(()) => Some(Aim::find(alloc, program, text)),
         Err(_) => None,
     }
 }

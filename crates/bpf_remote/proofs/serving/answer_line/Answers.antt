@@ -1,4 +1,3 @@
-use Rattle.std.proofs.Common.{sym, ◌∙◌}
 use Rattle.bpf_remote.proofs.Bodies.{by-why}
 use Rattle.bpf_remote.proofs.serving.answer_line.Goals as goal
 

@@ -2,7 +2,6 @@ use Rattle.std.proofs.Common.{◌≡◌, ℕ, Bool, List, Some, refl, ap, subst,
 use Rattle.arrayvec.specs.ArrayVec.{ArrayVec}
 use Rattle.bpf_journal.specs.Tracks.{Track}
 use Rattle.bpf_remote.specs.Whynots.{query_of}
-use Rattle.bpf_session.specs.Points.{Bounds}
 use Rattle.bpf_session.specs.Sessions.{HasPast}
 use Rattle.bpf_whynot.specs.Answers.{why_not}
 use Rattle.bpf_whynot.specs.Tables.{AreGoals, told_by}
