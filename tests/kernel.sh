@@ -67,8 +67,8 @@ awk 'BEGIN { printf "\\020\\000"; for (i = 0; i < 16; i++) printf "\\%03o", i }'
 for name in tables tries queues reads world events stacks; do
     source=tests/program/linux/$name.c
     compiled "$plan/$name.o" -DFOR_KERNEL=16 "$source"
-    sed -n "s/^TEST(\([a-z_]*\))\$/$name.o \1 context/p" "$source"
-done > "$plan/plan"
+    sed -n "s/^TEST(\([a-z_]*\))\$/$name.o \1 context/p" "$source" >> "$plan/plan"
+done
 tests=$(wc -l < "$plan/plan")
 
 # Random calls on maps.
@@ -103,6 +103,7 @@ while read -r source entry kind inputs place library; do
     [ -f "$plan/$name.o" ] || compiled "$plan/$name.o" "$source"
     echo "$name.o $entry $inputs" >> "$plan/plan"
 done < "$work/programs"
+[ "$failures" -eq 0 ] || exit 1
 
 # The kernel's own answers.
 if [ -z "${kernel-}" ]; then
@@ -116,7 +117,10 @@ else
         -append 'console=ttyS0 quiet panic=-1 mitigations=off' < /dev/null 2>&1 | tr -d '\r' |
         sed -n 's/^.*\(kernel [0-9]\)/\1/; /^kernel [0-9]/,/^done$/p' > "$work/runs"
 fi
-[ "$(tail -n 1 "$work/runs")" = done ] || complain "the kernel came to no end: $(tail -n 1 "$work/runs")"
+if [ "$(tail -n 1 "$work/runs")" != done ]; then
+    complain "the kernel came to no end: $(tail -n 1 "$work/runs")"
+    exit 1
+fi
 sed '/^done$/d' "$work/runs" | awk -v folder="$work" '
     NR == 1 { next }
     /^# / { file = folder "/" $2 "-" $3 "-" $4 ".runs"; printf "" > file; next }
@@ -133,7 +137,7 @@ $(head -n "$tests" "$plan/plan")
 PLAN
 for seed in 1 2 3 4 5; do
     python3 tests/kernel/steered.py results "$work/calls-$seed" "$work/wanted-$seed" < "$work/steered.o-steered-calls-$seed.runs" > "$work/told" 2>&1
-    count=$((count + $(tail -n 1 "$work/told")))
+    count=$((count + $(sed -n '$s/^[0-9]*$/&/p' "$work/told" | grep . || echo 0)))
     [ "$(wc -l < "$work/told")" = 1 ] || complain "random calls, seed $seed: $(head -n 3 "$work/told")"
 done
 compiled "$work/library.o" share/bpfdb-linux.c
