@@ -280,7 +280,7 @@ length in r2. Without it the context is empty, and r1 is 0.
 Example: -m packet.bin";
 
 /// `--maps`.
-pub const MAPS: &str = "Maps: V bytes a value, 1 to 256, N entries, 1 to 4096";
+pub const MAPS: &str = "Maps: V bytes, 1 to 256, and N entries, 1 to 4096";
 
 pub const MAPS_LONG: &str = "The program's maps, at most 16, each as VxN: V bytes a value, 1 to
 256, and N entries, 1 to 4096; at most 65536 bytes a map. Without it
@@ -288,7 +288,7 @@ there are none, and a program that names a map is refused (C12). An
 object has maps of its own. Example: --maps 8x2,4x256";
 
 /// `--journal`.
-pub const JOURNAL: &str = "Bytes of journal, 1024 to 16777216";
+pub const JOURNAL: &str = "Journal bytes, 1024 to 16777216";
 
 pub const JOURNAL_LONG: &str =
     "Size of the journal of moves that can be taken back, in bytes, 1024 to
@@ -304,7 +304,7 @@ this limit `run` ends with exit status 1, and a command with the word
 limit. Example: --steps 5000";
 
 /// `--from`.
-pub const FROM: &str = "First step that is shown, 1 to 1000000000";
+pub const FROM: &str = "First step shown, 1 to 1000000000";
 
 pub const FROM_LONG: &str = "Number of the first step that is shown, 1 to 1000000000. The steps
 before it take no more time than in a run. Example: --from 5000";
@@ -316,13 +316,13 @@ pub const COUNT_LONG: &str = "Most steps that are shown, 1 to 1000000000. Withou
 the first one on. Example: --count 20";
 
 /// `--branches`.
-pub const BRANCHES: &str = "Shows the conditional jumps alone, and where each went";
+pub const BRANCHES: &str = "Shows conditional jumps alone, and where each went";
 
 /// `--profile`.
 pub const PROFILE: &str = "Tells how often each instruction ran, and no steps";
 
 /// `--listing`.
-pub const LISTING: &str = "FILE is a listing (docs/LISTING.md), assembled first";
+pub const LISTING: &str = "FILE is a listing (LISTING.md), assembled first";
 
 /// `--object`.
 pub const OBJECT: &str = "FILE is an object of clang, linked first";
@@ -382,7 +382,7 @@ Example: --script steps";
 pub const AS_COMPILED: &str = "Leaves the fields of CO-RE where they were compiled";
 
 /// `--lines`.
-pub const LINES_MOST: &str = "Most lines of moves, 1 to 1000000000";
+pub const LINES_MOST: &str = "Most lines told, 1 to 1000000000";
 
 pub const LINES_MOST_LONG: &str =
     "Most lines of moves in an answer, 1 to 1000000000. If there are more,
@@ -393,7 +393,7 @@ the last line is `cut: there are more lines`, and the exit status is
 pub const ADDRESSES: &str = "Follows the registers that make addresses, too";
 
 /// `--alone`.
-pub const ALONE: &str = "Leaves out where the values came from that decided it";
+pub const ALONE: &str = "Leaves out where the compared values came from";
 
 /// `--only NAME`.
 pub const ONLY: &str = "Runs the tests of this name alone";
@@ -419,8 +419,7 @@ pub const WHAT: &str = "r0 to r9, or ADDRESS:COUNT; without it r0, or a fault's 
 pub const GOAL: &str = "Slot, or slots with commas between";
 
 /// FILE.
-pub const PROGRAM: &str =
-    "Program: its raw words, or with --listing its listing, with --object its object";
+pub const PROGRAM: &str = "Program: raw words, with --listing a listing, with --object an object";
 
 pub const LISTING_FILE: &str = "Listing to be assembled";
 
