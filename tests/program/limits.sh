@@ -192,7 +192,7 @@ cp "$parts/suites/cells.test" "$parts/suites/alone.test" .
     output 'link of two objects with 256 kB of stack' both link --with calls.o overrun.o
     for subcommand in run trace debug origin gdb check disasm; do
         : > script
-        run $subcommand $(cat told) typed
+        run $subcommand $(told_maps) typed
         cp found/out wanted/out
         cp found/err wanted/err
         cp found/status wanted/status
