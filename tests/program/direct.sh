@@ -27,7 +27,7 @@ result '0x1\n' run --object --stub 2=7,1=0 -m two_key arrays.o
 result 'ok 13 instructions in 15 slots\n' check --object arrays.o
 result 'ok 22 instructions in 29 slots\n' check --object point.o
 result 'ok 13 instructions in 13 slots\n' check --object --entry first programs.o
-refused 'refused E25 at slot 8: unknown helper 5 (bpf_ktime_get_ns): --stub 5=VALUE answers it: prog, slot 7' check --object --entry second programs.o
+refused 'refused E25 at slot 8: unknown helper 5 (bpf_ktime_get_ns): --with OBJECT or --stub 5=VALUE answers it: prog, slot 7' check --object --entry second programs.o
 result 'ok 14 instructions in 14 slots\n' check --object --entry second --stub 5=7 programs.o
 session 'debug --object' 'stepi 13\nx 0x300000000 8\nundo\n' \
     '13 forward; done; at 1: ldmapval r2, 0, 0\n0x300000000: 0100000000000000\n13 back; done; at 0: ja32 L12\n' debug --object point.o
