@@ -1,6 +1,6 @@
 # bpfdb: try, run, check, test, wrong-bodies, dist, install, uninstall, pages and fmt. The toolchain's command is rt; docs/WORKING.md lists what
 # else is called.
-.PHONY: try run check test wrong-bodies dist install uninstall pages fmt
+.PHONY: try run check test wrong-bodies dist install uninstall files pages fmt
 
 PREFIX = /usr/local
 DESTDIR =
@@ -57,6 +57,11 @@ uninstall:
 	@rm -f "$(DESTDIR)$(BIN)/bpfdb-dap"
 	@rm -rf "$(DESTDIR)$(DOC)" "$(DESTDIR)$(SHARE)/page"
 	@[ ! -d "$(DESTDIR)$(SHARE)" ] || rmdir "$(DESTDIR)$(SHARE)"
+
+# Writes a page with a row of each file, its first sentence.
+files:
+	@mkdir -p out
+	@sh docs/tables.sh --files > out/FILES.md
 
 # Makes the tables of the pages and what is made of them anew, and holds the pages against the repository.
 pages:

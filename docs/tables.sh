@@ -1,9 +1,9 @@
 #!/bin/sh
-# The table of crates in docs/ARCHITECTURE.md and those of files in docs/FILES.md, made from crates.txt and from the first sentence of each file, and
+# The table of crates in docs/ARCHITECTURE.md, made from crates.txt and from the first sentence of each crate, and
 # the code in docs/CALLING.md with the crates that it uses, and the definitions in docs/HEADLINE.md; and the tables of commands in README.md, in the
 # help of `bpfdb debug` and in share/bpfdb/habits.py, made from docs/commands.txt, with what refusals mean, of docs/COMMANDS.md; and the contents
 # of docs/COMMANDS.md, made from its headings. 'docs/tables.sh' writes them anew; 'docs/tables.sh --check' fails
-# where a page and the files differ. How many definitions the headline rests on is counted by docs/rests.py, where there is a python3.
+# where a page and the files differ, and 'docs/tables.sh --files' prints a page with a row of each file, by its first sentence. How many definitions the headline rests on is counted by docs/rests.py, where there is a python3.
 #
 # A table stands between the lines '<!-- docs/tables.sh: NAME -->' and '<!-- docs/tables.sh: end -->' of a page, a whole file of
 # code between such lines with 'code FILE' for NAME, and definitions of a file of specs/ with 'definitions FILE NAME..'. A file of
@@ -302,13 +302,21 @@ page() {
 
 list_crates > "$work/crates"
 { echo; list_files; } > "$work/files"
+if [ "${1:-}" = --files ]; then
+    printf '# Each file\n\n'
+    printf "Beside these files, each crate's \`src/lib.rt\` (or \`main.rt\`) is its table of contents, and \`proofs/\` has a\n"
+    printf 'folder for each function whose proof the checker could not find alone.\n'
+    cat "$work/files"
+    [ ! -s "$work/faults" ]
+    exit
+fi
 list_commands > "$work/commands"
 help_commands > "$work/help"
 refusals > "$work/refusals"
 contents docs/COMMANDS.md > "$work/contents"
 stands_apart
 ! command -v python3 > /dev/null || python3 docs/rests.py bpfdb_jobs.Done.Debugs > "$work/rests" || fault 'docs/rests.py'
-for file in README.md docs/COMMANDS.md docs/ARCHITECTURE.md docs/FILES.md docs/CALLING.md docs/HEADLINE.md; do
+for file in README.md docs/COMMANDS.md docs/ARCHITECTURE.md docs/CALLING.md docs/HEADLINE.md; do
     page "$file" > "$work/page"
     hold "${1:-}" "$file"
 done
