@@ -4,11 +4,11 @@ use Rattle.std.proofs.Common.{◌≡◌, ◌+◌, ◌-◌, ◌<◌, ◌≤◌, �
 use Rattle.std.proofs.lemmas.Bool.Decides.{nat_tests}
 use Rattle.std.proofs.lemmas.List.{drop-drop, length-drop}
 use Rattle.std.proofs.lemmas.List.Elements.{All-head, All-tail}
-use Rattle.bpf_machine.specs.ByAddress.{byte}
+use Rattle.bpf_steps.specs.ByAddress.{byte}
 use Rattle.bpf_entries.specs.declared.entry.Entry.{Entry}
 use Rattle.bpf_entries.specs.Past.{Frames, Same, Fewer, More, past}
 use Rattle.bpf_machine.specs.Moves.{overwritten}
-use Rattle.bpf_machine.specs.State.{State, depth}
+use Rattle.bpf_steps.specs.State.{State, depth}
 use Rattle.bpf_entries.specs.Keeping.{Kept}
 use Rattle.bpf_journal.specs.Histories.{Record, IsRun, kept_of}
 use Rattle.bpf_journal.specs.Keepers.{IsPlace, IsWithin, Passes, TellsByteBefore, told_before}

@@ -10,7 +10,7 @@ use Rattle.bpf_entries.proofs.Keeping.{fit_all}
 use Rattle.bpf_machine.specs.declared.moves.Move.{Move}
 use Rattle.bpf_machine.specs.declared.moves.Move.TheVariants as move
 use Rattle.bpf_machine.specs.Moves.{Leads, HasCome, moved, overwritten}
-use Rattle.bpf_machine.specs.State.{State}
+use Rattle.bpf_steps.specs.State.{State}
 use Rattle.bpf_journal.specs.declared.taken.Taken.{Taken}
 use Rattle.bpf_journal.specs.Again.{again_entry, again_of, move_again, seen_again}
 use Rattle.bpf_journal.specs.Courses.{MakesNew, StaysThere, GoesBackOne, MakesAgain}

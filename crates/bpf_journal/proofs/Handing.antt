@@ -11,7 +11,7 @@ use Rattle.bpf_machine.specs.declared.moves.Move.{Move}
 use Rattle.bpf_machine.specs.declared.moves.Move.TheVariants as move
 use Rattle.bpf_machine.specs.Fields.{EntriesFit}
 use Rattle.bpf_machine.specs.Moves.{Leads, overwritten}
-use Rattle.bpf_machine.specs.State.{State}
+use Rattle.bpf_steps.specs.State.{State}
 use Rattle.bpf_ring.specs.Heads.{head_of}
 use Rattle.bpf_ring.specs.declared.keeper.Head.{Head}
 use Rattle.bpf_journal.specs.declared.taken.Taken.{Taken}

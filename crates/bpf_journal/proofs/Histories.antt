@@ -7,12 +7,12 @@ use Rattle.bpf_entries.specs.declared.entry.Entry.{Entry}
 use Rattle.bpf_machine.specs.declared.moves.Move.{Move}
 use Rattle.bpf_machine.specs.Edits.{edit_entry}
 use Rattle.bpf_machine.specs.Moves.{Leads, HasCome, overwritten}
-use Rattle.bpf_machine.specs.State.{State}
-use Rattle.bpf_machine.specs.declared.change.Change.{Change}
-use Rattle.bpf_machine.specs.declared.change.Change.TheVariants.{Set, Go, Store, Fetch, Call, Return, Cell, Trace, Stop}
+use Rattle.bpf_steps.specs.State.{State}
+use Rattle.bpf_steps.specs.declared.change.Change.{Change}
+use Rattle.bpf_steps.specs.declared.change.Change.TheVariants.{Set, Go, Store, Fetch, Call, Return, Cell, Trace, Stop}
 use Rattle.bpf_machine.specs.declared.moves.Move.TheVariants as move
-use Rattle.bpf_machine.specs.Entries.{entry_of}
-use Rattle.bpf_machine.specs.Next.{change}
+use Rattle.bpf_steps.specs.Entries.{entry_of}
+use Rattle.bpf_steps.specs.Next.{change}
 use Rattle.bpf_journal.specs.EditEntries.{is_of_step}
 use Rattle.bpf_entries.specs.Keeping.{Kept, kept_weight, keep}
 use Rattle.bpf_journal.specs.Histories.{Record, IsRun, kept_of, record_weight, newest, older, is_step, StandsFor, HasHistory}

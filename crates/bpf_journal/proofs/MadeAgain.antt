@@ -15,12 +15,12 @@ use Rattle.bpf_machine.specs.declared.edit.EditFault.TheVariants.{AddressNotPres
 use Rattle.bpf_machine.specs.declared.moves.Move.{Move}
 use Rattle.bpf_machine.specs.declared.moves.Move.TheVariants as move
 use Rattle.bpf_machine.specs.Edits.{IsEditable, edited, edit_entry, replaced_run, unless, with_run}
-use Rattle.bpf_machine.specs.Entries.{step_entry}
+use Rattle.bpf_steps.specs.Entries.{step_entry}
 use Rattle.bpf_machine.specs.Moves.{IsMovable, Leads, moved, overwritten}
-use Rattle.bpf_machine.specs.Platform.{cell_address}
-use Rattle.bpf_machine.specs.Regions.{Image, IsImage, index_of, paste, put, run, run_at, with_bytes}
-use Rattle.bpf_machine.specs.State.{State, IsState, register}
-use Rattle.bpf_machine.proofs.ByAddress.{fits_within, length-run}
+use Rattle.bpf_steps.specs.Platform.{cell_address}
+use Rattle.bpf_steps.specs.Regions.{Image, IsImage, index_of, paste, put, run, run_at, with_bytes}
+use Rattle.bpf_steps.specs.State.{State, IsState, register}
+use Rattle.bpf_steps.proofs.ByAddress.{fits_within, length-run}
 use Rattle.bpf_machine.proofs.Cells.{cell_present}
 use Rattle.bpf_machine.proofs.Editable.{able_bytes, able_cell, able_register}
 use Rattle.bpf_journal.specs.Again.{again_entry, move_again, seen_again, written}

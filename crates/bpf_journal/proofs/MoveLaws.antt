@@ -6,7 +6,7 @@ use Rattle.bpf_machine.specs.declared.moves.Move.{Move}
 use Rattle.bpf_machine.specs.declared.moves.Move.TheVariants as move
 use Rattle.bpf_entries.specs.Weights.{greatest_weight, weight}
 use Rattle.bpf_machine.specs.Moves.{IsMovable, moved}
-use Rattle.bpf_machine.specs.State.{State}
+use Rattle.bpf_steps.specs.State.{State}
 use Rattle.bpf_machine.specs.Undoing.{undone}
 use Rattle.bpf_machine.proofs.Undoing.{undoing}
 use Rattle.bpf_journal.specs.declared.fault.MoveFault.{MoveFault}

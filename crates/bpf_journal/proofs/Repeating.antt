@@ -8,10 +8,10 @@ use Rattle.bpf_entries.specs.Keeping.{Kept, kept_weight, keep}
 use Rattle.bpf_entries.specs.Past.{is_of_step}
 use Rattle.bpf_machine.specs.declared.moves.Move.{Move}
 use Rattle.bpf_machine.specs.declared.moves.Move.TheVariants as move
-use Rattle.bpf_machine.specs.Entries.{step_entry}
+use Rattle.bpf_steps.specs.Entries.{step_entry}
 use Rattle.bpf_machine.specs.Moves.{moved}
-use Rattle.bpf_machine.specs.Next.{next}
-use Rattle.bpf_machine.specs.State.{State}
+use Rattle.bpf_steps.specs.Next.{next}
+use Rattle.bpf_steps.specs.State.{State}
 use Rattle.bpf_ring.specs.Runs.{AreSteps, state_after, kept_on}
 use Rattle.bpf_ring.specs.Stretches.{AreUnmarked, IsUnmarked}
 use Rattle.bpf_journal.specs.Again.{again_entry, again_of}

@@ -3,8 +3,8 @@ use Rattle.std.proofs.Common.{◌≡◌, ◌≤◌, ◌==◌, ◌+◌, ℕ, zero
 use Rattle.std.specs.Prelude.{sum_by}
 use Rattle.bpf_entries.specs.Keeping.{Kept, kept_weight, keep}
 use Rattle.bpf_machine.specs.declared.moves.Move.TheVariants.{Step}
-use Rattle.bpf_machine.specs.Entries.{step_entry}
-use Rattle.bpf_machine.specs.State.{State}
+use Rattle.bpf_steps.specs.Entries.{step_entry}
+use Rattle.bpf_steps.specs.State.{State}
 use Rattle.bpf_ring.specs.Runs.{AreSteps, state_after, kept_after}
 use Rattle.bpf_journal.specs.Again.{again_of}
 use Rattle.bpf_journal.specs.Histories.{HasHistory, IsRun, Record, StandsFor, kept_of, record_weight}

@@ -3,28 +3,28 @@ use Rattle.std.proofs.Common.{◌≡◌, ◌≤◌, ◌<◌, ◌⊎◌, ◌+◌,
 use Rattle.std.specs.Prelude.{◌&&◌, nat_le, nat_lt, if◌then◌else◌, IsSome, unwrap_or, option_map, slice_index}
 use Rattle.std.proofs.lemmas.Bool.Decides.{nat_tests}
 use Rattle.std.proofs.lemmas.List.{length-append}
-use Rattle.bpf_machine.specs.declared.change.Change.{Change}
-use Rattle.bpf_machine.specs.declared.change.Change.TheVariants.{Set, Go, Store, Fetch, Call, Return, Cell, Trace, Stop}
+use Rattle.bpf_steps.specs.declared.change.Change.{Change}
+use Rattle.bpf_steps.specs.declared.change.Change.TheVariants.{Set, Go, Store, Fetch, Call, Return, Cell, Trace, Stop}
 use Rattle.bpf_machine.specs.declared.edit.Edit.{Edit}
 use Rattle.bpf_machine.specs.declared.edit.Edit.TheVariants as edit
 use Rattle.bpf_entries.specs.declared.entry.Entry.{Entry}
 use Rattle.bpf_entries.specs.declared.entry.Entry.TheVariants as entry
 use Rattle.bpf_machine.specs.declared.moves.Move.{Move}
 use Rattle.bpf_machine.specs.declared.moves.Move.TheVariants as move
-use Rattle.bpf_machine.specs.Platform.{cell_address, frame_base, frame_len}
-use Rattle.bpf_machine.specs.Regions.{Image, IsImage, index_of, run, run_at}
-use Rattle.bpf_machine.specs.ByAddress.{byte_at, byte}
-use Rattle.bpf_machine.specs.Fetched.{Fits}
-use Rattle.bpf_machine.specs.State.{State, IsState, depth}
-use Rattle.bpf_machine.specs.Calls.{entered, saved}
-use Rattle.bpf_machine.specs.Next.{change, changed, next}
+use Rattle.bpf_steps.specs.Platform.{cell_address, frame_base, frame_len}
+use Rattle.bpf_steps.specs.Regions.{Image, IsImage, index_of, run, run_at}
+use Rattle.bpf_steps.specs.ByAddress.{byte_at, byte}
+use Rattle.bpf_steps.specs.Fetched.{Fits}
+use Rattle.bpf_steps.specs.State.{State, IsState, depth}
+use Rattle.bpf_steps.specs.Calls.{entered, saved}
+use Rattle.bpf_steps.specs.Next.{change, changed, next}
 use Rattle.bpf_machine.specs.Edits.{IsEditable, edited, edit_entry, with_run, replaced_run}
-use Rattle.bpf_machine.specs.Entries.{entry_of}
+use Rattle.bpf_steps.specs.Entries.{entry_of}
 use Rattle.bpf_machine.specs.Moves.{Leads, IsMovable, moved, overwritten}
 use Rattle.bpf_machine.specs.StepLaws.{KeepsOtherBytes, MovesFrames}
 use Rattle.bpf_entries.specs.Past.{Same, past, replaced, stood}
 use Rattle.bpf_machine.proofs.Editable.{able_bytes, able_cell}
-use Rattle.bpf_machine.proofs.ByAddress.{byte_within, run_reads, length-run, fits_within}
+use Rattle.bpf_steps.proofs.ByAddress.{byte_within, run_reads, length-run, fits_within}
 use Rattle.bpf_machine.proofs.Cells.{cell_present}
 use Rattle.bpf_machine.proofs.Fitting.{change_fits}
 use Rattle.bpf_machine.proofs.StepLaws.{keeps_cell, law_bytes, law_rest}

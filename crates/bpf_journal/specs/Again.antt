@@ -10,9 +10,9 @@ use Rattle.bpf_machine.specs.declared.edit.Edit.TheVariants as edit
 use Rattle.bpf_machine.specs.declared.moves.Move.{Move}
 use Rattle.bpf_machine.specs.declared.moves.Move.TheVariants as move
 use Rattle.bpf_machine.specs.Edits.{replaced_run}
-use Rattle.bpf_machine.specs.Entries.{step_entry}
-use Rattle.bpf_machine.specs.Platform.{cell_address}
-use Rattle.bpf_machine.specs.State.{State, register}
+use Rattle.bpf_steps.specs.Entries.{step_entry}
+use Rattle.bpf_steps.specs.Platform.{cell_address}
+use Rattle.bpf_steps.specs.State.{State, register}
 use Rattle.bpf_journal.specs.Histories.{Record}
 
 -- What an edit writes. A new pc makes the machine run.

@@ -1,7 +1,7 @@
 -- What is left of a course where its newest moves are taken back at once.
 use Rattle.std.specs.Prelude.{◌≡◌, ℕ, zero, suc, Bool, List, [], ◌∷◌}
 use Rattle.bpf_entries.specs.Keeping.{Kept}
-use Rattle.bpf_machine.specs.State.{State}
+use Rattle.bpf_steps.specs.State.{State}
 use Rattle.bpf_ring.specs.declared.backward.Stays.{Stays}
 use Rattle.bpf_ring.specs.Ways.{IsPlain, Made}
 use Rattle.bpf_journal.specs.Histories.{Record, kept_of}

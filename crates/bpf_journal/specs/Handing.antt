@@ -2,7 +2,7 @@
 use Rattle.std.specs.Prelude.{◌≡◌, ◌≤◌, ℕ, Bool, false, List, [], ◌∷◌, Option, None, OnSome, is_some, map, if◌then◌else◌}
 use Rattle.bpf_entries.specs.Keeping.{Kept, keep, kept_weight}
 use Rattle.bpf_entries.specs.Past.{is_of_step}
-use Rattle.bpf_machine.specs.State.{State}
+use Rattle.bpf_steps.specs.State.{State}
 pub use Rattle.bpf_ring.specs.Held.{RingHolds}
 use Rattle.bpf_ring.specs.Ways.{HandsBack, IsWay, Made, kept_by}
 use Rattle.bpf_ring.specs.declared.backward.Stays.{Stays}

@@ -5,7 +5,7 @@ use Rattle.bpf_machine.specs.declared.moves.Move.{Move}
 use Rattle.bpf_machine.specs.declared.moves.Move.TheVariants as move
 use Rattle.bpf_entries.specs.Keeping.{Kept, kept_weight}
 use Rattle.bpf_machine.specs.Moves.{Leads, overwritten}
-use Rattle.bpf_machine.specs.State.{State}
+use Rattle.bpf_steps.specs.State.{State}
 
 -- A move with the whole state before it. The first move of a command is marked.
 pub record Record : Type 0 where

@@ -6,8 +6,8 @@ use Rattle.bpf_journal.specs.Counts.{one_more}
 use Rattle.bpf_entries.specs.Keeping.{IsSize, Kept, keep, kept_weight}
 use Rattle.bpf_journal.specs.Histories.{newest, older}
 use Rattle.bpf_journal.specs.Replaced.{byte_before, depth_before}
-use Rattle.bpf_machine.specs.Next.{next}
-use Rattle.bpf_machine.specs.State.{State}
+use Rattle.bpf_steps.specs.Next.{next}
+use Rattle.bpf_steps.specs.State.{State}
 
 -- How often a keeper has refused, after one more push.
 abbrev pub refusals_after : {E : Type 0} → Result (Unit {0}) E → ℕ → ℕ

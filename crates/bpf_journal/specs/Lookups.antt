@@ -1,7 +1,7 @@
 -- Records that are looked up in a history, from the newest on.
 use Rattle.std.specs.Prelude.{◌≡◌, ◌≢◌, ◌≤◌, ◌<◌, length, ℕ, zero, suc, Bool, not, ◌-◌, ◌==◌, List, [], ◌∷◌, Option, Some, None, option_map, if◌then◌else◌}
-use Rattle.bpf_machine.specs.ByAddress.{byte}
-use Rattle.bpf_machine.specs.State.{State}
+use Rattle.bpf_steps.specs.ByAddress.{byte}
+use Rattle.bpf_steps.specs.State.{State}
 use Rattle.bpf_journal.specs.Histories.{Record}
 use Rattle.bpf_journal.specs.declared.timeline.ByteChange.{ByteChange}
 

@@ -1,13 +1,13 @@
 -- The bytes of memory that a move replaced, as its entry tells them, so that what a byte was is read off the kept entries, and no state
 -- is needed for it.
 use Rattle.std.specs.Prelude.{◌≡◌, ℕ, Bool, is_some}
-use Rattle.bpf_machine.specs.ByAddress.{byte}
+use Rattle.bpf_steps.specs.ByAddress.{byte}
 use Rattle.bpf_entries.specs.declared.entry.Entry.{Entry}
 pub use Rattle.bpf_entries.specs.Before.{byte_in, byte_before, depth_by, depth_before}
 use Rattle.bpf_entries.specs.Past.{replaced}
 use Rattle.bpf_machine.specs.declared.moves.Move.{Move}
 use Rattle.bpf_machine.specs.Moves.{Leads, overwritten}
-use Rattle.bpf_machine.specs.State.{State, depth}
+use Rattle.bpf_steps.specs.State.{State, depth}
 
 -- Whether a move replaced a run.
 abbrev pub replaces_bytes : Entry → Bool

@@ -4,7 +4,7 @@ use Rattle.bpf_entries.specs.declared.entry.Entry.{Entry}
 use Rattle.bpf_machine.specs.declared.moves.Move.{Move}
 use Rattle.bpf_machine.specs.declared.moves.Move.TheVariants as move
 use Rattle.bpf_machine.specs.Edits.{edit_fault}
-use Rattle.bpf_machine.specs.State.{State}
+use Rattle.bpf_steps.specs.State.{State}
 use Rattle.bpf_entries.specs.Status.{has_ended}
 use Rattle.bpf_journal.specs.declared.fault.MoveFault.{MoveFault}
 use Rattle.bpf_journal.specs.declared.fault.MoveFault.TheVariants as fault

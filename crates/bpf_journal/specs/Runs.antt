@@ -1,7 +1,7 @@
 -- How a run of steps ends over a keeper, which may refuse one, and the history that it leaves.
 use Rattle.std.specs.Prelude.{◌≡◌, ◌≤◌, ◌<◌, ◌==◌, ℕ, zero, suc, Bool, true, false, List}
 use Rattle.bpf_entries.specs.Keeping.{keep}
-use Rattle.bpf_machine.specs.State.{State}
+use Rattle.bpf_steps.specs.State.{State}
 use Rattle.bpf_machine.specs.declared.moves.Move.TheVariants.{Step}
 use Rattle.bpf_ring.specs.Runs.{AreSteps, Running, RunsTo, state_after}
 use Rattle.bpf_journal.specs.Counts.{one_more}

@@ -1,7 +1,7 @@
 -- What is left where the newest move is taken back.
 use Rattle.std.specs.Prelude.{◌≡◌, List, [], ◌∷◌, Option, Some, None}
 use Rattle.bpf_machine.specs.Moves.{overwritten}
-use Rattle.bpf_machine.specs.State.{State}
+use Rattle.bpf_steps.specs.State.{State}
 use Rattle.bpf_entries.specs.Keeping.{Kept}
 use Rattle.bpf_entries.specs.Past.{is_of_step}
 use Rattle.bpf_journal.specs.Histories.{Record, StandsFor, is_step}

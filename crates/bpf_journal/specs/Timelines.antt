@@ -1,9 +1,9 @@
 -- A state with the keeper of the moves that led to it: what a move leaves of both, and what going back leaves.
 use Rattle.std.specs.Prelude.{◌≡◌, ℕ, Bool, List, Option, Result, Err, OnOk, IfOk, IfErr}
 use Rattle.bpf_machine.specs.declared.moves.Move.{Move}
-use Rattle.bpf_machine.specs.Entries.{step_entry}
+use Rattle.bpf_steps.specs.Entries.{step_entry}
 use Rattle.bpf_machine.specs.Moves.{IsMovable, Leads}
-use Rattle.bpf_machine.specs.State.{State}
+use Rattle.bpf_steps.specs.State.{State}
 use Rattle.bpf_journal.specs.declared.fault.TimelineFault.{TimelineFault}
 use Rattle.bpf_journal.specs.declared.fault.TimelineFault.TheVariants as fault
 use Rattle.bpf_journal.specs.Counts.{one_more}

@@ -2,7 +2,7 @@
 use Rattle.std.specs.Prelude.{◌≡◌, ◌≤◌, ◌+◌, ℕ, zero, suc, List, [], ◌∷◌, map, sum_by}
 use Rattle.bpf_entries.specs.Keeping.{Kept, keep}
 use Rattle.bpf_machine.specs.Moves.{Leads, moved}
-use Rattle.bpf_machine.specs.State.{State}
+use Rattle.bpf_steps.specs.State.{State}
 use Rattle.bpf_ring.specs.declared.keeper.RingKeeper.{RingKeeper}
 use Rattle.bpf_journal.specs.Again.{again_of}
 pub use Rattle.bpf_journal.specs.Handing.{RingHolds, ring_room}

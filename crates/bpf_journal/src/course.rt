@@ -3,7 +3,7 @@
 ghost use Rattle.std.specs.Prelude.{◌≡◌, ◌≤◌, List, length, min, count_by, sum_by, OnOk, IfOk, IfErr, false};
 ghost use Rattle.bpf_entries.specs.Status.{has_ended};
 ghost use Rattle.bpf_machine.specs.declared.moves.Move.TheVariants as move_of;
-ghost use Rattle.bpf_machine.specs.ByAddress.{byte};
+ghost use Rattle.bpf_steps.specs.ByAddress.{byte};
 ghost use Rattle.bpf_journal.specs.Courses.{FailsThere, GoesBackOne, MakesAgain, MakesAllAgain, MakesNew, StaysThere};
 ghost use Rattle.bpf_journal.specs.GoingBack.{GoesBackBy};
 ghost use Rattle.bpf_journal.specs.Histories.{HasHistory, Record, StandsFor, is_step, record_weight};

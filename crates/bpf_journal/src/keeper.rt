@@ -3,8 +3,8 @@ ghost use Rattle.std.specs.Prelude.{◌≡◌, ◌≤◌, ◌<◌, ◌+◌, ◌^
 ghost use Rattle.bpf_entries.specs.Fields.{FitsFields};
 ghost use Rattle.bpf_entries.specs.Keeping.{Kept, kept_weight};
 ghost use Rattle.bpf_entries.specs.Status.{has_ended};
-ghost use Rattle.bpf_machine.specs.Entries.{step_entry};
-ghost use Rattle.bpf_machine.specs.Next.{change as change_of};
+ghost use Rattle.bpf_steps.specs.Entries.{step_entry};
+ghost use Rattle.bpf_steps.specs.Next.{change as change_of};
 ghost use Rattle.bpf_ring.specs.Runs.{kept_after, kept_on};
 ghost use Rattle.bpf_ring.specs.Touched.{newest_touched};
 ghost use Rattle.bpf_journal.specs.EditEntries.{HoldsSome, is_of_step};

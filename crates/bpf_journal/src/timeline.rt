@@ -10,8 +10,8 @@ ghost use Rattle.bpf_journal.specs.Changes.{change_in};
 ghost use Rattle.bpf_journal.specs.Lookups.{last_change};
 ghost use Rattle.bpf_journal.specs.GoingBack.{made_of};
 ghost use Rattle.bpf_journal.specs.Handing.{HandsOver, RingHolds, ring_room};
-ghost use Rattle.bpf_machine.specs.ByAddress.{byte};
-ghost use Rattle.bpf_machine.specs.Platform.{frame_count};
+ghost use Rattle.bpf_steps.specs.ByAddress.{byte};
+ghost use Rattle.bpf_steps.specs.Platform.{frame_count};
 ghost use Rattle.bpf_journal.specs.Runs.{history_after, history_on, GoesOn, RunsOn};
 ghost use Rattle.bpf_journal.specs.Timelines.{Moment, Makes, Fails, GoesBack, refusals_by, StandsAt, TriesStep};
 

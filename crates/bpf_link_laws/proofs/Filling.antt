@@ -6,9 +6,9 @@ use Rattle.std.proofs.lemmas.Bool.Decides.{nat_tests}
 use Rattle.std.proofs.lemmas.Grind.{elements}
 use Rattle.byteorder.specs.Endian.{little_bytes}
 use Rattle.byteorder.specs.Numbers.{length-bytes_low_first}
-use Rattle.bpf_machine.specs.ByAddress.{byte_at}
-use Rattle.bpf_machine.specs.Regions.{Image, IsImage, index_of, paste, with_number}
-use Rattle.bpf_machine.proofs.ByAddress.{fits_within, law_runs, law_stores}
+use Rattle.bpf_steps.specs.ByAddress.{byte_at}
+use Rattle.bpf_steps.specs.Regions.{Image, IsImage, index_of, paste, with_number}
+use Rattle.bpf_steps.proofs.ByAddress.{fits_within, law_runs, law_stores}
 use Rattle.bpf_link.specs.Layout.{u64_at}
 use Rattle.bpf_link.specs.Setup.{is_zero}
 use Rattle.bpf_link_laws.proofs.Numbers.{number_of, eight_bytes, zero_bytes}

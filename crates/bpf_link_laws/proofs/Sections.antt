@@ -21,10 +21,10 @@ use Rattle.bpf_link.specs.Layout.{u64_at}
 use Rattle.bpf_link.specs.Links.{data_shape, shape_of_data, data_shapes}
 use Rattle.bpf_link.specs.Plans.{after, steps}
 use Rattle.bpf_link.proofs.Inversions.{ok_same, provided_ok, after_ok}
-use Rattle.bpf_machine.specs.ByAddress.{byte_at}
-use Rattle.bpf_machine.specs.Platform.{context_limit, frame_count, frame_len, map_address}
-use Rattle.bpf_machine.specs.Regions.{IsImage, map_len, maps_len, opened}
-use Rattle.bpf_machine.proofs.ByAddress.{law_opened}
+use Rattle.bpf_steps.specs.ByAddress.{byte_at}
+use Rattle.bpf_steps.specs.Platform.{context_limit, frame_count, frame_len, map_address}
+use Rattle.bpf_steps.specs.Regions.{IsImage, map_len, maps_len, opened}
+use Rattle.bpf_steps.proofs.ByAddress.{law_opened}
 use Rattle.bpf_isa.specs.Maps.{most_map_bytes}
 
 is_most : (a b : ℕ) → nat_le a b ≡ true → a ≤ b

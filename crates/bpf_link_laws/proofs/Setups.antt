@@ -22,11 +22,11 @@ use Rattle.bpf_link.specs.Stubs.{answered}
 use Rattle.bpf_link.proofs.Answered.{answered_length}
 use Rattle.bpf_link.proofs.Blanking.{blanked_length}
 use Rattle.bpf_link.proofs.Inversions.{ok_same, after_ok}
-use Rattle.bpf_machine.specs.ByAddress.{byte_at}
-use Rattle.bpf_machine.specs.Platform.{context_limit, map_address}
-use Rattle.bpf_machine.specs.Regions.{Image, IsImage, opened}
-use Rattle.bpf_machine.specs.Next.{target}
-use Rattle.bpf_machine.specs.State.{State, initial}
+use Rattle.bpf_steps.specs.ByAddress.{byte_at}
+use Rattle.bpf_steps.specs.Platform.{context_limit, map_address}
+use Rattle.bpf_steps.specs.Regions.{Image, IsImage, opened}
+use Rattle.bpf_steps.specs.Next.{target}
+use Rattle.bpf_steps.specs.State.{State, initial}
 use Rattle.bpf_link_laws.specs.Setups.{IsLinked, entry_slot, HoldsSection, IsOfData, IsSetUp, SetupsStoreTheData}
 use Rattle.bpf_link_laws.proofs.Numbers.{four_bytes, back_is, distance_is}
 use Rattle.bpf_link_laws.proofs.Slots.{move_bytes, move_here, jump_here}

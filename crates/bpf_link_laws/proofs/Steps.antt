@@ -14,14 +14,14 @@ use Rattle.bpf_isa.specs.declared.instruction.Width.TheVariants.{Bits64}
 use Rattle.bpf_isa.specs.Programs.{Checked, insn_at}
 use Rattle.bpf_entries.specs.declared.status.Status.TheVariants.{Running}
 use Rattle.bpf_entries.specs.Status.{has_ended}
-use Rattle.bpf_machine.specs.declared.change.Change.TheVariants as change
-use Rattle.bpf_machine.specs.Access.{address, accessible, fault}
-use Rattle.bpf_machine.specs.Next.{wide, target, change_by, changed, next}
-use Rattle.bpf_machine.specs.Numbers.{wrap}
-use Rattle.bpf_machine.specs.Platform.{context_base}
-use Rattle.bpf_machine.specs.Regions.{Image, index_of, is_from_frame, with_number, opened}
-use Rattle.bpf_machine.specs.Runs.{state_after}
-use Rattle.bpf_machine.specs.State.{State, initial}
+use Rattle.bpf_steps.specs.declared.change.Change.TheVariants as change
+use Rattle.bpf_steps.specs.Access.{address, accessible, fault}
+use Rattle.bpf_steps.specs.Next.{wide, target, change_by, changed, next}
+use Rattle.bpf_steps.specs.Numbers.{wrap}
+use Rattle.bpf_steps.specs.Platform.{context_base}
+use Rattle.bpf_steps.specs.Regions.{Image, index_of, is_from_frame, with_number, opened}
+use Rattle.bpf_steps.specs.Runs.{state_after}
+use Rattle.bpf_steps.specs.State.{State, initial}
 use Rattle.bpf_machine.proofs.StepLaws.{change_at}
 
 -- A machine within its setup.

@@ -7,10 +7,10 @@ use Rattle.std.proofs.lemmas.List.{append-nil}
 use Rattle.std.specs.Int.{w16, cast_signed}
 use Rattle.bpf_isa.specs.declared.instruction.WideValue.TheVariants.{Number, MapValue}
 use Rattle.bpf_isa.specs.Programs.{Checked, IsProgram, IsStart}
-use Rattle.bpf_machine.specs.Numbers.{wrap}
-use Rattle.bpf_machine.specs.Platform.{map_base, map_address}
-use Rattle.bpf_machine.specs.Regions.{Image, index_of, with_number}
-use Rattle.bpf_machine.proofs.ByAddress.{past_frames}
+use Rattle.bpf_steps.specs.Numbers.{wrap}
+use Rattle.bpf_steps.specs.Platform.{map_base, map_address}
+use Rattle.bpf_steps.specs.Regions.{Image, index_of, with_number}
+use Rattle.bpf_steps.proofs.ByAddress.{past_frames}
 use Rattle.bpf_link.specs.Layout.{u64_at}
 use Rattle.bpf_link.specs.Setup.{place_words, store_words, with_store, with_stores}
 use Rattle.bpf_link_laws.proofs.Numbers.{offset_is}

@@ -8,11 +8,11 @@ use Rattle.bpf_link.specs.Data.{Numbered, numbered}
 use Rattle.bpf_link.specs.Images.{image_of}
 use Rattle.bpf_link.specs.Laid.{IsLaidOut}
 use Rattle.bpf_link.specs.Links.{data_shapes}
-use Rattle.bpf_machine.specs.ByAddress.{byte_at}
-use Rattle.bpf_machine.specs.Platform.{context_limit, map_address}
-use Rattle.bpf_machine.specs.Regions.{Image, IsImage}
-use Rattle.bpf_machine.specs.Runs.{state_after, Steps}
-use Rattle.bpf_machine.specs.State.{State, initial}
+use Rattle.bpf_steps.specs.ByAddress.{byte_at}
+use Rattle.bpf_steps.specs.Platform.{context_limit, map_address}
+use Rattle.bpf_steps.specs.Regions.{Image, IsImage}
+use Rattle.bpf_steps.specs.Runs.{state_after, Steps}
+use Rattle.bpf_steps.specs.State.{State, initial}
 
 -- A checked program that was linked: it has the words that come out for a plan from a slot of its code on, where some slots are reached, and its maps are
 -- as many as the plan has of its own, of any shapes, and after them those of its data.

@@ -8,14 +8,14 @@ use Rattle.std.proofs.lemmas.Nat.{mul-le}
 use Rattle.std.proofs.lemmas.Option.{slice_get_within}
 use Rattle.bpf_isa.specs.declared.maps.MapShape.{MapShape}
 use Rattle.bpf_isa.specs.Maps.{IsShape}
-use Rattle.bpf_machine.specs.Platform.{context_base, frame_len, frame_count, map_address, cell_address}
-use Rattle.bpf_machine.specs.Regions.{Image, IsImage, frames_from, maps_from, map_len, index_in, index_of, is_from_frame}
-use Rattle.bpf_machine.specs.State.{State, IsState, depth}
+use Rattle.bpf_steps.specs.Platform.{context_base, frame_len, frame_count, map_address, cell_address}
+use Rattle.bpf_steps.specs.Regions.{Image, IsImage, frames_from, maps_from, map_len, index_in, index_of, is_from_frame}
+use Rattle.bpf_steps.specs.State.{State, IsState, depth}
 use Rattle.bpf_machine.specs.Edits.{has_cell}
-use Rattle.bpf_machine.specs.ByAddress.{CellsAreAccessible}
-use Rattle.bpf_machine.proofs.ByAddress.{shown, past_frames}
-use Rattle.bpf_machine.proofs.Indices.{index_here, index_above, frames_before}
-use Rattle.bpf_machine.proofs.Spans.{first_shape, later_shapes}
+use Rattle.bpf_steps.specs.ByAddress.{CellsAreAccessible}
+use Rattle.bpf_steps.proofs.ByAddress.{shown, past_frames}
+use Rattle.bpf_steps.proofs.Indices.{index_here, index_above, frames_before}
+use Rattle.bpf_steps.proofs.Spans.{first_shape, later_shapes}
 
 -- A run within a map.
 map_run : (i q : ℕ) (shapes : List MapShape) (shape : MapShape) (a r n : ℕ) → All IsShape shapes → slice_get shapes q ≡ Some shape → a ≡ map_address (i + q) + r → r + n ≤ map_len shape → 1 ≤ n → (at : ℕ) × (index_in (maps_from i shapes) a n ≡ Some at)

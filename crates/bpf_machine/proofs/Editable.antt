@@ -7,8 +7,8 @@ use Rattle.bpf_machine.specs.declared.edit.Edit.TheVariants as edit
 use Rattle.bpf_machine.specs.declared.edit.EditFault.{EditFault}
 use Rattle.bpf_machine.specs.declared.edit.EditFault.TheVariants.{AddressNotPresent, RegisterNotWritable, NoStart, NoCell}
 use Rattle.bpf_machine.specs.Edits.{IsEditable, has_cell, unless}
-use Rattle.bpf_machine.specs.Regions.{index_of}
-use Rattle.bpf_machine.specs.State.{State}
+use Rattle.bpf_steps.specs.Regions.{index_of}
+use Rattle.bpf_steps.specs.State.{State}
 
 holds : (b : Bool) (fault : EditFault) → unless b fault ≡ None → b ≡ true
 holds true fault e = refl

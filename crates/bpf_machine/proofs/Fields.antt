@@ -8,20 +8,20 @@ use Rattle.bpf_isa.specs.Sizes.{size_len}
 use Rattle.bpf_isa.specs.declared.instruction.Insn.{Insn}
 use Rattle.bpf_isa.specs.declared.instruction.Size.{Size}
 use Rattle.bpf_isa.specs.declared.instruction.Size.TheVariants.{Word, Half, Byte, Double}
-use Rattle.bpf_machine.specs.declared.change.Change.{Change}
-use Rattle.bpf_machine.specs.declared.change.Change.TheVariants.{Set, Go, Store, Fetch, Call, Return, Cell, Trace, Stop}
+use Rattle.bpf_steps.specs.declared.change.Change.{Change}
+use Rattle.bpf_steps.specs.declared.change.Change.TheVariants.{Set, Go, Store, Fetch, Call, Return, Cell, Trace, Stop}
 use Rattle.bpf_machine.specs.declared.edit.Edit.{Edit}
 use Rattle.bpf_machine.specs.declared.edit.Edit.TheVariants as edit
 use Rattle.bpf_machine.specs.declared.moves.Move.{Move}
 use Rattle.bpf_machine.specs.declared.moves.Move.TheVariants as move
 use Rattle.bpf_entries.specs.declared.entry.Entry.{Entry}
-use Rattle.bpf_machine.specs.Calls.{entered}
-use Rattle.bpf_machine.specs.Platform.{cell_address, frame_base, frame_len}
-use Rattle.bpf_machine.specs.Regions.{index_of, run, run_at}
-use Rattle.bpf_machine.specs.State.{State, IsState, depth}
-use Rattle.bpf_machine.specs.Fetched.{Fits}
-use Rattle.bpf_machine.specs.Next.{change}
-use Rattle.bpf_machine.specs.Entries.{entry_of}
+use Rattle.bpf_steps.specs.Calls.{entered}
+use Rattle.bpf_steps.specs.Platform.{cell_address, frame_base, frame_len}
+use Rattle.bpf_steps.specs.Regions.{index_of, run, run_at}
+use Rattle.bpf_steps.specs.State.{State, IsState, depth}
+use Rattle.bpf_steps.specs.Fetched.{Fits}
+use Rattle.bpf_steps.specs.Next.{change}
+use Rattle.bpf_steps.specs.Entries.{entry_of}
 use Rattle.bpf_machine.specs.Edits.{IsEditable, edit_entry}
 use Rattle.bpf_machine.specs.Moves.{HasCome, IsMovable, overwritten}
 use Rattle.bpf_machine.specs.Undoing.{IsTyped}
@@ -29,7 +29,7 @@ use Rattle.bpf_entries.specs.Fields.{FitsSlot, FitsBytes, FitsFrame, FitsFields}
 use Rattle.bpf_machine.specs.Fields.{FitsEdit, FitsMove, EntriesFit}
 use Rattle.bpf_entries.specs.Status.{FitsNumber, FitsStatus}
 use Rattle.bpf_machine.proofs.Editable.{able_bytes, able_cell, able_register}
-use Rattle.bpf_machine.proofs.ByAddress.{fits_within, length-run}
+use Rattle.bpf_steps.proofs.ByAddress.{fits_within, length-run}
 use Rattle.bpf_machine.proofs.Cells.{cell_present, cell_address_fits}
 use Rattle.bpf_machine.proofs.Fitting.{number_fits, four_fit, change_fits}
 

@@ -1,17 +1,6 @@
-pub mod Indices
-pub mod Spans
 pub mod Cells
-pub mod ByAddress
-pub mod Facts
-pub mod Loans
-pub mod Codes
-pub mod Flats
-pub mod Arms
-pub mod Running
-pub mod Writing
 pub mod Sorts
 pub mod Fitting
-pub mod EntryParts
 pub mod Editable
 pub mod Undoing
 pub mod Restoring

@@ -2,20 +2,20 @@
 -- is room for its frame.
 use Rattle.std.proofs.Common.{◌≡◌, ◌<◌, ◌-◌, length, length-take, Option, Some, None, refl, sym, subst, arith}
 use Rattle.std.specs.Option.{option_map_or}
-use Rattle.bpf_machine.specs.declared.change.Change.{Change}
-use Rattle.bpf_machine.specs.declared.change.Change.TheVariants.{Set, Go, Store, Fetch, Call, Return, Cell, Trace, Stop}
+use Rattle.bpf_steps.specs.declared.change.Change.{Change}
+use Rattle.bpf_steps.specs.declared.change.Change.TheVariants.{Set, Go, Store, Fetch, Call, Return, Cell, Trace, Stop}
 use Rattle.bpf_machine.specs.declared.edit.Edit.{Edit}
 use Rattle.bpf_machine.specs.declared.edit.Edit.TheVariants as edit
 use Rattle.bpf_machine.specs.declared.moves.Move.{Move}
 use Rattle.bpf_machine.specs.declared.moves.Move.TheVariants as move
 use Rattle.bpf_entries.specs.declared.entry.Entry.{Entry}
 use Rattle.bpf_entries.specs.declared.entry.Entry.TheVariants as entry
-use Rattle.bpf_machine.specs.declared.frame.Frame.{Frame}
-use Rattle.bpf_machine.specs.Calls.{saved, popped, innermost}
-use Rattle.bpf_machine.specs.State.{State, IsState, depth}
-use Rattle.bpf_machine.specs.Fetched.{Fits}
-use Rattle.bpf_machine.specs.Next.{change, changed, returned}
-use Rattle.bpf_machine.specs.Entries.{entry_of}
+use Rattle.bpf_steps.specs.declared.frame.Frame.{Frame}
+use Rattle.bpf_steps.specs.Calls.{saved, popped, innermost}
+use Rattle.bpf_steps.specs.State.{State, IsState, depth}
+use Rattle.bpf_steps.specs.Fetched.{Fits}
+use Rattle.bpf_steps.specs.Next.{change, changed, returned}
+use Rattle.bpf_steps.specs.Entries.{entry_of}
 use Rattle.bpf_machine.specs.Edits.{IsEditable, edited, edit_entry}
 use Rattle.bpf_machine.specs.Moves.{HasCome, IsMovable, moved, overwritten}
 use Rattle.bpf_machine.specs.Undoing.{Restores}

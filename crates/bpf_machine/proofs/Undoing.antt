@@ -14,11 +14,11 @@ use Rattle.byteorder.specs.Numbers.{length-bytes_low_first}
 use Rattle.bpf_isa.specs.Sizes.{size_len}
 use Rattle.bpf_isa.specs.Programs.{Checked}
 use Rattle.bpf_entries.specs.declared.entry.Entry.TheVariants as entry
-use Rattle.bpf_machine.specs.declared.frame.Frame.{Frame}
-use Rattle.bpf_machine.specs.Calls.{saved, with_saved, frame_of, pushed, popped, innermost, entered, cleared}
-use Rattle.bpf_machine.specs.Fetched.{Fits}
-use Rattle.bpf_machine.specs.declared.change.Change.{Change}
-use Rattle.bpf_machine.specs.declared.change.Change.TheVariants.{Set, Go, Store, Fetch, Call, Return, Cell, Trace, Stop}
+use Rattle.bpf_steps.specs.declared.frame.Frame.{Frame}
+use Rattle.bpf_steps.specs.Calls.{saved, with_saved, frame_of, pushed, popped, innermost, entered, cleared}
+use Rattle.bpf_steps.specs.Fetched.{Fits}
+use Rattle.bpf_steps.specs.declared.change.Change.{Change}
+use Rattle.bpf_steps.specs.declared.change.Change.TheVariants.{Set, Go, Store, Fetch, Call, Return, Cell, Trace, Stop}
 use Rattle.bpf_machine.specs.declared.edit.Edit.{Edit}
 use Rattle.bpf_machine.specs.declared.edit.Edit.TheVariants as edit
 use Rattle.bpf_machine.specs.declared.moves.Move.{Move}
@@ -26,16 +26,16 @@ use Rattle.bpf_machine.specs.declared.moves.Move.TheVariants as move
 use Rattle.bpf_entries.specs.declared.status.Status.{Status}
 use Rattle.bpf_entries.specs.declared.status.Status.TheVariants.{Running, Exited, Faulted}
 use Rattle.bpf_entries.specs.Status.{has_ended}
-use Rattle.bpf_machine.specs.Platform.{cell_address, frame_base, frame_len}
-use Rattle.bpf_machine.specs.Regions.{Image, IsImage, index_of, run, run_at, number_at, paste, with_bytes, put, zeros}
-use Rattle.bpf_machine.specs.State.{State, IsState, IsFrame, register, depth}
-use Rattle.bpf_machine.specs.Next.{change, changed, returned}
-use Rattle.bpf_machine.specs.Entries.{entry_of}
+use Rattle.bpf_steps.specs.Platform.{cell_address, frame_base, frame_len}
+use Rattle.bpf_steps.specs.Regions.{Image, IsImage, index_of, run, run_at, number_at, paste, with_bytes, put, zeros}
+use Rattle.bpf_steps.specs.State.{State, IsState, IsFrame, register, depth}
+use Rattle.bpf_steps.specs.Next.{change, changed, returned}
+use Rattle.bpf_steps.specs.Entries.{entry_of}
 use Rattle.bpf_machine.specs.Edits.{IsEditable, edited, edit_entry}
 use Rattle.bpf_machine.specs.Moves.{Leads, IsMovable, moved, overwritten}
 use Rattle.bpf_machine.specs.Undoing.{undone}
 use Rattle.bpf_machine.proofs.Editable.{able_bytes, able_cell}
-use Rattle.bpf_machine.proofs.ByAddress.{fits_within, length-run}
+use Rattle.bpf_steps.proofs.ByAddress.{fits_within, length-run}
 use Rattle.bpf_machine.proofs.Cells.{cell_present}
 use Rattle.bpf_machine.proofs.Fitting.{change_fits}
 

@@ -9,9 +9,9 @@ use Rattle.bpf_machine.specs.declared.edit.EditFault.TheVariants.{AddressNotPres
 use Rattle.bpf_entries.specs.declared.entry.Entry.{Entry}
 use Rattle.bpf_entries.specs.declared.entry.Entry.TheVariants.{EditRegister, EditBytes, EditPc}
 use Rattle.bpf_entries.specs.declared.status.Status.TheVariants.{Running}
-use Rattle.bpf_machine.specs.Platform.{cell_address}
-use Rattle.bpf_machine.specs.Regions.{index_of, run_at, put}
-use Rattle.bpf_machine.specs.State.{State, register}
+use Rattle.bpf_steps.specs.Platform.{cell_address}
+use Rattle.bpf_steps.specs.Regions.{index_of, run_at, put}
+use Rattle.bpf_steps.specs.State.{State, register}
 
 -- A fault where a test doesn't hold.
 abbrev pub unless : Bool → EditFault → Option EditFault

@@ -5,7 +5,7 @@ use Rattle.bpf_machine.specs.declared.moves.Move.{Move}
 use Rattle.bpf_machine.specs.declared.moves.Move.TheVariants as move
 use Rattle.bpf_entries.specs.Fields.{FitsRegister, FitsBytes, FitsFields}
 use Rattle.bpf_entries.specs.Status.{FitsNumber}
-use Rattle.bpf_machine.specs.State.{State}
+use Rattle.bpf_steps.specs.State.{State}
 use Rattle.bpf_machine.specs.Moves.{Leads, overwritten}
 
 -- What an edit's values are in a program: a register's number and value, an address and 1 to 256 bytes, a map and an index with

@@ -6,9 +6,9 @@ use Rattle.bpf_entries.specs.declared.entry.Entry.{Entry}
 use Rattle.bpf_entries.specs.Fields.{FitsFields}
 use Rattle.bpf_entries.specs.Status.{has_ended}
 use Rattle.bpf_entries.specs.Texts.{text}
-use Rattle.bpf_machine.specs.State.{State, IsState}
-use Rattle.bpf_machine.specs.Next.{next}
-use Rattle.bpf_machine.specs.Entries.{step_entry}
+use Rattle.bpf_steps.specs.State.{State, IsState}
+use Rattle.bpf_steps.specs.Next.{next}
+use Rattle.bpf_steps.specs.Entries.{step_entry}
 use Rattle.bpf_machine.specs.Edits.{IsEditable, edited, edit_entry}
 
 -- Whether a move can be made: a step while the machine runs, an edit that is not refused.

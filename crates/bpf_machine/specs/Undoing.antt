@@ -9,11 +9,11 @@ use Rattle.bpf_entries.specs.Reading.{entry_of as entry_read}
 use Rattle.bpf_entries.specs.Weights.{weight}
 use Rattle.bpf_entries.specs.declared.entry.Entry.{Entry}
 use Rattle.bpf_entries.specs.declared.entry.Entry.TheVariants as entry
-use Rattle.bpf_machine.specs.declared.frame.Frame.{Frame}
-use Rattle.bpf_machine.specs.Calls.{with_saved, pushed, popped}
-use Rattle.bpf_machine.specs.Platform.{frame_count}
-use Rattle.bpf_machine.specs.Regions.{put}
-use Rattle.bpf_machine.specs.State.{State, depth}
+use Rattle.bpf_steps.specs.declared.frame.Frame.{Frame}
+use Rattle.bpf_steps.specs.Calls.{with_saved, pushed, popped}
+use Rattle.bpf_steps.specs.Platform.{frame_count}
+use Rattle.bpf_steps.specs.Regions.{put}
+use Rattle.bpf_steps.specs.State.{State, depth}
 
 -- The frames as they stood, and r6 to r9 with them. The frame that a return popped is made again of the present pc and r6 to r9.
 abbrev pub frames_before : Frames → State → List Frame

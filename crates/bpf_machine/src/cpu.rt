@@ -16,15 +16,11 @@ mod revert;
 mod run;
 mod step;
 
-use crate::change::Change;
-use crate::code::Code;
-use crate::flat::FlatCode;
-use crate::frame::Frame;
-use crate::memory::Memory;
-use crate::platform::TRACE_LIMIT;
 use arrayvec::ArrayVec;
 use bpf_entries::{ByteString, Status};
 use bpf_isa::{Program, Reg, Size};
+use bpf_steps::platform::TRACE_LIMIT;
+use bpf_steps::{Change, Code, FlatCode, Frame, Memory, are_registers, are_words};
 pub use keep::Kept;
 use std::marker::Model;
 
@@ -48,10 +44,10 @@ pub struct Cpu {
 impl Model for Cpu {
     ghost use Rattle.std.specs.Prelude.{◌≡◌, ◌<◌, All, take, length, slice_index};
     ghost use Rattle.bpf_isa.specs.Programs.{IsStart};
-    ghost use Rattle.bpf_machine.specs.Codes.{codes_of};
-    ghost use Rattle.bpf_machine.specs.Flat.{AreFlat};
-    ghost use Rattle.bpf_machine.specs.Platform.{frame_pointer, frame_count};
-    ghost use Rattle.bpf_machine.specs.State.{State, IsFrame};
+    ghost use Rattle.bpf_steps.specs.Codes.{codes_of};
+    ghost use Rattle.bpf_steps.specs.Flat.{AreFlat};
+    ghost use Rattle.bpf_steps.specs.Platform.{frame_pointer, frame_count};
+    ghost use Rattle.bpf_steps.specs.State.{State, IsFrame};
 
     ghost Value = { State };
 
@@ -69,9 +65,9 @@ impl Model for Cpu {
 }
 
 impl Cpu {
-    ghost use Rattle.bpf_machine.specs.State.{IsState};
-    ghost use Rattle.bpf_machine.specs.Fetched.{Fits};
-    ghost use Rattle.bpf_machine.specs.Next.{changed, change as change_in, next};
+    ghost use Rattle.bpf_steps.specs.State.{IsState};
+    ghost use Rattle.bpf_steps.specs.Fetched.{Fits};
+    ghost use Rattle.bpf_steps.specs.Next.{changed, change as change_in, next};
 
     /// Brings what holds of every machine into a proof.
     pub fn invariant(&self)
@@ -97,7 +93,7 @@ impl Cpu {
 
     /// Does a change.
     #[inline(always)]
-    #[tactic(auto, unfolding(crate::specs::Next::changed))]
+    #[tactic(auto, unfolding(bpf_steps::specs::Next::changed))]
     fn apply(&mut self, change: &Change)
         requires { Fits self.old change.now }
         ensures { self.new ≡ changed self.old change.now }
@@ -146,7 +142,7 @@ impl Cpu {
     /// Stores the low bytes of a number at an index of memory's bytes, and a register gets the
     /// number that stood there.
     #[inline(always)]
-    #[tactic(auto, unfolding(crate::specs::Next::changed))]
+    #[tactic(auto, unfolding(bpf_steps::specs::Next::changed))]
     fn exchange(&mut self, index: usize, size: Size, value: u64, register: Reg, next: u16)
         requires register { register < 10 }
         requires fits { index + size_len size ≤ length self.old.memory.bytes }
@@ -171,7 +167,7 @@ impl Cpu {
 
     /// Appends a word to the trace list.
     #[inline(never)]
-    #[tactic(auto, unfolding(crate::specs::Next::changed))]
+    #[tactic(auto, unfolding(bpf_steps::specs::Next::changed))]
     fn append_word(&mut self, word: u64, next: u16)
         requires { Fits self.old (Change.Trace word next) }
         ensures { self.new ≡ changed self.old (Change.Trace word next) }
@@ -184,7 +180,7 @@ impl Cpu {
     /// Copies bytes of memory to a cell. They are taken out before, so that it does not matter how
     /// the two runs overlap.
     #[inline(never)]
-    #[tactic(auto, unfolding(crate::specs::Next::changed))]
+    #[tactic(auto, unfolding(bpf_steps::specs::Next::changed))]
     fn write_cell(&mut self, address: u64, source: usize, length: u16, next: u16)
         requires { Fits self.old (Change.Cell address source length next) }
         ensures { self.new ≡ changed self.old (Change.Cell address source length next) }
@@ -195,17 +191,3 @@ impl Cpu {
         self.pc = next;
     }
 }
-
-/// Brings the number and the range of the registers into a proof.
-pub(crate) fn are_registers(registers: &[u64; 11])
-    ensures count { length registers.now ≡ 11 }
-    ensures range { All (λ number. number < 2 ^ 64) registers.now }
-{
-    let registers: &[u64] = registers;
-    are_words(registers);
-}
-
-/// Brings the range of numbers into a proof.
-fn are_words(words: &[u64])
-    ensures { All (λ word. word < 2 ^ 64) words.now }
-{}

@@ -1,5 +1,5 @@
 //! Laws of the definitions, each proved as the contract of a function that does nothing.
-ghost use Rattle.bpf_machine.specs.ByAddress.{MemoryIsItsAddresses};
+ghost use Rattle.bpf_steps.specs.ByAddress.{MemoryIsItsAddresses};
 ghost use Rattle.bpf_machine.specs.CallLaws.{PointerFollowsDepth, CallsGoDeeper, CallsFindZeros, CallsForgetTheFrame, LastFrameCallsNone, ReturnsGiveBack};
 ghost use Rattle.bpf_machine.specs.Fields.{EntriesFit};
 ghost use Rattle.bpf_machine.specs.StepLaws.{StepsKeepRegisters, StepsKeepBytes, StepsKeepTheRest, EndsKeepAllElse};

@@ -1,31 +1,16 @@
-//! The machine that runs BPF programs (RFC 9669): registers, memory, status, and the step.
+//! The machine that runs BPF programs (RFC 9669): opened, stepped, edited, and put back by entries.
 #![tactic(auto)]
 
-mod alu;
-mod change;
-mod code;
 mod cpu;
 mod edit;
 mod ended;
-mod fault;
-mod flat;
-mod frame;
 pub mod laws;
-mod map_layout;
-mod memory;
 mod moves;
-mod platform;
-mod run;
-mod sort;
 
 pub use bpf_entries::{ByteString, Entry, Fault, FrameBytes, Status};
-pub use change::Change;
+pub use bpf_steps::platform::CONTEXT_LIMIT;
+pub use bpf_steps::{Change, Frame, Memory, OpenFault, Sort};
 pub use cpu::{Cpu, Kept};
 pub use edit::{Edit, EditFault};
 pub use ended::Ended;
-pub use fault::OpenFault;
-pub use frame::Frame;
-pub use memory::Memory;
 pub use moves::Move;
-pub use platform::CONTEXT_LIMIT;
-pub use sort::Sort;

@@ -33,24 +33,24 @@ use Rattle.bpf_isa.specs.declared.instruction.Width.{Width}
 use Rattle.bpf_isa.specs.declared.maps.MapShape.{MapShape}
 use Rattle.bpf_entries.specs.declared.status.Fault.TheVariants.{Depth, Token}
 use Rattle.bpf_entries.specs.declared.status.Status.TheVariants.{Exited, Faulted}
-use Rattle.bpf_machine.specs.declared.change.Change.{Change}
-use Rattle.bpf_machine.specs.declared.change.Change.TheVariants.{Set, Go, Store, Fetch, Call, Return, Cell, Trace, Stop}
-use Rattle.bpf_machine.specs.declared.frame.Frame.{Frame}
-use Rattle.bpf_machine.specs.Access.{low_bits, address, access, accessible, fault}
-use Rattle.bpf_machine.specs.Arithmetic.{result, negated, sign_extended}
-use Rattle.bpf_machine.specs.Atomics.{combined, size_of, replacement, atomic_at}
-use Rattle.bpf_machine.specs.ByAddress.{byte}
-use Rattle.bpf_machine.specs.Calls.{call}
-use Rattle.bpf_machine.specs.Helpers.{map_shape, with_key, helper, update_of, trace, answer}
-use Rattle.bpf_machine.specs.Jumps.{holds}
-use Rattle.bpf_machine.specs.Next.{operand, target, jumps, change_by, change}
-use Rattle.bpf_machine.specs.Numbers.{bits_of, wrap, extended}
-use Rattle.bpf_machine.specs.Platform.{context_base, frame_count, frame_pointer, cell_address, token_base, trace_limit}
-use Rattle.bpf_machine.specs.Regions.{Image, IsImage, Region, regions, frames_from, maps_from, index_in, index_of, is_from_frame, run, number_at}
-use Rattle.bpf_machine.specs.State.{State, IsState, register, depth}
-use Rattle.bpf_machine.specs.Swaps.{swapped}
-use Rattle.bpf_machine.proofs.ByAddress.{byte_within, fits_within, length-run, run_reads}
-use Rattle.bpf_machine.proofs.Spans.{first_shape, later_shapes}
+use Rattle.bpf_steps.specs.declared.change.Change.{Change}
+use Rattle.bpf_steps.specs.declared.change.Change.TheVariants.{Set, Go, Store, Fetch, Call, Return, Cell, Trace, Stop}
+use Rattle.bpf_steps.specs.declared.frame.Frame.{Frame}
+use Rattle.bpf_steps.specs.Access.{low_bits, address, access, accessible, fault}
+use Rattle.bpf_steps.specs.Arithmetic.{result, negated, sign_extended}
+use Rattle.bpf_steps.specs.Atomics.{combined, size_of, replacement, atomic_at}
+use Rattle.bpf_steps.specs.ByAddress.{byte}
+use Rattle.bpf_steps.specs.Calls.{call}
+use Rattle.bpf_steps.specs.Helpers.{map_shape, with_key, helper, update_of, trace, answer}
+use Rattle.bpf_steps.specs.Jumps.{holds}
+use Rattle.bpf_steps.specs.Next.{operand, target, jumps, change_by, change}
+use Rattle.bpf_steps.specs.Numbers.{bits_of, wrap, extended}
+use Rattle.bpf_steps.specs.Platform.{context_base, frame_count, frame_pointer, cell_address, token_base, trace_limit}
+use Rattle.bpf_steps.specs.Regions.{Image, IsImage, Region, regions, frames_from, maps_from, index_in, index_of, is_from_frame, run, number_at}
+use Rattle.bpf_steps.specs.State.{State, IsState, register, depth}
+use Rattle.bpf_steps.specs.Swaps.{swapped}
+use Rattle.bpf_steps.proofs.ByAddress.{byte_within, fits_within, length-run, run_reads}
+use Rattle.bpf_steps.proofs.Spans.{first_shape, later_shapes}
 use Rattle.bpf_machine.proofs.StepLaws.{below_ten}
 use Rattle.bpf_origin.specs.declared.place.Place.{Place}
 use Rattle.bpf_origin.specs.declared.place.Place.TheVariants.{Register, Word, Byte}

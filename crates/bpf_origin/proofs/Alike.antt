@@ -9,22 +9,22 @@ use Rattle.bpf_isa.specs.Programs.{insn_at}
 use Rattle.bpf_isa.specs.declared.instruction.Insn.{Insn}
 use Rattle.bpf_isa.specs.declared.instruction.Insn.TheVariants as insn
 use Rattle.bpf_entries.specs.Past.{stood}
-use Rattle.bpf_machine.specs.declared.change.Change.{Change}
-use Rattle.bpf_machine.specs.declared.change.Change.TheVariants.{Set, Go, Store, Fetch, Call, Return, Cell, Trace, Stop}
+use Rattle.bpf_steps.specs.declared.change.Change.{Change}
+use Rattle.bpf_steps.specs.declared.change.Change.TheVariants.{Set, Go, Store, Fetch, Call, Return, Cell, Trace, Stop}
 use Rattle.bpf_machine.specs.declared.edit.Edit.{Edit}
 use Rattle.bpf_machine.specs.declared.edit.Edit.TheVariants as edit
-use Rattle.bpf_machine.specs.declared.frame.Frame.{Frame}
+use Rattle.bpf_steps.specs.declared.frame.Frame.{Frame}
 use Rattle.bpf_machine.specs.declared.moves.Move.{Move}
 use Rattle.bpf_machine.specs.declared.moves.Move.TheVariants as move
-use Rattle.bpf_machine.specs.Calls.{innermost, popped, frame_of}
+use Rattle.bpf_steps.specs.Calls.{innermost, popped, frame_of}
 use Rattle.bpf_machine.specs.Edits.{IsEditable, edited, edit_entry, replaced_run}
-use Rattle.bpf_machine.specs.Entries.{entry_of, step_entry}
-use Rattle.bpf_machine.specs.Fetched.{Fits}
+use Rattle.bpf_steps.specs.Entries.{entry_of, step_entry}
+use Rattle.bpf_steps.specs.Fetched.{Fits}
 use Rattle.bpf_machine.specs.Moves.{Leads, moved, overwritten}
-use Rattle.bpf_machine.specs.Next.{change_by, change, changed, returned, next}
-use Rattle.bpf_machine.specs.Platform.{cell_address}
-use Rattle.bpf_machine.specs.Regions.{Image, index_of, with_bytes, put}
-use Rattle.bpf_machine.specs.State.{State, IsState, register, depth}
+use Rattle.bpf_steps.specs.Next.{change_by, change, changed, returned, next}
+use Rattle.bpf_steps.specs.Platform.{cell_address}
+use Rattle.bpf_steps.specs.Regions.{Image, index_of, with_bytes, put}
+use Rattle.bpf_steps.specs.State.{State, IsState, register, depth}
 use Rattle.bpf_machine.proofs.Cells.{cell_present}
 use Rattle.bpf_machine.proofs.Editable.{able_register, able_bytes, able_cell}
 use Rattle.bpf_machine.proofs.Fitting.{change_fits}

@@ -3,7 +3,7 @@ use Rattle.std.proofs.Common.{◌≡◌, ◌≤◌, ◌<◌, ℕ, Bool, true, fa
 use Rattle.std.specs.Prelude.{nat_lt, if◌then◌else◌}
 use Rattle.std.proofs.lemmas.Bool.Decides.{nat_tests}
 use Rattle.bpf_journal.specs.Histories.{Record}
-use Rattle.bpf_machine.specs.State.{State}
+use Rattle.bpf_steps.specs.State.{State}
 use Rattle.bpf_origin.specs.declared.place.Part.{Part}
 use Rattle.bpf_origin.specs.declared.question.Question.{Question}
 use Rattle.bpf_origin.specs.declared.question.Extent.TheVariants.{Places}

@@ -12,7 +12,7 @@ use Rattle.bpf_journal.specs.declared.taken.Taken.{Taken}
 use Rattle.bpf_machine.specs.declared.moves.Move.{Move}
 use Rattle.bpf_machine.specs.declared.moves.Move.TheVariants as move
 use Rattle.bpf_machine.specs.Moves.{IsMovable}
-use Rattle.bpf_machine.specs.State.{State}
+use Rattle.bpf_steps.specs.State.{State}
 use Rattle.bpf_origin.specs.Pasts.{CourseStands, GoesBack, IsSameKeeper, Stand, gone_back, refusals_left, stand, state_of}
 
 -- From a stand on.

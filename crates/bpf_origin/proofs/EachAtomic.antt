@@ -15,15 +15,15 @@ use Rattle.bpf_isa.specs.declared.instruction.Width.TheVariants as widths
 use Rattle.bpf_entries.specs.Status.{has_ended}
 use Rattle.bpf_entries.specs.declared.status.Fault.TheVariants.{Access}
 use Rattle.bpf_entries.specs.declared.status.Status.TheVariants.{Faulted}
-use Rattle.bpf_machine.specs.declared.change.Change.TheVariants.{Set, Store, Fetch, Stop}
-use Rattle.bpf_machine.specs.Access.{low_bits, address, access}
-use Rattle.bpf_machine.specs.Atomics.{combined, size_of, atomic_at}
+use Rattle.bpf_steps.specs.declared.change.Change.TheVariants.{Set, Store, Fetch, Stop}
+use Rattle.bpf_steps.specs.Access.{low_bits, address, access}
+use Rattle.bpf_steps.specs.Atomics.{combined, size_of, atomic_at}
 use Rattle.bpf_machine.specs.Edits.{with_run}
-use Rattle.bpf_machine.specs.Next.{change_by}
-use Rattle.bpf_machine.specs.Numbers.{bits_of}
-use Rattle.bpf_machine.specs.Platform.{frame_base}
-use Rattle.bpf_machine.specs.Regions.{index_of, number_at}
-use Rattle.bpf_machine.specs.State.{State, IsState, register, depth}
+use Rattle.bpf_steps.specs.Next.{change_by}
+use Rattle.bpf_steps.specs.Numbers.{bits_of}
+use Rattle.bpf_steps.specs.Platform.{frame_base}
+use Rattle.bpf_steps.specs.Regions.{index_of, number_at}
+use Rattle.bpf_steps.specs.State.{State, IsState, register, depth}
 use Rattle.bpf_origin.specs.declared.place.Place.TheVariants.{Register, Byte}
 use Rattle.bpf_origin.specs.declared.place.Part.TheVariants as part
 use Rattle.bpf_origin.specs.Matters.{Matters, places}

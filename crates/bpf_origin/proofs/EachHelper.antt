@@ -16,20 +16,20 @@ use Rattle.bpf_isa.specs.declared.instruction.Insn.TheVariants as insn
 use Rattle.bpf_entries.specs.Status.{has_ended}
 use Rattle.bpf_entries.specs.declared.status.Fault.TheVariants.{Access, Token}
 use Rattle.bpf_entries.specs.declared.status.Status.TheVariants.{Faulted}
-use Rattle.bpf_machine.specs.declared.change.Change.{Change}
-use Rattle.bpf_machine.specs.declared.change.Change.TheVariants.{Set, Cell, Trace, Stop}
-use Rattle.bpf_machine.specs.Access.{access, accessible, fault}
-use Rattle.bpf_machine.specs.ByAddress.{byte_at}
+use Rattle.bpf_steps.specs.declared.change.Change.{Change}
+use Rattle.bpf_steps.specs.declared.change.Change.TheVariants.{Set, Cell, Trace, Stop}
+use Rattle.bpf_steps.specs.Access.{access, accessible, fault}
+use Rattle.bpf_steps.specs.ByAddress.{byte_at}
 use Rattle.bpf_machine.specs.Edits.{with_run}
-use Rattle.bpf_machine.specs.Entries.{entry_of}
-use Rattle.bpf_machine.specs.Helpers.{map_shape, with_key, update_of, update, helper, answer}
-use Rattle.bpf_machine.specs.Next.{change_by, change, changed}
-use Rattle.bpf_machine.specs.Platform.{frame_base, map_address, cell_address, token_base, trace_limit}
-use Rattle.bpf_machine.specs.Regions.{Image, IsImage, index_of, run, number_at, put, with_bytes}
-use Rattle.bpf_machine.specs.State.{State, IsState, register, depth}
-use Rattle.bpf_machine.proofs.ByAddress.{byte_within, fits_within, law_runs, law_stores, law_accessible, past_frames, length-run, run_reads}
+use Rattle.bpf_steps.specs.Entries.{entry_of}
+use Rattle.bpf_steps.specs.Helpers.{map_shape, with_key, update_of, update, helper, answer}
+use Rattle.bpf_steps.specs.Next.{change_by, change, changed}
+use Rattle.bpf_steps.specs.Platform.{frame_base, map_address, cell_address, token_base, trace_limit}
+use Rattle.bpf_steps.specs.Regions.{Image, IsImage, index_of, run, number_at, put, with_bytes}
+use Rattle.bpf_steps.specs.State.{State, IsState, register, depth}
+use Rattle.bpf_steps.proofs.ByAddress.{byte_within, fits_within, law_runs, law_stores, law_accessible, past_frames, length-run, run_reads}
 use Rattle.bpf_machine.proofs.Cells.{law_cells}
-use Rattle.bpf_machine.proofs.Spans.{first_shape, later_shapes}
+use Rattle.bpf_steps.proofs.Spans.{first_shape, later_shapes}
 use Rattle.bpf_machine.proofs.StepLaws.{change_at}
 use Rattle.bpf_origin.specs.declared.place.Place.{Place}
 use Rattle.bpf_origin.specs.declared.place.Place.TheVariants.{Register, Byte}

@@ -15,12 +15,12 @@ use Rattle.bpf_isa.specs.declared.instruction.Source.{Source}
 use Rattle.bpf_isa.specs.declared.instruction.Source.TheVariants as source
 use Rattle.bpf_isa.specs.declared.instruction.Width.{Width}
 use Rattle.bpf_entries.specs.Status.{has_ended}
-use Rattle.bpf_machine.specs.Access.{address}
-use Rattle.bpf_machine.specs.Arithmetic.{negated, sign_extended}
-use Rattle.bpf_machine.specs.Next.{change_by}
-use Rattle.bpf_machine.specs.Numbers.{bits_of}
-use Rattle.bpf_machine.specs.State.{State, IsState, depth}
-use Rattle.bpf_machine.specs.Swaps.{swapped}
+use Rattle.bpf_steps.specs.Access.{address}
+use Rattle.bpf_steps.specs.Arithmetic.{negated, sign_extended}
+use Rattle.bpf_steps.specs.Next.{change_by}
+use Rattle.bpf_steps.specs.Numbers.{bits_of}
+use Rattle.bpf_steps.specs.State.{State, IsState, depth}
+use Rattle.bpf_steps.specs.Swaps.{swapped}
 use Rattle.bpf_origin.specs.declared.place.Part.{Part}
 use Rattle.bpf_origin.specs.declared.place.Part.TheVariants as part
 use Rattle.bpf_origin.specs.Matters.{places, IsPlain, IsBeside, Matters, Decides, EachReadMatters}

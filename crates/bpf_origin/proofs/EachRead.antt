@@ -27,19 +27,19 @@ use Rattle.bpf_entries.specs.Status.{has_ended}
 use Rattle.bpf_entries.specs.declared.status.Fault.TheVariants.{Access}
 use Rattle.bpf_entries.specs.declared.status.Status.{Status}
 use Rattle.bpf_entries.specs.declared.status.Status.TheVariants.{Faulted}
-use Rattle.bpf_machine.specs.declared.change.Change.{Change}
-use Rattle.bpf_machine.specs.declared.change.Change.TheVariants.{Set, Go, Store, Stop}
-use Rattle.bpf_machine.specs.Access.{address, access, fault}
-use Rattle.bpf_machine.specs.Arithmetic.{result, negated, sign_extended}
+use Rattle.bpf_steps.specs.declared.change.Change.{Change}
+use Rattle.bpf_steps.specs.declared.change.Change.TheVariants.{Set, Go, Store, Stop}
+use Rattle.bpf_steps.specs.Access.{address, access, fault}
+use Rattle.bpf_steps.specs.Arithmetic.{result, negated, sign_extended}
 use Rattle.bpf_machine.specs.Edits.{with_run}
-use Rattle.bpf_machine.specs.Entries.{entry_of}
-use Rattle.bpf_machine.specs.Jumps.{holds}
-use Rattle.bpf_machine.specs.Next.{operand, target, change_by, change, changed, next}
-use Rattle.bpf_machine.specs.Numbers.{bits_of, wrap, extended}
-use Rattle.bpf_machine.specs.Platform.{frame_base}
-use Rattle.bpf_machine.specs.Regions.{index_of, number_at}
-use Rattle.bpf_machine.specs.State.{State, IsState, register, depth}
-use Rattle.bpf_machine.specs.Swaps.{swapped}
+use Rattle.bpf_steps.specs.Entries.{entry_of}
+use Rattle.bpf_steps.specs.Jumps.{holds}
+use Rattle.bpf_steps.specs.Next.{operand, target, change_by, change, changed, next}
+use Rattle.bpf_steps.specs.Numbers.{bits_of, wrap, extended}
+use Rattle.bpf_steps.specs.Platform.{frame_base}
+use Rattle.bpf_steps.specs.Regions.{index_of, number_at}
+use Rattle.bpf_steps.specs.State.{State, IsState, register, depth}
+use Rattle.bpf_steps.specs.Swaps.{swapped}
 use Rattle.bpf_machine.proofs.StepLaws.{change_at}
 use Rattle.bpf_origin.specs.declared.place.Place.{Place}
 use Rattle.bpf_origin.specs.declared.place.Place.TheVariants.{Register, Byte}

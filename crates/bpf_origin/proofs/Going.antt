@@ -7,7 +7,7 @@ use Rattle.bpf_journal.specs.Histories.{Record}
 use Rattle.bpf_journal.specs.Tracks.{Track}
 use Rattle.bpfdb_replies.proofs.Telling.{Telling, Telling-start, Telling-step, Telling-end}
 use Rattle.bpf_machine.specs.Moves.{overwritten}
-use Rattle.bpf_machine.specs.State.{State}
+use Rattle.bpf_steps.specs.State.{State}
 use Rattle.bpf_origin.specs.declared.place.Place.{Place}
 use Rattle.bpf_origin.specs.declared.question.Question.{Question}
 use Rattle.bpf_origin.specs.declared.question.Extent.{Extent}

@@ -10,26 +10,26 @@ use Rattle.std.proofs.lemmas.Option.{slice_get_cases, slice_get_past, slice_get-
 use Rattle.std.proofs.Math.Seq.{get_or-append_seam}
 use Rattle.std.proofs.lemmas.List.{get_or_append_left, get_or_past}
 use Rattle.bpf_entries.specs.Past.{Run, Frames, Same, Fewer, More, past, replaced}
-use Rattle.bpf_machine.specs.declared.frame.Frame.{Frame}
-use Rattle.bpf_machine.specs.declared.change.Change.{Change}
-use Rattle.bpf_machine.specs.declared.change.Change.TheVariants.{Set, Go, Store, Fetch, Call, Return, Cell, Trace, Stop}
+use Rattle.bpf_steps.specs.declared.frame.Frame.{Frame}
+use Rattle.bpf_steps.specs.declared.change.Change.{Change}
+use Rattle.bpf_steps.specs.declared.change.Change.TheVariants.{Set, Go, Store, Fetch, Call, Return, Cell, Trace, Stop}
 use Rattle.bpf_machine.specs.declared.edit.Edit.{Edit}
 use Rattle.bpf_machine.specs.declared.edit.Edit.TheVariants as edit
 use Rattle.bpf_machine.specs.declared.moves.Move.{Move}
 use Rattle.bpf_machine.specs.declared.moves.Move.TheVariants as move
-use Rattle.bpf_machine.specs.Calls.{frame_of, pushed, saved, with_saved, innermost, popped}
-use Rattle.bpf_machine.specs.Fetched.{Fits}
+use Rattle.bpf_steps.specs.Calls.{frame_of, pushed, saved, with_saved, innermost, popped}
+use Rattle.bpf_steps.specs.Fetched.{Fits}
 use Rattle.bpf_machine.specs.Edits.{IsEditable, edited, edit_entry}
 use Rattle.bpf_machine.specs.Moves.{IsMovable, moved, overwritten}
-use Rattle.bpf_machine.specs.Platform.{cell_address}
+use Rattle.bpf_steps.specs.Platform.{cell_address}
 use Rattle.bpf_entries.specs.Status.{has_ended}
 use Rattle.bpf_origin.specs.Laws.{MovesKeepOtherPlaces}
-use Rattle.bpf_machine.specs.Regions.{Image, number_at, index_of, run, run_at, put}
-use Rattle.bpf_machine.specs.ByAddress.{byte_at}
-use Rattle.bpf_machine.specs.State.{State, IsState, depth, register}
+use Rattle.bpf_steps.specs.Regions.{Image, number_at, index_of, run, run_at, put}
+use Rattle.bpf_steps.specs.ByAddress.{byte_at}
+use Rattle.bpf_steps.specs.State.{State, IsState, depth, register}
 use Rattle.bpf_machine.specs.StepLaws.{KeepsOtherBytes}
-use Rattle.bpf_machine.specs.Next.{change, changed, returned, next}
-use Rattle.bpf_machine.specs.Entries.{entry_of, step_entry}
+use Rattle.bpf_steps.specs.Next.{change, changed, returned, next}
+use Rattle.bpf_steps.specs.Entries.{entry_of, step_entry}
 use Rattle.bpf_isa.specs.Sizes.{size_len}
 use Rattle.bpf_machine.proofs.Editable.{able_bytes, able_cell}
 use Rattle.bpf_machine.proofs.Cells.{cell_present}

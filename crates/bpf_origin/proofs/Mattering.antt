@@ -13,16 +13,16 @@ use Rattle.bpf_entries.specs.Status.{has_ended}
 use Rattle.bpf_machine.specs.declared.edit.Edit.TheVariants as edit
 use Rattle.bpf_machine.specs.declared.edit.EditFault.TheVariants.{AddressNotPresent}
 use Rattle.bpf_machine.specs.declared.moves.Move.TheVariants as move
-use Rattle.bpf_machine.specs.Access.{accessible}
-use Rattle.bpf_machine.specs.ByAddress.{byte_at, sum_at}
+use Rattle.bpf_steps.specs.Access.{accessible}
+use Rattle.bpf_steps.specs.ByAddress.{byte_at, sum_at}
 use Rattle.bpf_machine.specs.Edits.{IsEditable, unless, with_run, replaced_run, edited, edit_entry}
-use Rattle.bpf_machine.specs.Platform.{frame_base, frame_len, frame_pointer}
+use Rattle.bpf_steps.specs.Platform.{frame_base, frame_len, frame_pointer}
 use Rattle.bpf_machine.specs.Moves.{Leads}
-use Rattle.bpf_machine.specs.Next.{next}
-use Rattle.bpf_machine.specs.Regions.{Image, IsImage, index_of, is_from_frame, number_at, paste, put, with_bytes}
-use Rattle.bpf_machine.specs.State.{State, IsState, register, depth}
-use Rattle.bpf_machine.proofs.ByAddress.{fits_within, law_runs, law_stores, law_numbers}
-use Rattle.bpf_machine.proofs.Indices.{frame_at, in_context_below}
+use Rattle.bpf_steps.specs.Next.{next}
+use Rattle.bpf_steps.specs.Regions.{Image, IsImage, index_of, is_from_frame, number_at, paste, put, with_bytes}
+use Rattle.bpf_steps.specs.State.{State, IsState, register, depth}
+use Rattle.bpf_steps.proofs.ByAddress.{fits_within, law_runs, law_stores, law_numbers}
+use Rattle.bpf_steps.proofs.Indices.{frame_at, in_context_below}
 use Rattle.bpf_machine.proofs.StepLaws.{below_ten}
 use Rattle.bpf_origin.specs.declared.place.Place.{Place}
 use Rattle.bpf_origin.specs.declared.place.Place.TheVariants.{Register, Word, Byte}

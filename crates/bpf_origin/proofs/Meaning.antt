@@ -22,18 +22,18 @@ use Rattle.bpf_isa.specs.declared.instruction.Source.{Source}
 use Rattle.bpf_isa.specs.declared.instruction.Source.TheVariants as source
 use Rattle.bpf_entries.specs.Past.{Frames, Same, Fewer, More, past}
 use Rattle.bpf_journal.specs.Histories.{Record}
-use Rattle.bpf_machine.specs.declared.change.Change.{Change}
-use Rattle.bpf_machine.specs.declared.change.Change.TheVariants.{Cell}
+use Rattle.bpf_steps.specs.declared.change.Change.{Change}
+use Rattle.bpf_steps.specs.declared.change.Change.TheVariants.{Cell}
 use Rattle.bpf_machine.specs.declared.edit.Edit.{Edit}
 use Rattle.bpf_machine.specs.declared.edit.Edit.TheVariants as edit
 use Rattle.bpf_machine.specs.declared.moves.Move.{Move}
 use Rattle.bpf_machine.specs.declared.moves.Move.TheVariants as move
-use Rattle.bpf_machine.specs.Access.{address}
-use Rattle.bpf_machine.specs.Atomics.{size_of}
+use Rattle.bpf_steps.specs.Access.{address}
+use Rattle.bpf_steps.specs.Atomics.{size_of}
 use Rattle.bpf_machine.specs.Edits.{edited, edit_entry}
 use Rattle.bpf_machine.specs.Moves.{Leads, moved, overwritten}
-use Rattle.bpf_machine.specs.Next.{change}
-use Rattle.bpf_machine.specs.State.{State, depth, register}
+use Rattle.bpf_steps.specs.Next.{change}
+use Rattle.bpf_steps.specs.State.{State, depth, register}
 use Rattle.bpf_machine.specs.StepLaws.{MovesFrames}
 use Rattle.bpf_machine.proofs.StepLaws.{law_rest}
 use Rattle.bpf_machine.proofs.Undoing.{pushed_depth}

@@ -5,7 +5,7 @@ use Rattle.bpf_entries.specs.declared.entry.Entry.{Entry}
 use Rattle.bpf_entries.specs.declared.entry.Entry.TheVariants as entry
 use Rattle.bpf_entries.specs.Past.{past}
 use Rattle.bpf_machine.specs.Moves.{overwritten}
-use Rattle.bpf_machine.specs.State.{State, depth}
+use Rattle.bpf_steps.specs.State.{State, depth}
 use Rattle.bpf_ring.specs.Touched.{newest_touched, touched_by}
 use Rattle.bpf_ring.specs.declared.touched.Touched.{Touched}
 use Rattle.bpf_ring.specs.declared.touched.Touched.TheVariants as touched

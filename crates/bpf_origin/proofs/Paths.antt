@@ -3,7 +3,7 @@ use Rattle.std.proofs.Common.{◌≡◌, Bool, List, [], ◌∷◌, ◌++◌, fl
 use Rattle.std.proofs.lemmas.Grind.{flat_map-append}
 use Rattle.bpf_journal.specs.Histories.{Record}
 use Rattle.bpf_machine.specs.Moves.{Leads, overwritten}
-use Rattle.bpf_machine.specs.State.{State}
+use Rattle.bpf_steps.specs.State.{State}
 use Rattle.bpf_machine.specs.declared.moves.Move.{Move}
 use Rattle.bpf_machine.specs.declared.moves.Move.TheVariants as move
 use Rattle.bpf_origin.specs.Laws.{AgreeOn, StandAlike}

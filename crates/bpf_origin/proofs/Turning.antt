@@ -10,7 +10,7 @@ use Rattle.bpfdb_replies.proofs.Telling.{WritesAfter-nothing}
 use Rattle.bpf_entries.specs.declared.entry.Entry.{Entry}
 use Rattle.bpf_entries.specs.declared.entry.Entry.TheVariants as entry
 use Rattle.bpf_machine.specs.Moves.{overwritten}
-use Rattle.bpf_machine.specs.State.{State}
+use Rattle.bpf_steps.specs.State.{State}
 use Rattle.bpf_journal.specs.Histories.{Record, is_step, kept_of, newest}
 use Rattle.bpf_journal.specs.TakingBack.{taken_of}
 use Rattle.bpf_journal.specs.Tracks.{Track}

@@ -8,15 +8,15 @@ use Rattle.byteorder.specs.Numbers.{length-bytes_low_first}
 use Rattle.bpf_isa.specs.Sizes.{size_len}
 use Rattle.bpf_isa.specs.declared.instruction.Size.{Size}
 use Rattle.bpf_entries.specs.declared.status.Status.{Status}
-use Rattle.bpf_machine.specs.declared.change.Change.{Change}
-use Rattle.bpf_machine.specs.declared.change.Change.TheVariants.{Set, Go, Store, Fetch, Call, Return, Cell, Trace, Stop}
-use Rattle.bpf_machine.specs.ByAddress.{byte_at}
-use Rattle.bpf_machine.specs.Entries.{entry_of, step_entry}
-use Rattle.bpf_machine.specs.Next.{change, changed, next}
-use Rattle.bpf_machine.specs.Platform.{frame_base}
-use Rattle.bpf_machine.specs.Regions.{Image, IsImage, index_of, run, number_at, with_number}
-use Rattle.bpf_machine.specs.State.{State, IsState, depth}
-use Rattle.bpf_machine.proofs.ByAddress.{fits_within, length-run, law_stores}
+use Rattle.bpf_steps.specs.declared.change.Change.{Change}
+use Rattle.bpf_steps.specs.declared.change.Change.TheVariants.{Set, Go, Store, Fetch, Call, Return, Cell, Trace, Stop}
+use Rattle.bpf_steps.specs.ByAddress.{byte_at}
+use Rattle.bpf_steps.specs.Entries.{entry_of, step_entry}
+use Rattle.bpf_steps.specs.Next.{change, changed, next}
+use Rattle.bpf_steps.specs.Platform.{frame_base}
+use Rattle.bpf_steps.specs.Regions.{Image, IsImage, index_of, run, number_at, with_number}
+use Rattle.bpf_steps.specs.State.{State, IsState, depth}
+use Rattle.bpf_steps.proofs.ByAddress.{fits_within, length-run, law_stores}
 use Rattle.bpf_origin.specs.declared.place.Place.{Place}
 use Rattle.bpf_origin.specs.declared.place.Place.TheVariants.{Register, Word, Byte}
 use Rattle.bpf_origin.specs.declared.place.Part.{Part}

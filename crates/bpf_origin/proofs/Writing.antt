@@ -25,22 +25,22 @@ use Rattle.bpf_isa.specs.declared.maps.MapShape.{MapShape}
 use Rattle.bpf_entries.specs.declared.status.Fault.TheVariants.{Depth, Token}
 use Rattle.bpf_entries.specs.declared.status.Status.TheVariants.{Exited, Faulted}
 use Rattle.bpf_entries.specs.Past.{Run, past, replaced}
-use Rattle.bpf_machine.specs.declared.change.Change.{Change}
-use Rattle.bpf_machine.specs.declared.change.Change.TheVariants.{Set, Go, Store, Fetch, Call, Return, Cell, Trace, Stop}
-use Rattle.bpf_machine.specs.declared.frame.Frame.{Frame}
-use Rattle.bpf_machine.specs.Access.{low_bits, address, access, accessible, fault}
-use Rattle.bpf_machine.specs.Atomics.{size_of, replacement, atomic_at}
-use Rattle.bpf_machine.specs.ByAddress.{byte_at, byte}
-use Rattle.bpf_machine.specs.Calls.{pushed, entered}
-use Rattle.bpf_machine.specs.Entries.{entry_of}
-use Rattle.bpf_machine.specs.Fetched.{Fits}
-use Rattle.bpf_machine.specs.Helpers.{map_shape, helper, update_of, update, answer}
-use Rattle.bpf_machine.specs.Next.{change_by, change, changed, next}
-use Rattle.bpf_machine.specs.Numbers.{bits_of}
-use Rattle.bpf_machine.specs.Platform.{frame_base, frame_len, cell_address, token_base, trace_limit}
-use Rattle.bpf_machine.specs.Regions.{Image, IsImage, index_of, run, run_at, number_at, with_bytes, put, zeros}
-use Rattle.bpf_machine.specs.State.{State, IsState, register, depth}
-use Rattle.bpf_machine.proofs.ByAddress.{fits_within, length-run, law_stores}
+use Rattle.bpf_steps.specs.declared.change.Change.{Change}
+use Rattle.bpf_steps.specs.declared.change.Change.TheVariants.{Set, Go, Store, Fetch, Call, Return, Cell, Trace, Stop}
+use Rattle.bpf_steps.specs.declared.frame.Frame.{Frame}
+use Rattle.bpf_steps.specs.Access.{low_bits, address, access, accessible, fault}
+use Rattle.bpf_steps.specs.Atomics.{size_of, replacement, atomic_at}
+use Rattle.bpf_steps.specs.ByAddress.{byte_at, byte}
+use Rattle.bpf_steps.specs.Calls.{pushed, entered}
+use Rattle.bpf_steps.specs.Entries.{entry_of}
+use Rattle.bpf_steps.specs.Fetched.{Fits}
+use Rattle.bpf_steps.specs.Helpers.{map_shape, helper, update_of, update, answer}
+use Rattle.bpf_steps.specs.Next.{change_by, change, changed, next}
+use Rattle.bpf_steps.specs.Numbers.{bits_of}
+use Rattle.bpf_steps.specs.Platform.{frame_base, frame_len, cell_address, token_base, trace_limit}
+use Rattle.bpf_steps.specs.Regions.{Image, IsImage, index_of, run, run_at, number_at, with_bytes, put, zeros}
+use Rattle.bpf_steps.specs.State.{State, IsState, register, depth}
+use Rattle.bpf_steps.proofs.ByAddress.{fits_within, length-run, law_stores}
 use Rattle.bpf_machine.proofs.Undoing.{length-zeros, pushed_depth}
 use Rattle.bpf_origin.specs.declared.place.Place.{Place}
 use Rattle.bpf_origin.specs.declared.place.Place.TheVariants.{Register, Word, Byte}

@@ -4,7 +4,7 @@ use Rattle.counted_io.specs.Counted.{Tally}
 use Rattle.counted_io.specs.Writing.{WritesAfter}
 use Rattle.counted_io.specs.declared.fault.WriteFault.{WriteFault}
 use Rattle.bpf_machine.specs.Moves.{overwritten}
-use Rattle.bpf_machine.specs.State.{State}
+use Rattle.bpf_steps.specs.State.{State}
 use Rattle.bpf_journal.specs.Histories.{Record}
 use Rattle.bpf_journal.specs.Tracks.{Track}
 use Rattle.bpf_origin.specs.declared.place.Place.{Place}

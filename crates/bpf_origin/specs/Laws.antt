@@ -1,11 +1,11 @@
 -- Laws of places: what a move leaves as it is, and what the values depend on that it writes.
 use Rattle.std.specs.Prelude.{◌≡◌, true, false, List, ◌++◌, length, map, flat_map}
 use Rattle.bpf_entries.specs.declared.entry.Entry.{Entry}
-use Rattle.bpf_machine.specs.declared.frame.Frame.{Frame}
+use Rattle.bpf_steps.specs.declared.frame.Frame.{Frame}
 use Rattle.bpf_machine.specs.declared.moves.Move.{Move}
 use Rattle.bpf_machine.specs.declared.moves.Move.TheVariants as move
 use Rattle.bpf_machine.specs.Moves.{Leads, overwritten}
-use Rattle.bpf_machine.specs.State.{State}
+use Rattle.bpf_steps.specs.State.{State}
 use Rattle.bpf_origin.specs.declared.place.Place.{Place}
 use Rattle.bpf_origin.specs.declared.place.Part.{Part}
 use Rattle.bpf_origin.specs.Places.{value, IsPlace, places_of}

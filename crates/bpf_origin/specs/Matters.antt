@@ -6,11 +6,11 @@ use Rattle.bpf_isa.specs.declared.instruction.Insn.TheVariants as insn
 use Rattle.bpf_isa.specs.declared.instruction.Source.{Source}
 use Rattle.bpf_isa.specs.declared.instruction.Source.TheVariants.{Immediate, Register}
 use Rattle.bpf_machine.specs.declared.moves.Move.TheVariants as move
-use Rattle.bpf_machine.specs.Entries.{step_entry}
+use Rattle.bpf_steps.specs.Entries.{step_entry}
 use Rattle.bpf_machine.specs.Moves.{Leads}
-use Rattle.bpf_machine.specs.Next.{target, next}
-use Rattle.bpf_machine.specs.Platform.{trace_limit}
-use Rattle.bpf_machine.specs.State.{State}
+use Rattle.bpf_steps.specs.Next.{target, next}
+use Rattle.bpf_steps.specs.Platform.{trace_limit}
+use Rattle.bpf_steps.specs.State.{State}
 use Rattle.bpf_origin.specs.declared.place.Place.{Place}
 use Rattle.bpf_origin.specs.declared.place.Part.{Part}
 use Rattle.bpf_origin.specs.Laws.{StandAlike, WroteAlike}

@@ -6,7 +6,7 @@ use Rattle.bpf_journal.specs.Histories.{Record}
 use Rattle.bpf_journal.specs.TakingBack.{taken_of}
 use Rattle.bpf_journal.specs.Tracks.{CourseValue, Follows, Track}
 use Rattle.bpf_journal.specs.declared.taken.Taken.{Taken}
-use Rattle.bpf_machine.specs.State.{State}
+use Rattle.bpf_steps.specs.State.{State}
 
 -- A state, and the track that it stands on.
 pub record Stand : Type 0 where

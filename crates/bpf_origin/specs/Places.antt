@@ -1,8 +1,8 @@
 -- Places: what holds a value in a state. r10 is none: it follows from the depth of calls.
 use Rattle.std.specs.Prelude.{◌≤◌, ◌<◌, ℕ, zero, suc, ◌+◌, ◌-◌, ◌%◌, ◌^◌, Bool, false, nat_lt, nat_le, ◌==◌, ◌&&◌, if◌then◌else◌, List, [], ◌∷◌, Option, Some, None, slice_index, slice_get}
-use Rattle.bpf_machine.specs.declared.frame.Frame.{Frame}
-use Rattle.bpf_machine.specs.ByAddress.{byte}
-use Rattle.bpf_machine.specs.State.{State, depth}
+use Rattle.bpf_steps.specs.declared.frame.Frame.{Frame}
+use Rattle.bpf_steps.specs.ByAddress.{byte}
+use Rattle.bpf_steps.specs.State.{State, depth}
 use Rattle.bpf_origin.specs.declared.place.Place.{Place}
 use Rattle.bpf_origin.specs.declared.place.Place.TheVariants.{Register, Word, Byte}
 use Rattle.bpf_origin.specs.declared.place.Part.{Part}

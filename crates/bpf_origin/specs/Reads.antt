@@ -20,14 +20,14 @@ use Rattle.bpf_isa.specs.declared.instruction.Source.TheVariants.{Immediate, Reg
 use Rattle.bpf_entries.specs.declared.status.Fault.TheVariants.{Access}
 use Rattle.bpf_entries.specs.declared.status.Status.{Status}
 use Rattle.bpf_entries.specs.declared.status.Status.TheVariants.{Faulted}
-use Rattle.bpf_machine.specs.declared.change.Change.{Change}
-use Rattle.bpf_machine.specs.declared.change.Change.TheVariants.{Cell}
+use Rattle.bpf_steps.specs.declared.change.Change.{Change}
+use Rattle.bpf_steps.specs.declared.change.Change.TheVariants.{Cell}
 use Rattle.bpf_machine.specs.declared.moves.Move.{Move}
 use Rattle.bpf_machine.specs.declared.moves.Move.TheVariants as move
-use Rattle.bpf_machine.specs.Access.{address}
-use Rattle.bpf_machine.specs.Atomics.{size_of}
-use Rattle.bpf_machine.specs.Next.{change}
-use Rattle.bpf_machine.specs.State.{State, register, depth}
+use Rattle.bpf_steps.specs.Access.{address}
+use Rattle.bpf_steps.specs.Atomics.{size_of}
+use Rattle.bpf_steps.specs.Next.{change}
+use Rattle.bpf_steps.specs.State.{State, register, depth}
 use Rattle.bpf_origin.specs.declared.place.Part.{Part}
 use Rattle.bpf_origin.specs.declared.place.Part.TheVariants as part
 use Rattle.bpf_origin.specs.Places.{depth_for}

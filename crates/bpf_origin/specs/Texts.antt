@@ -4,9 +4,9 @@ use lib.Chars.{codes}
 use Rattle.std.specs.Option.{option_map_or}
 use Rattle.byteorder.specs.Endian.{little_number}
 use Rattle.counted_io.specs.Writing.{hexadecimal}
-use Rattle.bpf_machine.specs.Platform.{context_base, frame_base}
-use Rattle.bpf_machine.specs.Regions.{run_at}
-use Rattle.bpf_machine.specs.State.{State}
+use Rattle.bpf_steps.specs.Platform.{context_base, frame_base}
+use Rattle.bpf_steps.specs.Regions.{run_at}
+use Rattle.bpf_steps.specs.State.{State}
 use Rattle.bpf_machine.specs.declared.moves.Move.{Move}
 use Rattle.bpf_machine.specs.declared.moves.Move.TheVariants as move
 use Rattle.bpfdb_replies.specs.Texts.{text_at}

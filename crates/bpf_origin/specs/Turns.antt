@@ -8,7 +8,7 @@ use Rattle.bpf_ring.specs.declared.touched.Touched.TheVariants as touched
 use Rattle.bpf_journal.specs.Histories.{Record}
 use Rattle.bpf_journal.specs.Tracks.{Track}
 use Rattle.bpf_machine.specs.Moves.{overwritten}
-use Rattle.bpf_machine.specs.State.{State}
+use Rattle.bpf_steps.specs.State.{State}
 use Rattle.bpf_origin.specs.declared.place.Part.{Part}
 use Rattle.bpf_origin.specs.declared.place.Part.TheVariants as part
 use Rattle.bpf_origin.specs.declared.place.Place.{Place}

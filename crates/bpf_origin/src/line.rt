@@ -2,7 +2,7 @@
 ghost use Rattle.std.specs.Prelude.{◌≡◌, ◌≤◌, ◌<◌, ◌++◌, flat_map, codes, if◌then◌else◌, nat_lt, length, slice_index};
 ghost use Rattle.counted_io.specs.Writing.{WritesAfter};
 ghost use Rattle.bpf_journal.specs.Histories.{is_step as is_step_of};
-ghost use Rattle.bpf_machine.specs.ByAddress.{byte};
+ghost use Rattle.bpf_steps.specs.ByAddress.{byte};
 ghost use Rattle.bpfdb_replies.specs.Texts.{text_at};
 ghost use Rattle.bpf_machine.specs.declared.moves.Move.{Move};
 ghost use Rattle.bpf_origin.specs.Places.{value};

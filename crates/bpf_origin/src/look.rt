@@ -2,7 +2,7 @@
 ghost use Rattle.std.specs.Prelude.{◌≡◌, ◌≤◌, ◌-◌, length};
 ghost use Rattle.bpf_journal.specs.Histories.{IsRun};
 ghost use Rattle.bpf_journal.specs.Tracks.{Follows, Track};
-ghost use Rattle.bpf_machine.specs.State.{State};
+ghost use Rattle.bpf_steps.specs.State.{State};
 ghost use Rattle.bpf_origin.specs.Asked.{answer_about};
 ghost use Rattle.bpf_origin.specs.Pasts.{CourseStands, LeavesMoves, gone_from};
 ghost use Rattle.counted_io.specs.Writing.{WritesAfter};

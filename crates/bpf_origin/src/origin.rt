@@ -5,7 +5,7 @@ ghost use Rattle.bpf_entries.specs.Past.{Fewer, past};
 ghost use Rattle.bpf_entries.specs.Status.{has_ended};
 ghost use Rattle.bpf_journal.specs.Histories.{Record, is_step};
 ghost use Rattle.bpf_journal.specs.Tracks.{Track};
-ghost use Rattle.bpf_machine.specs.State.{depth};
+ghost use Rattle.bpf_steps.specs.State.{depth};
 ghost use Rattle.bpf_machine.specs.declared.moves.Move.{Move};
 ghost use Rattle.bpf_origin.specs.declared.place.Part.TheVariants as the_part;
 ghost use Rattle.bpf_origin.specs.declared.place.Place.{Place};

@@ -3,7 +3,7 @@ ghost use Rattle.std.specs.Prelude.{◌≡◌, ℕ, IfSome, length, map, true, f
 ghost use Rattle.bpf_entries.specs.Status.{has_ended};
 ghost use Rattle.bpf_journal.specs.Histories.{StandsFor, kept_of, newest};
 ghost use Rattle.bpf_journal.specs.Tracks.{Follows, Track};
-ghost use Rattle.bpf_machine.specs.State.{State, depth};
+ghost use Rattle.bpf_steps.specs.State.{State, depth};
 ghost use Rattle.bpf_ring.specs.Touched.{newest_touched};
 ghost use Rattle.bpf_origin.specs.Pasts.{GoesBack, IsSameKeeper};
 

@@ -2,7 +2,7 @@
 ghost use Rattle.std.specs.Prelude.{◌≡◌, ◌≤◌, ◌<◌, ◌++◌, ◌∷◌, [], ℕ, length, option_map};
 ghost use Rattle.std.specs.List.{list_any};
 ghost use Rattle.bpf_entries.specs.Past.{past};
-ghost use Rattle.bpf_machine.specs.State.{depth};
+ghost use Rattle.bpf_steps.specs.State.{depth};
 ghost use Rattle.bpf_origin.specs.Places.{has as has_place, same};
 ghost use Rattle.bpf_origin.specs.Wanted.{is_among as is_among_of};
 ghost use Rattle.bpf_origin.specs.Writes as spec;

@@ -2,7 +2,7 @@
 use Rattle.std.proofs.Common.{◌≡◌, ◌<◌, ◌≤◌, ◌==◌, ℕ, suc, ◌+◌, ◌-◌, true, false, List, [], ◌∷◌, ◌++◌, Option, None, Some, refl, sym, ap, subst, ◌∙◌, append_assoc, arith, add-one, length, take}
 use lib.Chars.{codes}
 use Rattle.std.proofs.lemmas.List.{append-nil}
-use Rattle.bpf_machine.specs.State.{State}
+use Rattle.bpf_steps.specs.State.{State}
 use Rattle.bpf_remote.specs.Packets.{Buffer, Holds}
 use Rattle.bpf_remote.specs.Numbers.{address_text, hex_text, word_text}
 use Rattle.bpf_remote.specs.Answers.{byte_at, error_text, moves_text, other_text, register_text, present, registers_below, stop_text, value_of, memory_part, has_memory, part_of, watched_text}

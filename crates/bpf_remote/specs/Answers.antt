@@ -4,8 +4,8 @@ use lib.Chars.{codes}
 use Rattle.bpf_entries.specs.declared.status.Fault.TheVariants.{Access}
 use Rattle.bpf_entries.specs.declared.status.Status.{Status}
 use Rattle.bpf_entries.specs.declared.status.Status.TheVariants.{Running, Exited, Faulted}
-use Rattle.bpf_machine.specs.Regions.{run_at}
-use Rattle.bpf_machine.specs.State.{State, register}
+use Rattle.bpf_steps.specs.Regions.{run_at}
+use Rattle.bpf_steps.specs.State.{State, register}
 use Rattle.bpfdb_commands.specs.Refusals.{number_of}
 use Rattle.bpfdb_commands.specs.declared.refusal.Refusal.{Refusal}
 use Rattle.bpfdb_commands.specs.declared.refusal.Refusal.TheVariants.{MachineEnded, NoKeptStep}

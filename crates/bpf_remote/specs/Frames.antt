@@ -1,8 +1,8 @@
 -- The frames of calls that have not returned, as gdb reads them: memory at an address of its own.
 use Rattle.std.specs.Prelude.{ℕ, ◌*◌, ◌/◌, ◌%◌, List, ◌∷◌, Option, option_map, slice_get, slice_index}
 use Rattle.byteorder.specs.Endian.{little_bytes}
-use Rattle.bpf_machine.specs.State.{State}
-use Rattle.bpf_machine.specs.declared.frame.Frame.{Frame}
+use Rattle.bpf_steps.specs.State.{State}
+use Rattle.bpf_steps.specs.declared.frame.Frame.{Frame}
 
 -- The address of the outermost one. No region of the machine comes near it.
 abbrev pub frames_base : ℕ

@@ -7,7 +7,7 @@ use Rattle.std.specs.Str.{bytes_eq}
 use Rattle.hex.specs.Hex.{decode_of}
 use Rattle.bpf_entries.specs.Keeping.{Kept}
 use Rattle.bpf_journal.specs.Tracks.{Track}
-use Rattle.bpf_machine.specs.State.{State}
+use Rattle.bpf_steps.specs.State.{State}
 use Rattle.bpf_origin.specs.Asked.{answer_about, parts_asked, what_fault, what_in}
 use Rattle.bpf_origin.specs.Pasts.{CourseStands, LeavesMoves, gone_from}
 use Rattle.bpf_origin.specs.declared.fault.WhatFault.{WhatFault}

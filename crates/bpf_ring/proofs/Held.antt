@@ -7,12 +7,12 @@ use Rattle.std.proofs.lemmas.List.Elements.{All-head, All-tail, All-cons}
 use Rattle.byteorder.specs.Endian.{little_bytes}
 use Rattle.bpf_entries.specs.declared.entry.Entry.{Entry}
 use Rattle.bpf_entries.specs.Past.{is_of_step}
-use Rattle.bpf_machine.specs.declared.change.Change.{Change}
-use Rattle.bpf_machine.specs.declared.change.Change.TheVariants as change
-use Rattle.bpf_machine.specs.Entries.{entry_of, step_entry}
+use Rattle.bpf_steps.specs.declared.change.Change.{Change}
+use Rattle.bpf_steps.specs.declared.change.Change.TheVariants as change
+use Rattle.bpf_steps.specs.Entries.{entry_of, step_entry}
 use Rattle.bpf_machine.specs.Moves.{HasComeBy}
-use Rattle.bpf_machine.specs.Next.{change as change_of}
-use Rattle.bpf_machine.specs.State.{State}
+use Rattle.bpf_steps.specs.Next.{change as change_of}
+use Rattle.bpf_steps.specs.State.{State}
 use Rattle.bpf_entries.specs.Fields.{FitsFields}
 use Rattle.bpf_entries.specs.Keeping.{Kept, kept_weight, fit, keep}
 use Rattle.bpf_entries.specs.Weights.{greatest_weight, weight}

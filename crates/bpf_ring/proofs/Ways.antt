@@ -13,7 +13,7 @@ use Rattle.bpf_entries.specs.Texts.{text}
 use Rattle.bpf_entries.specs.Weights.{weight}
 use Rattle.bpf_machine.specs.declared.moves.Move.{Move}
 use Rattle.bpf_machine.specs.Moves.{HasComeBy, Leads, overwritten}
-use Rattle.bpf_machine.specs.State.{State}
+use Rattle.bpf_steps.specs.State.{State}
 use Rattle.bpf_ring.proofs.Counted.{step_fewer, step_more}
 use Rattle.bpf_ring.proofs.Arounds.{around_more, length-around}
 use Rattle.bpf_ring.specs.Blocks.{Content, around, behind, pasted}

@@ -3,7 +3,7 @@ use Rattle.std.specs.Prelude.{◌≡◌, List, [], ◌∷◌}
 use Rattle.bpf_entries.specs.Keeping.{Kept}
 use Rattle.bpf_entries.specs.Rings.{AllFit, ring}
 use Rattle.bpf_machine.specs.Moves.{HasCome}
-use Rattle.bpf_machine.specs.State.{State}
+use Rattle.bpf_steps.specs.State.{State}
 use Rattle.bpf_ring.specs.declared.counts.Counts.{Counts}
 use Rattle.bpf_ring.specs.declared.keeper.RingKeeper.{RingKeeper}
 use Rattle.bpf_ring.specs.Blocks.{Content}

@@ -4,10 +4,10 @@ use Rattle.bpf_entries.specs.Fields.{FitsFields}
 use Rattle.bpf_entries.specs.Status.{has_ended}
 use Rattle.bpf_entries.specs.Texts.{text}
 use Rattle.bpf_entries.specs.Weights.{greatest_weight, weight as weight_of}
-use Rattle.bpf_machine.specs.Entries.{step_entry}
-use Rattle.bpf_machine.specs.Next.{change, next}
-use Rattle.bpf_machine.specs.State.{State}
-use Rattle.bpf_machine.specs.declared.change.Change.{Change}
+use Rattle.bpf_steps.specs.Entries.{step_entry}
+use Rattle.bpf_steps.specs.Next.{change, next}
+use Rattle.bpf_steps.specs.State.{State}
+use Rattle.bpf_steps.specs.declared.change.Change.{Change}
 use Rattle.bpf_ring.specs.Blocks.{Content, around, behind}
 
 -- A machine runs, this is what `look` answers of it, and the step's entry has so many bytes.

@@ -7,7 +7,7 @@ use Rattle.bpf_entries.specs.Past.{is_of_step}
 use Rattle.bpf_entries.specs.Texts.{kind, tag, text}
 use Rattle.bpf_machine.specs.declared.moves.Move.{Move}
 use Rattle.bpf_machine.specs.Moves.{Leads, overwritten}
-use Rattle.bpf_machine.specs.State.{State}
+use Rattle.bpf_steps.specs.State.{State}
 use Rattle.bpf_ring.specs.Held.{RingHolds}
 use Rattle.bpf_ring.specs.declared.keeper.RingKeeper.{RingKeeper}
 

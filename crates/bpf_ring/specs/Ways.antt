@@ -7,10 +7,10 @@ use Rattle.bpf_entries.specs.Past.{Same, is_of_step, past, replaced}
 use Rattle.bpf_entries.specs.Rings.{AllFit, ring}
 use Rattle.bpf_entries.specs.Texts.{text}
 use Rattle.bpf_entries.specs.Weights.{weight}
-use Rattle.bpf_machine.specs.Kept.{is_marked}
+use Rattle.bpf_steps.specs.Kept.{is_marked}
 use Rattle.bpf_machine.specs.declared.moves.Move.{Move}
 use Rattle.bpf_machine.specs.Moves.{Leads, overwritten}
-use Rattle.bpf_machine.specs.State.{State}
+use Rattle.bpf_steps.specs.State.{State}
 use Rattle.bpf_ring.specs.declared.backward.Stays.{Stays}
 use Rattle.bpf_ring.specs.declared.backward.Stays.TheVariants.{Nothing, Depth, Memory}
 use Rattle.bpf_ring.specs.declared.counts.Counts.{Counts}

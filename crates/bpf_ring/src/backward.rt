@@ -6,7 +6,7 @@ ghost use Rattle.bpf_entries.specs.declared.entry.Entry.{Entry};
 ghost use Rattle.bpf_entries.specs.Fields.{FitsFields};
 ghost use Rattle.bpf_entries.specs.Texts.{kind, text as text_of};
 ghost use Rattle.bpf_machine.specs.Moves.{HasComeBy, Leads, overwritten};
-ghost use Rattle.bpf_machine.specs.State.{State};
+ghost use Rattle.bpf_steps.specs.State.{State};
 ghost use Rattle.bpf_machine.specs.declared.moves.Move.{Move};
 ghost use Rattle.bpf_ring.specs.Ways.{EndsPlain, EndsWay, HandsBack, HandsSteps, HasLeft, HasText, HoldsWholeWay, IsPlain, IsWay, Made, kept_by};
 

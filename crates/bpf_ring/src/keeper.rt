@@ -10,7 +10,7 @@ ghost use Rattle.bpf_entries.specs.Weights.{greatest_weight, weight as weight_of
 ghost use Rattle.bpf_entries.specs.Keeping.{IsSize};
 ghost use Rattle.bpf_entries.specs.Status.{has_ended};
 ghost use Rattle.bpf_machine.specs.Moves.{HasComeBy};
-ghost use Rattle.bpf_machine.specs.Next.{change as change_of};
+ghost use Rattle.bpf_steps.specs.Next.{change as change_of};
 ghost use Rattle.bpf_ring.specs.Counted.{Counted};
 ghost use Rattle.bpf_ring.specs.Heads.{head_of};
 ghost use Rattle.bpf_ring.specs.Grown.{KeepsRun, MakesRoom, RecordsStep, TakesStep};

@@ -7,7 +7,7 @@ ghost use Rattle.bpf_entries.specs.Fields.{FitsFields};
 ghost use Rattle.bpf_entries.specs.Texts.{kind, tag, text};
 ghost use Rattle.bpf_entries.specs.Weights.{greatest_weight};
 ghost use Rattle.bpf_machine.specs.Moves.{HasComeBy, Leads, overwritten};
-ghost use Rattle.bpf_machine.specs.State.{State};
+ghost use Rattle.bpf_steps.specs.State.{State};
 ghost use Rattle.bpf_machine.specs.declared.moves.Move.{Move};
 ghost use Rattle.bpf_entries.specs.Keeping.{IsSize, Kept};
 ghost use Rattle.bpf_ring.specs.Held.{IsHeld};

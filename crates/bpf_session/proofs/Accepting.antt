@@ -4,7 +4,7 @@ use Rattle.std.specs.Prelude.{map, nat_le, nat_lt, IsSome}
 use Rattle.std.proofs.lemmas.Bool.Decides.{nat_tests}
 use Rattle.bpf_entries.specs.Keeping.{Kept}
 use Rattle.bpf_entries.specs.Status.{has_ended}
-use Rattle.bpf_machine.specs.State.{depth}
+use Rattle.bpf_steps.specs.State.{depth}
 use Rattle.bpf_machine.specs.Edits.{IsEditable, edit_fault}
 use Rattle.bpf_machine.specs.declared.edit.Edit.{Edit}
 use Rattle.bpf_machine.specs.declared.edit.EditFault.{EditFault}

@@ -1,9 +1,9 @@
 -- A machine that takes steps until it has ended, or as many as it may, stands where a run without history ends.
 use Rattle.std.proofs.Common.{◌≡◌, ◌+◌, ◌<◌, ◌≤◌, ℕ, zero, suc, Bool, true, false, sym, ap, ◌∙◌, refl, arith, inl, inr}
 use Rattle.std.proofs.lemmas.Bool.{cases_lt}
-use Rattle.bpf_machine.specs.Next.{next}
-use Rattle.bpf_machine.specs.Runs as machine
-use Rattle.bpf_machine.specs.State.{State}
+use Rattle.bpf_steps.specs.Next.{next}
+use Rattle.bpf_steps.specs.Runs as machine
+use Rattle.bpf_steps.specs.State.{State}
 use Rattle.bpf_entries.specs.Status.{has_ended}
 use Rattle.bpf_ring.specs.Runs.{state_after}
 use Rattle.bpf_session.specs.Forward.{least}

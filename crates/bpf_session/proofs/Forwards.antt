@@ -3,8 +3,8 @@ use Rattle.std.proofs.Common.{◌≡◌, ◌+◌, ◌-◌, ◌<◌, ◌≤◌, �
 use Rattle.std.proofs.lemmas.Bool.Decides.{nat_tests}
 use Rattle.std.specs.Prelude.{if◌then◌else◌, nat_lt, not, unwrap_or, IfOk}
 use Rattle.std.specs.Str.{bytes_eq}
-use Rattle.bpf_machine.specs.State.{State, depth}
-use Rattle.bpf_machine.specs.Entries.{step_entry}
+use Rattle.bpf_steps.specs.State.{State, depth}
+use Rattle.bpf_steps.specs.Entries.{step_entry}
 use Rattle.bpf_machine.specs.Moves.{Leads}
 use Rattle.bpf_entries.specs.Past.{replaced}
 use Rattle.bpf_entries.specs.Status.{has_ended}

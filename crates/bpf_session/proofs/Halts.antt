@@ -1,7 +1,7 @@
 -- What the test of a session's run is spared by a table of slots, and by nothing that is watched.
 use Rattle.std.specs.Prelude.{if◌then◌else◌, nat_lt}
 use Rattle.std.proofs.Common.{◌≡◌, ◌%◌, ℕ, Bool, true, false, List, [], length, refl, sym, ap, subst, ◌∙◌, arith}
-use Rattle.bpf_machine.specs.State.{depth}
+use Rattle.bpf_steps.specs.State.{depth}
 use Rattle.bpf_ring.specs.Runs.{Overlooks, Spares}
 use Rattle.bpf_session.specs.Halting.{halts}
 use Rattle.bpf_session.specs.SlotTables.{IsTableOf}

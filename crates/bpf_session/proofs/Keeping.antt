@@ -5,8 +5,8 @@ use Rattle.std.proofs.lemmas.Bool.{cases_lt, le-ltb}
 use Rattle.bpf_entries.specs.Past.{replaced}
 use Rattle.bpf_entries.specs.Status.{has_ended}
 use Rattle.bpf_journal.specs.Runs.{Ends, refusals_by_run}
-use Rattle.bpf_machine.specs.Entries.{step_entry}
-use Rattle.bpf_machine.specs.State.{State, depth}
+use Rattle.bpf_steps.specs.Entries.{step_entry}
+use Rattle.bpf_steps.specs.State.{State, depth}
 use Rattle.bpf_ring.specs.Runs.{RunsTo, state_after, stops_after}
 use Rattle.bpf_session.specs.Forward.{least}
 use Rattle.bpf_session.specs.Halting.{halts}

@@ -7,7 +7,7 @@ use Rattle.bpf_entries.specs.Keeping.{Kept, fit}
 use Rattle.bpf_machine.specs.declared.edit.Edit.{Edit}
 use Rattle.bpf_machine.specs.declared.moves.Move.TheVariants as move
 use Rattle.bpf_machine.specs.Moves.{moved}
-use Rattle.bpf_machine.specs.State.{State}
+use Rattle.bpf_steps.specs.State.{State}
 use Rattle.bpf_ring.specs.Runs.{state_after}
 use Rattle.bpf_journal.specs.Histories.{Record, IsRun, record_weight}
 use Rattle.bpf_journal.specs.Lookups.{state_before}

@@ -5,7 +5,7 @@ use Rattle.std.proofs.lemmas.Bool.Decides.{nat_tests}
 use Rattle.std.proofs.lemmas.List.{drop-drop}
 use Rattle.bpf_entries.specs.Keeping.{fit}
 use Rattle.bpf_machine.specs.Edits.{edited}
-use Rattle.bpf_machine.specs.State.{State}
+use Rattle.bpf_steps.specs.State.{State}
 use Rattle.bpf_machine.specs.declared.edit.Edit.{Edit}
 use Rattle.bpf_machine.specs.declared.moves.Move.TheVariants as move
 use Rattle.bpf_ring.specs.Runs.{state_after}

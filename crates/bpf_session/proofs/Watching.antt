@@ -4,8 +4,8 @@ use Rattle.std.specs.Str.{bytes_eq}
 use Rattle.std.proofs.Common.{◌≡◌, ◌+◌, ◌<◌, ◌≤◌, ℕ, Bool, true, false, List, [], ◌∷◌, ◌++◌, take, get_or, length, refl, sym, ap, ◌∙◌, arith}
 use Rattle.std.proofs.lemmas.Bool.Decides.{nat_tests}
 use Rattle.std.proofs.lemmas.List.{map_push, take_all, take_more}
-use Rattle.bpf_machine.specs.ByAddress.{byte}
-use Rattle.bpf_machine.specs.State.{State}
+use Rattle.bpf_steps.specs.ByAddress.{byte}
+use Rattle.bpf_steps.specs.State.{State}
 use Rattle.bpf_session.specs.Stops.{some_differs}
 use Rattle.bpf_session.specs.Watched.{Compares, bytes_at}
 

@@ -1,6 +1,6 @@
 -- A backward command looks a recorded state up.
 use Rattle.std.specs.Prelude.{ℕ, ◌&&◌, ◌||◌, min, Option, Some, None, is_some, unwrap_or, length, drop, take, reverse, ◌++◌, count_by, nat_le, nat_lt, if◌then◌else◌}
-use Rattle.bpf_machine.specs.State.{State, depth}
+use Rattle.bpf_steps.specs.State.{State, depth}
 use Rattle.bpf_journal.specs.Histories.{is_step}
 use Rattle.bpf_journal.specs.Lookups.{Test, latest, state_before}
 use Rattle.bpf_session.specs.Points.{Point}

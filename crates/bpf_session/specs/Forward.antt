@@ -1,6 +1,6 @@
 -- A forward command takes the least number of steps, at least one, after which a stop holds.
 use Rattle.std.specs.Prelude.{◌+◌, ℕ, zero, suc, Bool, false, List, [], Option, Some, None, is_some, unwrap_or, if◌then◌else◌, ◌==◌, nat_le, nat_lt}
-use Rattle.bpf_machine.specs.State.{State, depth}
+use Rattle.bpf_steps.specs.State.{State, depth}
 use Rattle.bpf_entries.specs.Status.{has_ended}
 use Rattle.bpf_ring.specs.Runs.{state_after}
 use Rattle.bpf_journal.specs.Histories.{Record}

@@ -1,7 +1,7 @@
 -- Scaffolding: how a forward command's run of steps stops: by a test of each step, and by the most steps.
 use Rattle.std.specs.Prelude.{◌+◌, ℕ, Bool, true, false, List, if◌then◌else◌, nat_lt, not}
 use Rattle.std.specs.Str.{bytes_eq}
-use Rattle.bpf_machine.specs.State.{State, depth}
+use Rattle.bpf_steps.specs.State.{State, depth}
 use Rattle.bpf_session.specs.Stops.{has}
 use Rattle.bpf_session.specs.Watched.{bytes_at}
 use Rattle.bpfdb_commands.specs.declared.command.Goal.{Goal}

@@ -2,7 +2,7 @@
 use Rattle.std.specs.Prelude.{◌≡◌, ◌≢◌, ◌<◌, ◌≤◌, ◌-◌, ◌^◌, ◌+◌, ◌⊎◌, ◌↔◌, if◌then◌else◌, ◌&&◌, ℕ, suc, Bool, true, false, List, [], ◌∷◌, length, map, min, take, drop, reverse, ◌++◌, count_by, slice_get, Option, Some, None, Result, Ok, Err, IsTrue, option_map, is_ok}
 use Rattle.bpf_session.specs.Points.{Point, Bounds, without_ahead}
 use Rattle.bpf_ring.specs.Runs.{state_after}
-use Rattle.bpf_machine.specs.State.{State, depth}
+use Rattle.bpf_steps.specs.State.{State, depth}
 use Rattle.bpf_entries.specs.Status.{has_ended}
 use Rattle.bpf_machine.specs.Moves.{moved}
 use Rattle.bpf_journal.specs.Histories.{Record, is_step}

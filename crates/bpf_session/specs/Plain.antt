@@ -1,7 +1,7 @@
 -- Runs that no command stops: one without history, and one that a ring keeps.
 use Rattle.std.specs.Prelude.{◌≡◌, ◌≢◌, ℕ, List, [], ◌++◌, Option, Result, Ok, IfOk, IfErr}
 use lib.Chars.{codes}
-use Rattle.bpf_machine.specs.State.{State, register}
+use Rattle.bpf_steps.specs.State.{State, register}
 use Rattle.bpf_entries.specs.Status.{has_ended}
 use Rattle.bpf_entries.specs.declared.status.Status.{Status}
 use Rattle.bpf_entries.specs.declared.status.Status.TheVariants as status

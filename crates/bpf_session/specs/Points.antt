@@ -1,6 +1,6 @@
 -- Where a session stands, and what it was opened with.
 use Rattle.std.specs.Prelude.{ℕ, List, []}
-use Rattle.bpf_machine.specs.State.{State}
+use Rattle.bpf_steps.specs.State.{State}
 use Rattle.bpf_journal.specs.Histories.{Record}
 
 -- The kept history, the newest record first; the records that were taken back since the latest new move, the next one to be made again

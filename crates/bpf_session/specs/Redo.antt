@@ -2,7 +2,7 @@
 use Rattle.std.specs.Prelude.{◌≡◌, ◌≤◌, ℕ, zero, suc, List, [], ◌∷◌, ◌++◌, Option, Some, None, length, take, drop, reverse, min, nat_le, nat_lt, ◌==◌, if◌then◌else◌}
 use Rattle.bpf_entries.specs.Keeping.{Kept}
 use Rattle.bpf_machine.specs.Moves.{moved}
-use Rattle.bpf_machine.specs.State.{State}
+use Rattle.bpf_steps.specs.State.{State}
 use Rattle.bpf_journal.specs.Courses.{MakesAllAgain}
 use Rattle.bpf_journal.specs.Histories.{Record}
 use Rattle.bpf_journal.specs.Tracks.{Track}

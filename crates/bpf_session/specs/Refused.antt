@@ -1,8 +1,8 @@
 -- Which refusals of a command hold at a point, in the order of their numbers: the first is answered.
 use Rattle.std.specs.Prelude.{ℕ, Bool, true, false, not, Option, Some, None, List, [], ◌∷◌, ◌++◌, length, is_some, ◌==◌, nat_le, nat_lt}
 use Rattle.bpf_isa.specs.Programs.{insn_at}
-use Rattle.bpf_machine.specs.Regions.{index_of}
-use Rattle.bpf_machine.specs.State.{depth}
+use Rattle.bpf_steps.specs.Regions.{index_of}
+use Rattle.bpf_steps.specs.State.{depth}
 use Rattle.bpf_entries.specs.Status.{has_ended}
 use Rattle.bpf_machine.specs.declared.edit.Edit.{Edit}
 use Rattle.bpf_machine.specs.declared.edit.EditFault.{EditFault}

@@ -2,8 +2,8 @@
 use Rattle.std.specs.Prelude.{ℕ, List, [], Option, Some, None, Result, Ok, Err, IsSome, length, sum_by}
 use lib.Chars.{codes}
 use Rattle.bpf_isa.specs.Programs.{IsStart}
-use Rattle.bpf_machine.specs.Regions.{index_of}
-use Rattle.bpf_machine.specs.State.{State}
+use Rattle.bpf_steps.specs.Regions.{index_of}
+use Rattle.bpf_steps.specs.State.{State}
 use Rattle.bpf_journal.specs.Histories.{record_weight}
 use Rattle.bpf_journal.specs.Lookups.{last_change}
 use Rattle.bpf_journal.specs.declared.timeline.ByteChange.{ByteChange}

@@ -5,7 +5,7 @@ use Rattle.bpf_journal.specs.GoingBack.{GoesBackBy}
 use Rattle.bpf_journal.specs.Histories.{Record, kept_of}
 use Rattle.bpf_journal.specs.Tracks.{CourseValue, Track, track_of}
 use Rattle.bpf_machine.specs.Moves.{Leads}
-use Rattle.bpf_machine.specs.State.{State, depth}
+use Rattle.bpf_steps.specs.State.{State, depth}
 use Rattle.bpf_ring.specs.Ways.{IsPlain}
 use Rattle.bpf_ring.specs.declared.backward.Stays.{Stays}
 use Rattle.bpf_ring.specs.declared.backward.Stays.TheVariants.{Nothing, Depth, Memory}

@@ -1,8 +1,8 @@
 -- Where commands stop: breakpoints, and watched bytes that a step changed.
 use Rattle.std.specs.Prelude.{ℕ, Bool, not, ◌==◌, List}
 use Rattle.std.specs.List.{list_any}
-use Rattle.bpf_machine.specs.ByAddress.{byte}
-use Rattle.bpf_machine.specs.State.{State}
+use Rattle.bpf_steps.specs.ByAddress.{byte}
+use Rattle.bpf_steps.specs.State.{State}
 use Rattle.bpf_session.specs.Points.{Point}
 
 -- Whether a number is in a list.

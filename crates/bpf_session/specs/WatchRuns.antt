@@ -2,9 +2,9 @@
 use Rattle.std.specs.Prelude.{◌≡◌, ℕ, zero, suc, ◌+◌, ◌^◌, ◌==◌, ◌&&◌, not, is_some, Bool, List, [], ◌∷◌, ◌++◌, length, filter, find, map, Option, Some, None, Result, Ok, Err, nat_le, nat_lt, if◌then◌else◌}
 use Rattle.std.specs.List.{list_all, list_any}
 use Rattle.std.specs.Option.{option_map}
-use Rattle.bpf_machine.specs.ByAddress.{byte}
-use Rattle.bpf_machine.specs.Regions.{index_of}
-use Rattle.bpf_machine.specs.State.{State}
+use Rattle.bpf_steps.specs.ByAddress.{byte}
+use Rattle.bpf_steps.specs.Regions.{index_of}
+use Rattle.bpf_steps.specs.State.{State}
 use Rattle.bpf_session.specs.Limits.{most_watches}
 use Rattle.bpf_session.specs.Sessions.{SessionValue}
 use Rattle.bpf_session.specs.Stops.{has}

@@ -1,7 +1,7 @@
 -- Scaffolding: the bytes at some addresses, as the code remembers them.
 use Rattle.std.specs.Prelude.{◌≡◌, ℕ, Bool, false, List, map}
-use Rattle.bpf_machine.specs.ByAddress.{byte}
-use Rattle.bpf_machine.specs.State.{State}
+use Rattle.bpf_steps.specs.ByAddress.{byte}
+use Rattle.bpf_steps.specs.State.{State}
 use Rattle.bpf_session.specs.Stops.{some_differs}
 
 -- The bytes at these addresses.

@@ -1,8 +1,8 @@
 //! Watches: the addresses of bytes at whose change forward commands stop.
 ghost use Rattle.std.specs.Prelude.{◌≡◌, ◌<◌, ◌≤◌, ◌↔◌, ℕ, if◌then◌else◌, ◌++◌, ◌∷◌, [], IsTrue, false, length, filter, not, nat_le, ◌==◌};
 ghost use Rattle.std.specs.Str.{bytes_eq};
-ghost use Rattle.bpf_machine.specs.ByAddress.{byte};
-ghost use Rattle.bpf_machine.specs.State.{State};
+ghost use Rattle.bpf_steps.specs.ByAddress.{byte};
+ghost use Rattle.bpf_steps.specs.State.{State};
 ghost use Rattle.bpf_session.specs.Limits.{most_watches};
 ghost use Rattle.bpf_session.specs.Stops.{has};
 ghost use Rattle.bpf_session.specs.Watched.{Compares, bytes_at};

@@ -6,10 +6,10 @@ use Rattle.std.proofs.lemmas.List.Elements.{filter_map-append}
 use Rattle.bpf_isa.specs.Programs.{Checked}
 use Rattle.bpf_isa.specs.declared.maps.MapShape.{MapShape}
 use Rattle.bpf_machine.specs.Edits.{edited}
-use Rattle.bpf_machine.specs.Platform.{context_limit}
-use Rattle.bpf_machine.specs.State.{State, initial}
+use Rattle.bpf_steps.specs.Platform.{context_limit}
+use Rattle.bpf_steps.specs.State.{State, initial}
 use Rattle.bpf_machine.specs.declared.edit.Edit.TheVariants as edit
-use Rattle.bpf_machine.specs.declared.fault.OpenFault.TheVariants as unopened
+use Rattle.bpf_steps.specs.declared.fault.OpenFault.TheVariants as unopened
 use Rattle.bpf_session.specs.Plain.{plain_end}
 use Rattle.bpf_suite.specs.Cells.{cell_of}
 use Rattle.bpf_suite.specs.Images.{IsImageOf, Makes, with_runs}

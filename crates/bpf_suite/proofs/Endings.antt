@@ -10,11 +10,11 @@ use Rattle.std.proofs.lemmas.List.{take_all}
 use Rattle.bpf_isa.specs.Maps.{IsShape}
 use Rattle.bpf_isa.specs.declared.maps.MapShape.{MapShape}
 use Rattle.bpf_machine.specs.Edits.{has_cell}
-use Rattle.bpf_machine.specs.Platform.{cell_address, map_base, map_stride}
-use Rattle.bpf_machine.specs.Regions.{index_in, map_len, maps_from, maps_len, run_at}
-use Rattle.bpf_machine.specs.State.{IsState, State}
+use Rattle.bpf_steps.specs.Platform.{cell_address, map_base, map_stride}
+use Rattle.bpf_steps.specs.Regions.{index_in, map_len, maps_from, maps_len, run_at}
+use Rattle.bpf_steps.specs.State.{IsState, State}
 use Rattle.bpf_machine.proofs.Cells.{cell_is_there, cell_limits}
-use Rattle.bpf_machine.proofs.Spans.{first_shape, later_shapes}
+use Rattle.bpf_steps.proofs.Spans.{first_shape, later_shapes}
 use Rattle.bpf_suite.specs.Bodies.{fits, solid}
 use Rattle.bpf_suite.specs.Images.{map_bytes}
 use Rattle.bpf_suite.specs.Reports.{AreTold}

@@ -12,15 +12,15 @@ use Rattle.bpf_isa.specs.Programs.{Checked}
 use Rattle.bpf_isa.specs.declared.maps.MapShape.{MapShape}
 use Rattle.bpf_entries.specs.declared.entry.Entry.{Entry}
 use Rattle.bpf_machine.specs.Edits.{RefusesEdit, edit_fault, edited, unless}
-use Rattle.bpf_machine.specs.Platform.{cell_address, context_limit, frame_count, frame_len, map_address, map_base, map_stride}
-use Rattle.bpf_machine.specs.Regions.{Image, index_in, index_of, is_from_frame, map_len, maps_from, maps_len, paste, put, run_at}
-use Rattle.bpf_machine.specs.State.{IsState, State, initial}
+use Rattle.bpf_steps.specs.Platform.{cell_address, context_limit, frame_count, frame_len, map_address, map_base, map_stride}
+use Rattle.bpf_steps.specs.Regions.{Image, index_in, index_of, is_from_frame, map_len, maps_from, maps_len, paste, put, run_at}
+use Rattle.bpf_steps.specs.State.{IsState, State, initial}
 use Rattle.bpf_machine.specs.declared.edit.Edit.TheVariants as edit
 use Rattle.bpf_machine.specs.declared.edit.EditFault.{EditFault}
-use Rattle.bpf_machine.specs.declared.fault.OpenFault.TheVariants as unopened
+use Rattle.bpf_steps.specs.declared.fault.OpenFault.TheVariants as unopened
 use Rattle.bpf_machine.specs.declared.edit.EditFault.TheVariants.{AddressNotPresent}
-use Rattle.bpf_machine.proofs.Indices.{in_maps_below, index_above, index_here}
-use Rattle.bpf_machine.proofs.Spans.{first_shape, later_shapes}
+use Rattle.bpf_steps.proofs.Indices.{in_maps_below, index_above, index_here}
+use Rattle.bpf_steps.proofs.Spans.{first_shape, later_shapes}
 use Rattle.bpf_suite.specs.Cells.{cell_of, is_value_len, sized, value_of}
 use Rattle.bpf_suite.specs.Bodies.{bytes_of}
 use Rattle.bpf_suite.specs.Images.{AreAll, AreIn, Holds, Makes, map_bytes, pasted, run_of, with_runs}

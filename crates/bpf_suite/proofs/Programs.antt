@@ -2,13 +2,13 @@
 use Rattle.std.proofs.Common.{ℕ, zero, suc, ◌≡◌, Option, Some, None, Ok, Err, refl, sym, ◌∙◌}
 use Rattle.std.specs.Option.{option_map_or}
 use Rattle.bpf_isa.specs.Programs.{Checked}
-use Rattle.bpf_machine.specs.Calls.{innermost}
-use Rattle.bpf_machine.specs.Next.{change, changed, returned}
-use Rattle.bpf_machine.specs.Runs.{state_after}
-use Rattle.bpf_machine.specs.State.{State}
-use Rattle.bpf_machine.specs.declared.change.Change.{Change}
-use Rattle.bpf_machine.specs.declared.change.Change.TheVariants.{Set, Go, Store, Fetch, Call, Return, Cell, Trace, Stop}
-use Rattle.bpf_machine.specs.declared.frame.Frame.{Frame}
+use Rattle.bpf_steps.specs.Calls.{innermost}
+use Rattle.bpf_steps.specs.Next.{change, changed, returned}
+use Rattle.bpf_steps.specs.Runs.{state_after}
+use Rattle.bpf_steps.specs.State.{State}
+use Rattle.bpf_steps.specs.declared.change.Change.{Change}
+use Rattle.bpf_steps.specs.declared.change.Change.TheVariants.{Set, Go, Store, Fetch, Call, Return, Cell, Trace, Stop}
+use Rattle.bpf_steps.specs.declared.frame.Frame.{Frame}
 use Rattle.bpf_session.specs.Plain.{plain_end, plain_steps}
 use Rattle.bpf_suite.specs.Benches.{Loads, RefusesProgram}
 use Rattle.bpf_suite.specs.Outcomes.{Comes, IsProgramOf, Outcome, Refuses}

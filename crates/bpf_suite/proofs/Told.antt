@@ -2,7 +2,7 @@
 use Rattle.std.proofs.Common.{ℕ, codes, decimal, ◌==◌, ◌≡◌, ◌≢◌, ◌≤◌, ◌<◌, ◌+◌, ◌-◌, ◌^◌, Bool, true, false, not, List, [], ◌∷◌, ◌++◌, append_assoc, take, length, length-append, length-take, get_or, min, refl, sym, ap, ◌∙◌, arith}
 use Rattle.std.specs.List.{filter}
 use Rattle.std.proofs.lemmas.List.{append-nil, take-append-le, take_all, take_more}
-use Rattle.bpf_machine.specs.State.{State}
+use Rattle.bpf_steps.specs.State.{State}
 use Rattle.std.proofs.lemmas.Bool.Decides.{nat_tests}
 use Rattle.bpf_suite.specs.Reports.{AreTold, more_text, most_told}
 use Rattle.bpf_suite.specs.Verdicts.{holds}

@@ -1,6 +1,6 @@
 -- What is wrong of cells where a program has ended: it depends on the shapes of its maps and on the bytes that they hold, and on nothing else.
 use Rattle.std.specs.Prelude.{◌≡◌, ⊤, List, Option, Some, None, Ok}
-use Rattle.bpf_machine.specs.State.{IsState, State}
+use Rattle.bpf_steps.specs.State.{IsState, State}
 use Rattle.bpf_suite.specs.Images.{map_bytes}
 use Rattle.bpf_suite.specs.Reports.{AreTold}
 use Rattle.bpf_suite.specs.Verdicts.{wrong_lines}

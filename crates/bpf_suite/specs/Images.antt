@@ -5,9 +5,9 @@ use Rattle.std.specs.Option.{option_map_or}
 use Rattle.bpf_isa.specs.Programs.{Checked}
 use Rattle.bpf_isa.specs.declared.maps.MapShape.{MapShape}
 use Rattle.bpf_machine.specs.Edits.{edited}
-use Rattle.bpf_machine.specs.Platform.{context_limit, frame_count, frame_len, map_base}
-use Rattle.bpf_machine.specs.Regions.{index_in, maps_from, maps_len, paste}
-use Rattle.bpf_machine.specs.State.{State, initial}
+use Rattle.bpf_steps.specs.Platform.{context_limit, frame_count, frame_len, map_base}
+use Rattle.bpf_steps.specs.Regions.{index_in, maps_from, maps_len, paste}
+use Rattle.bpf_steps.specs.State.{State, initial}
 use Rattle.bpf_machine.specs.declared.edit.Edit.TheVariants as edit
 use Rattle.bpf_suite.specs.Outcomes.{HasMaps, IsProgramOf, missing, with_cells}
 use Rattle.bpf_suite.specs.declared.cells.Cell.{Cell}

@@ -9,12 +9,12 @@ use Rattle.bpf_text.specs.Listing.{IsFaultOf, IsListing}
 use Rattle.bpf_text.specs.declared.fault.AsmFault.{AsmFault}
 use Rattle.bpf_text.specs.declared.fault.AsmFault.TheVariants as assembly
 use Rattle.bpf_machine.specs.Edits.{edited, has_cell}
-use Rattle.bpf_machine.specs.Opening as opening
-use Rattle.bpf_machine.specs.Platform.{context_limit}
-use Rattle.bpf_machine.specs.State.{State, initial}
+use Rattle.bpf_steps.specs.Opening as opening
+use Rattle.bpf_steps.specs.Platform.{context_limit}
+use Rattle.bpf_steps.specs.State.{State, initial}
 use Rattle.bpf_machine.specs.declared.edit.Edit.{Edit}
 use Rattle.bpf_machine.specs.declared.edit.Edit.TheVariants as edit
-use Rattle.bpf_machine.specs.declared.fault.OpenFault.TheVariants as unopened
+use Rattle.bpf_steps.specs.declared.fault.OpenFault.TheVariants as unopened
 use Rattle.bpf_entries.specs.declared.status.Status.{Status}
 use Rattle.bpf_entries.specs.declared.status.Status.TheVariants as status
 use Rattle.bpf_session.specs.Plain.{plain_end}

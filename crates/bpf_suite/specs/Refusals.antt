@@ -4,7 +4,7 @@ use Rattle.bpf_isa.specs.Faults.{load_fault, map_fault}
 use Rattle.bpf_isa.specs.declared.fault.LoadFault.{LoadFault}
 use Rattle.bpf_isa.specs.declared.fault.LoadFault.TheVariants as load
 use Rattle.bpf_text.specs.Faults.{asm_fault, fault_line}
-use Rattle.bpf_machine.specs.Opening.{open_fault}
+use Rattle.bpf_steps.specs.Opening.{open_fault}
 use Rattle.bpf_suite.specs.declared.refusal.Refusal.{Refusal}
 use Rattle.bpf_suite.specs.declared.refusal.Refusal.TheVariants.{Maps, Listing, Load, Open, NoCell}
 

@@ -1,8 +1,8 @@
 -- The report on tests, in the Test Anything Protocol.
 use Rattle.std.specs.Prelude.{ℕ, ◌≡◌, ◌-◌, ◌==◌, Bool, true, false, ◌&&◌, if◌then◌else◌, List, [], ◌∷◌, ◌++◌, codes, decimal, flat_map, length, take, Option, Ok, Err}
 use Rattle.std.specs.Option.{option_map_or}
-use Rattle.bpf_machine.specs.Platform.{cell_address}
-use Rattle.bpf_machine.specs.State.{State}
+use Rattle.bpf_steps.specs.Platform.{cell_address}
+use Rattle.bpf_steps.specs.State.{State}
 use Rattle.bpfdb_replies.specs.Texts.{text_of_bytes}
 use Rattle.counted_io.specs.Counted.{Tally, one_more}
 use Rattle.counted_io.specs.Writing.{Writes}

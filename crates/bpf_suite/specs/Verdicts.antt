@@ -3,9 +3,9 @@ use Rattle.std.specs.Prelude.{ℕ, Bool, true, false, not, ◌==◌, ◌&&◌, �
 use Rattle.std.specs.List.{starts_with}
 use Rattle.std.specs.Option.{option_and_then, option_map_or}
 use Rattle.bpf_isa.specs.declared.maps.MapShape.{MapShape}
-use Rattle.bpf_machine.specs.Platform.{cell_address, context_base}
-use Rattle.bpf_machine.specs.Regions.{run_at}
-use Rattle.bpf_machine.specs.State.{State, register}
+use Rattle.bpf_steps.specs.Platform.{cell_address, context_base}
+use Rattle.bpf_steps.specs.Regions.{run_at}
+use Rattle.bpf_steps.specs.State.{State, register}
 use Rattle.bpf_entries.specs.declared.status.Status.{Status}
 use Rattle.bpf_entries.specs.declared.status.Status.TheVariants as status
 use Rattle.bpf_suite.specs.Bodies.{fits, number_of, solid, trimmed}

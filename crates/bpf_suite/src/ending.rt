@@ -1,7 +1,7 @@
 //! What maps hold where a program has ended: tests that share lines about cells, and that leave the
 //! same bytes, share what is wrong of these, too.
 ghost use Rattle.std.specs.Prelude.{◌≡◌, ◌<◌, ◌+◌, ◌++◌, ℕ, IfOk, IsTrue, OnOk, Ok, Some, length, slice_get, slice_range, take};
-ghost use Rattle.bpf_machine.specs.Regions.{map_len, maps_len};
+ghost use Rattle.bpf_steps.specs.Regions.{map_len, maps_len};
 ghost use Rattle.bpf_suite.specs.Endings.{HasEnding, IsEnding};
 ghost use Rattle.bpf_suite.specs.Images.{map_bytes as map_bytes_of};
 ghost use Rattle.bpf_suite.specs.Reports.{AreTold};

@@ -3,8 +3,8 @@ ghost use Rattle.std.specs.Prelude.{◌≡◌, ◌≤◌, ◌<◌, ◌+◌, ◌*
 ghost use Rattle.std.specs.List.{list_all};
 ghost use Rattle.bpf_isa.specs.Maps.{AreMaps};
 ghost use Rattle.bpf_machine.specs.Edits.{edited};
-ghost use Rattle.bpf_machine.specs.Platform.{map_base};
-ghost use Rattle.bpf_machine.specs.Regions.{index_in, map_len, maps_from, maps_len};
+ghost use Rattle.bpf_steps.specs.Platform.{map_base};
+ghost use Rattle.bpf_steps.specs.Regions.{index_in, map_len, maps_from, maps_len};
 ghost use Rattle.bpf_machine.specs.declared.edit.Edit.TheVariants as edit;
 ghost use Rattle.bpf_suite.specs.Cells.{cell_of};
 ghost use Rattle.bpf_suite.specs.Images.{AreAll, HasImage, Holds, IsImageFor, Makes, run_of, with_runs};

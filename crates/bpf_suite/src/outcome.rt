@@ -1,6 +1,6 @@
 //! What comes of a test's program.
 ghost use Rattle.std.specs.Prelude.{◌≡◌, ◌∷◌, ◌++◌, IfErr, IfOk, OnOk, None, [], filter_map};
-ghost use Rattle.bpf_machine.specs.Opening.{Opened};
+ghost use Rattle.bpf_steps.specs.Opening.{Opened};
 ghost use Rattle.bpf_session.specs.Plain.{plain_end};
 ghost use Rattle.bpfdb_replies.specs.Texts.{place};
 ghost use Rattle.counted_io.specs.Writing.{WritesAfter};

@@ -1,8 +1,8 @@
 //! Values of cells where a program has ended.
 ghost use Rattle.std.specs.Prelude.{◌≡◌, ◌≤◌, ◌<◌, ◌-◌, ◌^◌, ◌∷◌, ◌++◌, IfOk, IfSome, IsSome, List, Ok, OnOk, [], filter, flat_map, not};
 ghost use Rattle.std.specs.Option.{option_map};
-ghost use Rattle.bpf_machine.specs.Platform.{cell_address as cell_address_of};
-ghost use Rattle.bpf_machine.specs.Regions.{index_of};
+ghost use Rattle.bpf_steps.specs.Platform.{cell_address as cell_address_of};
+ghost use Rattle.bpf_steps.specs.Regions.{index_of};
 ghost use Rattle.counted_io.specs.Writing.{WritesAfter};
 ghost use Rattle.bpf_suite.specs.Reports.{AreTold, cell_text, cells_text, more_text, value_text};
 ghost use Rattle.bpf_suite.specs.Verdicts.{cell_size, cell_value, holds, wrong_lines};

@@ -4,8 +4,8 @@ use Rattle.std.specs.Prelude.{◌==◌}
 use Rattle.std.specs.Option.{option_map_or}
 use Rattle.bpf_isa.specs.Programs.{insn_at}
 use Rattle.bpf_isa.specs.declared.instruction.Insn.{Insn}
-use Rattle.bpf_machine.specs.Next.{next}
-use Rattle.bpf_machine.specs.State.{State}
+use Rattle.bpf_steps.specs.Next.{next}
+use Rattle.bpf_steps.specs.State.{State}
 use Rattle.bpfdb_replies.specs.Texts.{text_at}
 use Rattle.bpf_trace.specs.Branches.{branch_by, branch_line, compared_by, is_branch, way_text}
 

@@ -11,10 +11,10 @@ use Rattle.bpf_entries.specs.Status.{has_ended}
 use Rattle.bpf_isa.specs.Programs.{Checked, insn_at}
 use Rattle.bpf_isa.specs.declared.instruction.Insn.{Insn}
 use Rattle.bpfdb_replies.specs.Texts.{text_at}
-use Rattle.bpf_machine.specs.Next.{next}
-use Rattle.bpf_machine.specs.Runs.{Steps}
-use Rattle.bpf_machine.specs.State.{State, IsState}
-use Rattle.bpf_machine.proofs.Codes.{start-within}
+use Rattle.bpf_steps.specs.Next.{next}
+use Rattle.bpf_steps.specs.Runs.{Steps}
+use Rattle.bpf_steps.specs.State.{State, IsState}
+use Rattle.bpf_steps.proofs.Codes.{start-within}
 use Rattle.bpf_machine.proofs.StepLaws.{law_rest}
 use Rattle.bpf_trace.specs.Runs.{steps_of}
 use Rattle.bpf_trace.specs.Profiles.{count_line, count_lines, profile_of, times}

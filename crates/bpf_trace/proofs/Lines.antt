@@ -5,9 +5,9 @@ use Rattle.counted_io.specs.Counted.{Tally}
 use Rattle.counted_io.specs.Writing.{Writes, WritesAfter}
 use Rattle.counted_io.proofs.Appending.{Writes-Err}
 use Rattle.bpf_entries.specs.Status.{has_ended}
-use Rattle.bpf_machine.specs.Next.{next}
-use Rattle.bpf_machine.specs.Runs.{Advances}
-use Rattle.bpf_machine.specs.State.{State}
+use Rattle.bpf_steps.specs.Next.{next}
+use Rattle.bpf_steps.specs.Runs.{Advances}
+use Rattle.bpf_steps.specs.State.{State}
 use Rattle.bpfdb_replies.proofs.Telling.{Telling, Telling-start, Telling-step, Telling-end}
 use Rattle.bpf_session.specs.Plain.{plain_end}
 use Rattle.bpf_trace.specs.Runs.{steps_of}

@@ -4,13 +4,13 @@ use Rattle.std.specs.Prelude.{◌⊎◌, if◌then◌else◌}
 use Rattle.std.proofs.lemmas.Bool.{cases_lt}
 use Rattle.bpf_entries.specs.Status.{has_ended}
 use Rattle.std.specs.Option.{option_map_or}
-use Rattle.bpf_machine.specs.Calls.{innermost}
-use Rattle.bpf_machine.specs.Next.{change, changed, next, returned}
-use Rattle.bpf_machine.specs.declared.change.Change.{Change}
-use Rattle.bpf_machine.specs.declared.change.Change.TheVariants.{Set, Go, Store, Fetch, Call, Return, Cell, Trace, Stop}
-use Rattle.bpf_machine.specs.declared.frame.Frame.{Frame}
-use Rattle.bpf_machine.specs.Runs.{state_after, Steps, Advances}
-use Rattle.bpf_machine.specs.State.{State}
+use Rattle.bpf_steps.specs.Calls.{innermost}
+use Rattle.bpf_steps.specs.Next.{change, changed, next, returned}
+use Rattle.bpf_steps.specs.declared.change.Change.{Change}
+use Rattle.bpf_steps.specs.declared.change.Change.TheVariants.{Set, Go, Store, Fetch, Call, Return, Cell, Trace, Stop}
+use Rattle.bpf_steps.specs.declared.frame.Frame.{Frame}
+use Rattle.bpf_steps.specs.Runs.{state_after, Steps, Advances}
+use Rattle.bpf_steps.specs.State.{State}
 use Rattle.bpf_session.specs.Plain.{plain_end}
 use Rattle.bpf_session.proofs.Advancing.{plain_is}
 use Rattle.bpf_trace.specs.Runs.{steps_of, IsOnTheWay}

@@ -6,15 +6,15 @@ use Rattle.bpf_entries.specs.Frames.{frame_base, frame_len}
 use Rattle.bpf_isa.specs.Programs.{Checked, IsStart, insn_at}
 use Rattle.bpf_isa.specs.declared.instruction.Insn.{Insn}
 use Rattle.bpf_isa.specs.Sizes.{size_len}
-use Rattle.bpf_machine.specs.Entries.{entry_of, step_entry}
-use Rattle.bpf_machine.specs.Fetched.{Fits}
-use Rattle.bpf_machine.specs.Next.{change, next}
-use Rattle.bpf_machine.specs.Regions.{Image, IsImage, index_of, run, run_at}
-use Rattle.bpf_machine.specs.State.{IsState, State, depth}
-use Rattle.bpf_machine.specs.declared.change.Change.{Change}
-use Rattle.bpf_machine.specs.declared.change.Change.TheVariants.{Set, Go, Store, Fetch, Call, Return, Cell, Trace, Stop}
-use Rattle.bpf_machine.proofs.ByAddress.{fits_within, length-run}
-use Rattle.bpf_machine.proofs.Codes.{start-within}
+use Rattle.bpf_steps.specs.Entries.{entry_of, step_entry}
+use Rattle.bpf_steps.specs.Fetched.{Fits}
+use Rattle.bpf_steps.specs.Next.{change, next}
+use Rattle.bpf_steps.specs.Regions.{Image, IsImage, index_of, run, run_at}
+use Rattle.bpf_steps.specs.State.{IsState, State, depth}
+use Rattle.bpf_steps.specs.declared.change.Change.{Change}
+use Rattle.bpf_steps.specs.declared.change.Change.TheVariants.{Set, Go, Store, Fetch, Call, Return, Cell, Trace, Stop}
+use Rattle.bpf_steps.proofs.ByAddress.{fits_within, length-run}
+use Rattle.bpf_steps.proofs.Codes.{start-within}
 use Rattle.bpf_machine.proofs.Fitting.{change_fits}
 use Rattle.bpf_origin.specs.Writes.{written}
 use Rattle.bpf_origin.specs.declared.place.Part.TheVariants as part

@@ -2,9 +2,9 @@
 use Rattle.std.proofs.Common.{◌≡◌, ◌+◌, ◌<◌, ℕ, zero, suc, Bool, true, false, List, ◌∷◌, get_or, length, sym, ap, subst, ◌∙◌, refl, arith, inl, inr}
 use Rattle.std.specs.Prelude.{◌⊎◌}
 use Rattle.bpf_entries.specs.Status.{has_ended}
-use Rattle.bpf_machine.specs.Next.{next}
-use Rattle.bpf_machine.specs.Runs.{state_after, Steps, Advances}
-use Rattle.bpf_machine.specs.State.{State}
+use Rattle.bpf_steps.specs.Next.{next}
+use Rattle.bpf_steps.specs.Runs.{state_after, Steps, Advances}
+use Rattle.bpf_steps.specs.State.{State}
 use Rattle.bpf_session.proofs.Advancing.{plain_is, same_after}
 use Rattle.bpf_trace.specs.Laws.{StepsAreTheRuns}
 use Rattle.bpf_trace.specs.Runs.{steps_of}

@@ -7,8 +7,8 @@ use Rattle.bpf_isa.specs.declared.instruction.Insn.{Insn}
 use Rattle.bpf_isa.specs.declared.instruction.Insn.TheVariants as insn
 use Rattle.bpf_isa.specs.declared.instruction.Source.{Source}
 use Rattle.bpf_isa.specs.declared.instruction.Source.TheVariants.{Immediate, Register}
-use Rattle.bpf_machine.specs.Next.{next}
-use Rattle.bpf_machine.specs.State.{State, register}
+use Rattle.bpf_steps.specs.Next.{next}
+use Rattle.bpf_steps.specs.State.{State, register}
 use Rattle.bpf_origin.specs.Texts.{value_text}
 use Rattle.bpfdb_replies.specs.Texts.{text_at}
 

@@ -1,6 +1,6 @@
 -- What the steps of a run are, in the words of a run without history.
 use Rattle.std.specs.Prelude.{◌≡◌, ◌<◌, ℕ, length, get_or}
-use Rattle.bpf_machine.specs.State.{State}
+use Rattle.bpf_steps.specs.State.{State}
 use Rattle.bpf_ring.specs.Runs.{state_after}
 use Rattle.bpf_session.specs.Plain.{plain_steps}
 use Rattle.bpf_trace.specs.Runs.{steps_of}

@@ -4,9 +4,9 @@ use Rattle.counted_io.specs.Counted.{Tally}
 use Rattle.counted_io.specs.Writing.{WritesAfter}
 use Rattle.bpf_entries.specs.Frames.{frame_base, frame_len}
 use Rattle.bpf_isa.specs.Sizes.{size_len}
-use Rattle.bpf_machine.specs.State.{State, depth}
-use Rattle.bpf_machine.specs.declared.change.Change.{Change}
-use Rattle.bpf_machine.specs.declared.change.Change.TheVariants.{Set, Go, Store, Fetch, Call, Return, Cell, Trace, Stop}
+use Rattle.bpf_steps.specs.State.{State, depth}
+use Rattle.bpf_steps.specs.declared.change.Change.{Change}
+use Rattle.bpf_steps.specs.declared.change.Change.TheVariants.{Set, Go, Store, Fetch, Call, Return, Cell, Trace, Stop}
 use Rattle.bpf_origin.specs.Places.{depth_for}
 use Rattle.bpf_origin.specs.declared.place.Part.{Part}
 use Rattle.bpf_origin.specs.declared.place.Part.TheVariants as part

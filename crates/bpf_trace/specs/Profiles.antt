@@ -4,7 +4,7 @@ use lib.Chars.{codes}
 use Rattle.std.specs.List.{range_with_len}
 use Rattle.std.specs.Option.{option_map_or}
 use Rattle.bpf_isa.specs.Programs.{Checked, insn_at}
-use Rattle.bpf_machine.specs.State.{State}
+use Rattle.bpf_steps.specs.State.{State}
 use Rattle.bpf_session.specs.Plain.{plain_end}
 use Rattle.bpfdb_replies.specs.Texts.{text_at}
 use Rattle.bpf_trace.specs.Runs.{steps_of}

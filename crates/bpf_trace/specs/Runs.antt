@@ -1,9 +1,9 @@
 -- A run as its steps.
 use Rattle.std.specs.Prelude.{◌≤◌, ℕ, zero, suc, if◌then◌else◌, List, [], ◌∷◌}
 use Rattle.bpf_entries.specs.Status.{has_ended}
-use Rattle.bpf_machine.specs.Next.{next}
-use Rattle.bpf_machine.specs.Runs.{Steps}
-use Rattle.bpf_machine.specs.State.{State}
+use Rattle.bpf_steps.specs.Next.{next}
+use Rattle.bpf_steps.specs.Runs.{Steps}
+use Rattle.bpf_steps.specs.State.{State}
 
 -- The steps of a run of at most so many, each by the state from which it is taken.
 abbrev pub steps_of : ℕ → State → List State

@@ -2,9 +2,9 @@
 use Rattle.std.specs.Prelude.{ℕ, Bool, ◌+◌, ◌-◌, if◌then◌else◌, List, [], ◌∷◌, ◌++◌, decimal, drop, flat_map, take}
 use lib.Chars.{codes}
 use Rattle.bpf_entries.specs.Status.{has_ended}
-use Rattle.bpf_machine.specs.Entries.{step_entry}
-use Rattle.bpf_machine.specs.Next.{next}
-use Rattle.bpf_machine.specs.State.{State}
+use Rattle.bpf_steps.specs.Entries.{step_entry}
+use Rattle.bpf_steps.specs.Next.{next}
+use Rattle.bpf_steps.specs.State.{State}
 use Rattle.bpf_origin.specs.Texts.{part_text}
 use Rattle.bpf_origin.specs.Writes.{written}
 use Rattle.bpf_origin.specs.declared.place.Part.{Part}

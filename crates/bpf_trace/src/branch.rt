@@ -1,7 +1,7 @@
 //! The line of a conditional jump.
 ghost use Rattle.std.specs.Prelude.{◌≡◌, ◌≤◌, ◌+◌, ◌==◌, ◌++◌, codes, false, if◌then◌else◌, length};
 ghost use Rattle.bpf_entries.specs.Status.{has_ended};
-ghost use Rattle.bpf_machine.specs.Next.{next};
+ghost use Rattle.bpf_steps.specs.Next.{next};
 ghost use Rattle.bpf_trace.specs.Branches.{branch_line, compared_by, compared_text, is_branch as is_branch_of, source_text};
 ghost use Rattle.bpf_trace.specs.Texts.{texts_of};
 ghost use Rattle.counted_io.specs.Writing.{WritesAfter};

@@ -1,6 +1,6 @@
 //! What a step wrote, as its line tells it.
 ghost use Rattle.std.specs.Prelude.{◌≡◌, ◌≤◌, ◌+◌, ◌-◌, ◌++◌, ◌<◌, flat_map, length, slice_index};
-ghost use Rattle.bpf_machine.specs.State.{depth};
+ghost use Rattle.bpf_steps.specs.State.{depth};
 ghost use Rattle.bpf_origin.specs.Places.{depth_for, value};
 ghost use Rattle.bpf_origin.specs.Texts.{bytes_value, register_name, value_text};
 ghost use Rattle.bpf_origin.specs.declared.place.Part.TheVariants as part;

@@ -1,7 +1,7 @@
 //! The line of a step.
 ghost use Rattle.std.specs.Prelude.{◌≡◌, false};
 ghost use Rattle.bpf_entries.specs.Status.{has_ended};
-ghost use Rattle.bpf_machine.specs.Next.{next};
+ghost use Rattle.bpf_steps.specs.Next.{next};
 ghost use Rattle.bpf_trace.specs.Texts.{texts_of};
 ghost use Rattle.bpf_trace.specs.Traces.{step_line};
 ghost use Rattle.counted_io.specs.Writing.{WritesAfter};

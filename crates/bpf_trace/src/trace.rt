@@ -1,8 +1,8 @@
 //! The trace of a run.
 ghost use Rattle.std.specs.Prelude.{◌≡◌, ◌≤◌, ◌<◌, ◌+◌, ◌-◌, ◌^◌, OnOk, false};
 ghost use Rattle.bpf_entries.specs.Status.{has_ended};
-ghost use Rattle.bpf_machine.specs.Next.{next};
-ghost use Rattle.bpf_machine.specs.Runs.{Steps};
+ghost use Rattle.bpf_steps.specs.Next.{next};
+ghost use Rattle.bpf_steps.specs.Runs.{Steps};
 ghost use Rattle.bpf_session.specs.Plain.{plain_end};
 ghost use Rattle.bpf_trace.specs.Runs.{IsOnTheWay, steps_of};
 ghost use Rattle.bpf_trace.specs.Texts.{texts_of};

@@ -7,7 +7,7 @@ use Rattle.counted_io.proofs.Appending.{WritesAfter-WritesAfter}
 use Rattle.counted_io.specs.declared.fault.WriteFault.{WriteFault}
 use Rattle.bpf_journal.specs.Histories.{Record, is_step}
 use Rattle.bpf_journal.specs.Tracks.{Track}
-use Rattle.bpf_machine.specs.State.{State}
+use Rattle.bpf_steps.specs.State.{State}
 use Rattle.bpf_machine.specs.declared.moves.Move.{Move}
 use Rattle.bpf_machine.specs.declared.moves.Move.TheVariants as move
 use Rattle.bpf_origin.specs.Answers.{Answer, TellsOrigin, with_line}

@@ -2,7 +2,7 @@
 use Rattle.std.proofs.Common.{◌≡◌, ◌<◌, ◌≤◌, ◌⊎◌, inl, inr, ℕ, zero, suc, ◌+◌, ◌-◌, Bool, true, false, List, [], ◌∷◌, length, refl, ap, ◌∙◌, arith}
 use Rattle.bpf_journal.specs.Histories.{Record}
 use Rattle.bpf_journal.specs.Lookups.{state_before}
-use Rattle.bpf_machine.specs.State.{State}
+use Rattle.bpf_steps.specs.State.{State}
 use Rattle.bpf_whynot.specs.Answers.{Query, left_after, left_by, never_text, only}
 use Rattle.bpf_whynot.specs.Laws.{AnswersAreOfTheLatest, IsOfMove, IsOfNone}
 use Rattle.bpf_whynot.specs.Reach.{can_from}

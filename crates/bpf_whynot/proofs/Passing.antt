@@ -5,7 +5,7 @@ use Rattle.bpf_journal.specs.Histories.{Record, is_step}
 use Rattle.bpf_journal.specs.TakingBack.{taken_of}
 use Rattle.bpf_journal.specs.Tracks.{Track}
 use Rattle.bpf_journal.specs.declared.taken.Taken.{Taken}
-use Rattle.bpf_machine.specs.State.{State}
+use Rattle.bpf_steps.specs.State.{State}
 use Rattle.bpf_origin.specs.Pasts.{GoesBack, Stand, StandsThere, gone_from, stand}
 use Rattle.bpf_origin.proofs.Backs.{back_more}
 use Rattle.bpf_whynot.specs.Answers.{Query, left_after, left_by, never_text, only}

@@ -4,7 +4,7 @@ use Rattle.std.specs.Prelude.{pos, ◌&&◌, ◌||◌}
 use Rattle.bpf_isa.specs.Programs.{Checked, insn_at, slots_of, target_of}
 use Rattle.bpf_isa.specs.declared.instruction.Insn.{Insn}
 use Rattle.bpf_isa.specs.declared.instruction.Insn.TheVariants.{Exit}
-use Rattle.bpf_machine.specs.Platform.{frame_count}
+use Rattle.bpf_steps.specs.Platform.{frame_count}
 use Rattle.bpf_whynot.specs.Reach.{CanReach, TellsReach, calls}
 use Rattle.bpf_whynot.specs.Reach.CanReach.{there, on, jumped, called, returned}
 use Rattle.bpf_whynot.specs.Flows.{behind, ends, enters, jump}

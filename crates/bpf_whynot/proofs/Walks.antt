@@ -6,8 +6,8 @@ use Rattle.std.proofs.Math.Seq.{drop-cons}
 use Rattle.std.proofs.Math.ListN.{drop_of_length-le}
 use Rattle.std.proofs.lemmas.Bool.Decides.{nat_tests}
 use Rattle.std.proofs.lemmas.List.{get_or-reverse, length-reverse, length-map}
-use Rattle.bpf_machine.specs.State.{State, depth}
-use Rattle.bpf_machine.specs.declared.frame.Frame.{Frame}
+use Rattle.bpf_steps.specs.State.{State, depth}
+use Rattle.bpf_steps.specs.declared.frame.Frame.{Frame}
 use Rattle.bpf_whynot.specs.Reach.{return_slot, return_slots}
 use Rattle.bpf_whynot.specs.Tables.{Table, is_in, table_of_depth, told_by}
 

@@ -6,8 +6,8 @@ use Rattle.bpf_entries.specs.Status.{has_ended}
 use Rattle.bpf_isa.specs.Programs.{Checked, insn_at, slots_of, target_of}
 use Rattle.bpf_isa.specs.declared.instruction.Insn.{Insn}
 use Rattle.bpf_isa.specs.declared.instruction.Insn.TheVariants.{JumpIf, Jump, JumpLong, CallLocal, Exit}
-use Rattle.bpf_machine.specs.Platform.{frame_count}
-use Rattle.bpf_machine.specs.State.{State, frame}
+use Rattle.bpf_steps.specs.Platform.{frame_count}
+use Rattle.bpf_steps.specs.State.{State, frame}
 
 -- An instruction may be followed by the one after it: each but `ja`, `exit` and the call of a function, which is followed by that function.
 abbrev pub goes_on : Insn → Bool

@@ -1,7 +1,7 @@
 -- From where goals can be come to, as tables of each slot at each depth of calls tell it.
 use Rattle.std.specs.Prelude.{◌≡◌, ℕ, zero, suc, ◌-◌, ◌||◌, ◌&&◌, Bool, false, List, [], ◌∷◌, get_or, length}
 use Rattle.bpf_isa.specs.Programs.{Checked}
-use Rattle.bpf_machine.specs.Platform.{frame_count}
+use Rattle.bpf_steps.specs.Platform.{frame_count}
 use Rattle.bpf_whynot.specs.Reach.{is_goal}
 
 -- What is held of each slot. Behind the last one nothing is.

@@ -1,7 +1,7 @@
 -- Scaffolding: the pass over a history. No public contract cites this.
 use Rattle.std.specs.Prelude.{◌≡◌, ℕ, ◌+◌, Bool, List, Option, Some, None, length}
 use Rattle.bpf_entries.specs.Status.{has_ended}
-use Rattle.bpf_machine.specs.State.{State}
+use Rattle.bpf_steps.specs.State.{State}
 use Rattle.bpf_journal.specs.Histories.{Record, is_step}
 use Rattle.bpf_journal.specs.Tracks.{Track}
 use Rattle.bpf_origin.specs.Pasts.{StandsThere, gone_from, stand}

@@ -2,7 +2,7 @@
 ghost use Rattle.std.specs.Prelude.{◌≡◌, ◌≤◌, ◌<◌, ◌+◌, ◌++◌, [], flat_map, length};
 ghost use Rattle.counted_io.specs.Writing.{WritesAfter};
 ghost use Rattle.bpf_journal.specs.Histories.{is_step as is_step_of};
-ghost use Rattle.bpf_machine.specs.State.{State};
+ghost use Rattle.bpf_steps.specs.State.{State};
 ghost use Rattle.bpf_machine.specs.declared.moves.Move.{Move};
 ghost use Rattle.bpf_machine.specs.declared.moves.Move.TheVariants as move_of;
 ghost use Rattle.bpf_origin.specs.Reads as reads;

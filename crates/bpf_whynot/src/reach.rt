@@ -1,6 +1,6 @@
 //! From where a program can come to some slots.
 ghost use Rattle.std.specs.Prelude.{◌≡◌, ◌≤◌, ◌<◌, ℕ, List, IfOk, length, reverse, map};
-ghost use Rattle.bpf_machine.specs.State.{depth};
+ghost use Rattle.bpf_steps.specs.State.{depth};
 ghost use Rattle.bpf_whynot.specs.Levels as levels;
 ghost use Rattle.bpf_whynot.specs.Reach as spec;
 ghost use Rattle.bpf_whynot.specs.Tables as tables;

@@ -3,7 +3,7 @@ ghost use Rattle.std.specs.Prelude.{◌≡◌, ◌<◌, ◌≤◌, ◌+◌, ℕ,
 ghost use Rattle.bpf_isa.specs.Programs.{Checked};
 ghost use Rattle.bpf_journal.specs.Histories.{Record, is_step as is_step_of};
 ghost use Rattle.bpf_journal.specs.Tracks.{Track};
-ghost use Rattle.bpf_machine.specs.State.{State};
+ghost use Rattle.bpf_steps.specs.State.{State};
 ghost use Rattle.bpf_origin.specs.Answers.{TellsOrigin};
 ghost use Rattle.bpf_origin.specs.Pasts.{IsSameKeeper};
 ghost use Rattle.bpf_origin.specs.declared.question.Extent.TheVariants.{Whole};

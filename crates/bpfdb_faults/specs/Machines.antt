@@ -1,6 +1,6 @@
 -- Why no machine is opened for a job.
 use Rattle.std.specs.Prelude.{List, ℕ}
-use Rattle.bpf_machine.specs.Opening.{Refused}
+use Rattle.bpf_steps.specs.Opening.{Refused}
 use Rattle.bpfdb_faults.specs.declared.refusal.JobRefusal.{JobRefusal}
 use Rattle.bpfdb_faults.specs.declared.refusal.JobRefusal.TheVariants.{Open}
 

@@ -1,6 +1,6 @@
 //! The machine of a job.
 ghost use Rattle.std.specs.Prelude.{IfErr, IfOk};
-ghost use Rattle.bpf_machine.specs.Opening.{Opened};
+ghost use Rattle.bpf_steps.specs.Opening.{Opened};
 ghost use Rattle.bpfdb_faults.specs.Machines.{RefusesOpening};
 
 use crate::refusal::JobRefusal;

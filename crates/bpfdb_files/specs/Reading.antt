@@ -3,7 +3,7 @@ use Rattle.std.specs.Prelude.{ℕ, ◌≡◌, ◌≤◌, ◌<◌, ◌+◌, ◌*�
 use Rattle.std.specs.Io.KnownBytes.{Consumes, IsAtEnd}
 use Rattle.counted_io.specs.Counted.{Tally, one_more}
 use Rattle.bpf_isa.specs.Checker.{most_slots}
-use Rattle.bpf_machine.specs.Platform.{context_limit}
+use Rattle.bpf_steps.specs.Platform.{context_limit}
 use Rattle.bpfdb_files.specs.declared.kinds.FileKind.{FileKind}
 use Rattle.bpfdb_files.specs.declared.kinds.FileKind.TheVariants.{Program, Context, Source}
 use Rattle.bpfdb_files.specs.declared.reading.FirstFault.{FirstFault}

@@ -6,7 +6,7 @@ use Rattle.bpf_journal.specs.Runs.{history_after}
 use Rattle.bpf_journal.specs.Timelines.{Moment}
 use Rattle.bpf_journal.specs.Tracks.{RingHolds, Track, ring_room}
 use Rattle.bpf_ring.specs.declared.keeper.RingKeeper.{RingKeeper}
-use Rattle.bpf_machine.specs.State.{State, initial}
+use Rattle.bpf_steps.specs.State.{State, initial}
 use Rattle.bpf_origin.specs.Asked.{answer_about, parts_asked}
 use Rattle.bpf_origin.specs.declared.fault.WhatFault.{WhatFault}
 use Rattle.bpf_origin.specs.declared.place.Part.{Part}

@@ -2,7 +2,7 @@
 use Rattle.std.proofs.Common.{ℕ, ◌≡◌, List, [], ◌++◌, Option, Result, Ok, Err, refl, ap, ◌∙◌}
 use Rattle.std.specs.Prelude.{IfErr, OnOk, OnErr}
 use Rattle.bpf_isa.specs.Programs.{Checked}
-use Rattle.bpf_machine.specs.State.{State, initial}
+use Rattle.bpf_steps.specs.State.{State, initial}
 use Rattle.bpf_session.specs.Plain.{plain_end}
 use Rattle.bpf_trace.specs.Profiles.{counts_text, profile_of, profile_text}
 use Rattle.counted_io.specs.Counted.{Tally}

@@ -14,8 +14,8 @@ use Rattle.bpf_link.specs.StubLists.{stubs_in}
 use Rattle.bpf_link.specs.declared.fault.LinkFault.{LinkFault}
 use Rattle.bpf_link.specs.declared.linker.Linked.{Linked}
 use Rattle.bpf_link.specs.declared.stubs.Stub.{Stub}
-use Rattle.bpf_machine.specs.Platform.{context_limit}
-use Rattle.bpf_machine.specs.State.{State, initial}
+use Rattle.bpf_steps.specs.Platform.{context_limit}
+use Rattle.bpf_steps.specs.State.{State, initial}
 use Rattle.bpf_origin.specs.Answers.{Answer}
 use Rattle.bpf_origin.specs.declared.what.What.{What}
 use Rattle.bpf_session.specs.Plain.{ending_of, plain_end, text_of_ending}

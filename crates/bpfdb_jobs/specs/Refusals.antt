@@ -20,7 +20,7 @@ use Rattle.bpf_suite.specs.Files.{sections, tests}
 use Rattle.bpf_suite.specs.Tests.{chosen}
 use Rattle.bpf_suite.specs.declared.section.Section.{Section}
 use Rattle.bpf_suite.specs.declared.fault.FileFault.TheVariants.{Line}
-use Rattle.bpf_machine.specs.Opening.{Refused}
+use Rattle.bpf_steps.specs.Opening.{Refused}
 use Rattle.bpf_ring.specs.Opening.{RefusesSize}
 use Rattle.bpf_whynot.specs.Asked.{goals_in}
 use Rattle.bpfdb_jobs.specs.Jobs.{HasMaps, HasWords, IsObjectOf, IsProgramOf, Opens, OpensSession, arrival_of, asked_of, entry_of, section_of, stubs_of}

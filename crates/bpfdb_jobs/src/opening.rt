@@ -3,7 +3,7 @@ ghost use Rattle.std.specs.Prelude.{◌≡◌, IfErr, IfOk, false, true};
 ghost use Rattle.bpf_entries.specs.Status.{has_ended};
 ghost use Rattle.bpf_isa.specs.Maps.{IsFirstBadMap};
 ghost use Rattle.bpf_isa.specs.Programs.{Checked};
-ghost use Rattle.bpf_machine.specs.State.{initial};
+ghost use Rattle.bpf_steps.specs.State.{initial};
 ghost use Rattle.bpfdb_jobs.specs.Jobs.{HasMaps, HasWords, IsProgramOf, Opens};
 ghost use Rattle.bpfdb_jobs.specs.Openings.{IsOpening, IsStart};
 ghost use Rattle.bpfdb_jobs.specs.Refusals.{Refuses, RefusesMachine, RefusesProgram};

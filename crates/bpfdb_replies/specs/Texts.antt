@@ -6,9 +6,9 @@ use Rattle.hex.specs.Hex.{encode_lower}
 use Rattle.bpf_isa.specs.Programs.{Checked, insn_at, slots_of}
 use Rattle.counted_io.specs.Writing.{hexadecimal}
 use Rattle.bpf_text.specs.Operands.{text_of_insn}
-use Rattle.bpf_machine.specs.Regions.{run_at}
-use Rattle.bpf_machine.specs.State.{State, register, depth}
-use Rattle.bpf_machine.specs.declared.frame.Frame.{Frame}
+use Rattle.bpf_steps.specs.Regions.{run_at}
+use Rattle.bpf_steps.specs.State.{State, register, depth}
+use Rattle.bpf_steps.specs.declared.frame.Frame.{Frame}
 use Rattle.bpf_entries.specs.declared.status.Fault.{Fault}
 use Rattle.bpf_entries.specs.declared.status.Fault.TheVariants.{Access, Token, Depth}
 use Rattle.bpf_entries.specs.declared.status.Status.{Status}

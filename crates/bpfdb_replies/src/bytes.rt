@@ -1,7 +1,7 @@
 //! The text of bytes of memory.
 ghost use Rattle.std.specs.Prelude.{◌≡◌, ◌*◌, ◌++◌, IsSome, codes, length};
 ghost use Rattle.hex.specs.Hex.{encode_lower};
-ghost use Rattle.bpf_machine.specs.Regions.{index_of};
+ghost use Rattle.bpf_steps.specs.Regions.{index_of};
 ghost use Rattle.counted_io.specs.Writing.{WritesAfter, hexadecimal};
 ghost use Rattle.bpfdb_replies.specs.Texts.{text_of_bytes};
 

@@ -1,7 +1,7 @@
 //! The text of the frames of local calls.
 ghost use Rattle.std.specs.Option.{option_map_or};
 ghost use Rattle.std.specs.Prelude.{◌<◌, []};
-ghost use Rattle.bpf_machine.specs.State.{depth, frame};
+ghost use Rattle.bpf_steps.specs.State.{depth, frame};
 ghost use Rattle.counted_io.specs.Writing.{WritesAfter};
 ghost use Rattle.bpfdb_replies.specs.Texts.{text_of_frame, text_of_frames};
 

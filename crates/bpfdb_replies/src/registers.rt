@@ -1,6 +1,6 @@
 //! The text of the registers.
 ghost use Rattle.std.specs.Prelude.{◌≡◌, ◌≤◌};
-ghost use Rattle.bpf_machine.specs.State.{register as register_of};
+ghost use Rattle.bpf_steps.specs.State.{register as register_of};
 ghost use Rattle.counted_io.specs.Writing.{WritesAfter};
 ghost use Rattle.bpfdb_replies.specs.Texts.{text_of_state};
 

@@ -1,13 +1,13 @@
 //! What atomic operations do (RFC 9669, section 5.3).
 ghost use Rattle.std.specs.Prelude.{◌≡◌, ◌+◌};
 ghost use Rattle.bpf_isa.specs.Programs.{IsStart};
-ghost use Rattle.bpf_machine.specs.Atomics as spec;
+ghost use Rattle.bpf_steps.specs.Atomics as spec;
 
 use super::Cpu;
 use super::step::{fault, r0};
-use crate::alu::atomic::{combined, low, size_of};
-use crate::change::Change;
 use bpf_isa::{Address, AtomicOp, Reg, Width};
+use bpf_steps::Change;
+use bpf_steps::alu::atomic::{combined, low, size_of};
 
 impl Cpu {
     /// An atomic operation on the number at an address.

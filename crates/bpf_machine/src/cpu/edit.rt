@@ -2,14 +2,14 @@
 ghost use Rattle.std.specs.Prelude.{◌≡◌, ◌≤◌, true, is_some, IsSome, Some, IfOk, IfErr, OnOk, slice_get};
 ghost use Rattle.bpf_isa.specs.Programs.{IsStart, insn_at};
 ghost use Rattle.bpf_machine.specs.Edits.{IsEditable, RefusesEdit, edit_fault, edited, edit_entry, has_cell};
-ghost use Rattle.bpf_machine.specs.Platform.{cell_address as cell_address_of};
-ghost use Rattle.bpf_machine.specs.Regions.{index_of, run_at};
+ghost use Rattle.bpf_steps.specs.Platform.{cell_address as cell_address_of};
+ghost use Rattle.bpf_steps.specs.Regions.{index_of, run_at};
 
 use super::Cpu;
 use crate::edit::{Edit, EditFault};
-use crate::platform::cell_address;
 use bpf_entries::{ByteString, Entry, Status};
 use bpf_isa::Program;
+use bpf_steps::platform::cell_address;
 
 impl Cpu {
     /// Makes an edit, in every status. Its entry holds what it replaced. A refused edit changes

@@ -1,22 +1,21 @@
 //! Frames of local calls: pushed by a call, popped by a return, and both taken back.
 ghost use Rattle.std.specs.Prelude.{◌≡◌, ◌<◌, ◌+◌, IfSome};
 ghost use Rattle.bpf_isa.specs.Programs.{IsStart};
-ghost use Rattle.bpf_machine.specs.Calls.{saved, with_saved, frame_of, pushed, popped, innermost};
-ghost use Rattle.bpf_machine.specs.Fetched.{Fits};
-ghost use Rattle.bpf_machine.specs.Next.{changed};
-ghost use Rattle.bpf_machine.specs.Platform.{frame_base as frame_base_of, frame_count};
-ghost use Rattle.bpf_machine.specs.State.{IsFrame, depth};
+ghost use Rattle.bpf_steps.specs.Calls.{saved, with_saved, frame_of, pushed, popped, innermost};
+ghost use Rattle.bpf_steps.specs.Fetched.{Fits};
+ghost use Rattle.bpf_steps.specs.Next.{changed};
+ghost use Rattle.bpf_steps.specs.Platform.{frame_base as frame_base_of, frame_count};
+ghost use Rattle.bpf_steps.specs.State.{IsFrame, depth};
 
 use super::Cpu;
-use crate::change::Change;
-use crate::frame::Frame;
-use crate::platform::{FRAME_LEN, frame_base, frame_pointer};
+use bpf_steps::platform::{FRAME_LEN, frame_base, frame_pointer};
+use bpf_steps::{Change, Frame};
 
 impl Cpu {
     /// Does a local call: makes the bytes of the frame that it enters zero, pushes the frame and
     /// goes to the function at a slot.
     #[inline(never)]
-    #[tactic(auto, unfolding(crate::specs::Next::changed))]
+    #[tactic(auto, unfolding(bpf_steps::specs::Next::changed))]
     pub(super) fn enter(&mut self, target: u16)
         requires { Fits self.old (Change.Call target) }
         ensures { self.new ≡ changed self.old (Change.Call target) }
@@ -45,7 +44,7 @@ impl Cpu {
 
     /// Does a return: pops the innermost frame and does what it says.
     #[inline(never)]
-    #[tactic(auto, unfolding(crate::specs::Next::changed))]
+    #[tactic(auto, unfolding(bpf_steps::specs::Next::changed))]
     pub(super) fn leave(&mut self)
         ensures { self.new ≡ changed self.old Change.Return }
     {

@@ -2,18 +2,18 @@
 ghost use Rattle.std.specs.Prelude.{◌≡◌, ◌<◌, ◌≤◌, ◌+◌, ◌-◌, ◌^◌, IfSome, option_map};
 ghost use Rattle.bpf_isa.specs.Programs.{IsStart};
 ghost use Rattle.bpf_isa.specs.Maps.{IsShape};
-ghost use Rattle.bpf_machine.specs.Helpers as spec;
-ghost use Rattle.bpf_machine.specs.Platform.{token_base};
-ghost use Rattle.bpf_machine.specs.Regions.{number_at};
-ghost use Rattle.bpf_machine.specs.Access.{accessible};
-ghost use Rattle.bpf_machine.specs.State.{register};
+ghost use Rattle.bpf_steps.specs.Helpers as spec;
+ghost use Rattle.bpf_steps.specs.Platform.{token_base};
+ghost use Rattle.bpf_steps.specs.Regions.{number_at};
+ghost use Rattle.bpf_steps.specs.Access.{accessible};
+ghost use Rattle.bpf_steps.specs.State.{register};
 
 use super::Cpu;
 use super::step::{fault, r0};
-use crate::change::Change;
-use crate::platform::{TOKEN_BASE, TRACE_LIMIT, cell_address};
 use bpf_entries::{Fault, Status};
 use bpf_isa::{Helper, MapShape, Reg, Size};
+use bpf_steps::Change;
+use bpf_steps::platform::{TOKEN_BASE, TRACE_LIMIT, cell_address};
 
 impl Cpu {
     /// What a helper does.

@@ -1,17 +1,14 @@
 //! Opening a machine.
 ghost use Rattle.std.specs.Prelude.{◌≡◌, ◌==◌, ◌∷◌, IfOk, IfErr, OnErr, OnOk, if◌then◌else◌, length, replicate, slice_index, take};
-ghost use Rattle.bpf_machine.specs.Opening.{Opened, Refused};
-ghost use Rattle.bpf_machine.specs.Platform.{context_base, frame_pointer as frame_pointer_of};
+ghost use Rattle.bpf_steps.specs.Opening.{Opened, Refused};
+ghost use Rattle.bpf_steps.specs.Platform.{context_base, frame_pointer as frame_pointer_of};
 
 use super::Cpu;
-use crate::code::codes_of;
-use crate::fault::OpenFault;
-use crate::flat::flats_of;
-use crate::memory::Memory;
-use crate::platform::{CONTEXT_BASE, frame_pointer};
 use arrayvec::ArrayVec;
 use bpf_entries::Status;
 use bpf_isa::Program;
+use bpf_steps::platform::{CONTEXT_BASE, frame_pointer};
+use bpf_steps::{Memory, OpenFault, codes_of, flats_of};
 use std::alloc::Global;
 
 impl Cpu {

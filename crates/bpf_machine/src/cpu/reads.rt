@@ -2,15 +2,15 @@
 ghost use Rattle.std.specs.Prelude.{◌≡◌, ◌≤◌, ◌↔◌, IsTrue, IsSome, IfSome, length, option_map};
 
 use super::Cpu;
-use crate::frame::Frame;
 use bpf_entries::Status;
 use bpf_isa::{Program, Reg};
+use bpf_steps::Frame;
 
 impl Cpu {
-    ghost use Rattle.bpf_machine.specs.Platform.{trace_limit};
-    ghost use Rattle.bpf_machine.specs.Regions.{run_at};
-    ghost use Rattle.bpf_machine.specs.Access.{accessible};
-    ghost use Rattle.bpf_machine.specs.State.{register as register_of, depth as depth_of, frame};
+    ghost use Rattle.bpf_steps.specs.Platform.{trace_limit};
+    ghost use Rattle.bpf_steps.specs.Regions.{run_at};
+    ghost use Rattle.bpf_steps.specs.Access.{accessible};
+    ghost use Rattle.bpf_steps.specs.State.{register as register_of, depth as depth_of, frame};
 
     /// The slot of the next instruction.
     pub fn pc(&self) -> u16

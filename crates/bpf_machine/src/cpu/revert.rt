@@ -5,7 +5,7 @@ ghost use Rattle.bpf_isa.specs.Programs.{IsStart};
 ghost use Rattle.bpf_entries.specs.Fields.{FitsFields};
 ghost use Rattle.bpf_entries.specs.Texts.{text as text_of};
 ghost use Rattle.bpf_machine.specs.Moves.{HasCome, HasComeBy, Leads, overwritten};
-ghost use Rattle.bpf_machine.specs.State.{State};
+ghost use Rattle.bpf_steps.specs.State.{State};
 ghost use Rattle.bpf_machine.specs.Undoing.{IsTyped, undone, read_as, Restores, RestoresText};
 ghost use Rattle.bpf_machine.specs.declared.moves.Move.{Move};
 

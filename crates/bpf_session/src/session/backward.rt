@@ -1,6 +1,6 @@
 //! Backward commands.
 ghost use Rattle.std.specs.Prelude.{◌≡◌, ◌≤◌, ◌<◌, true, Ok, if◌then◌else◌};
-ghost use Rattle.bpf_machine.specs.State.{State, depth};
+ghost use Rattle.bpf_steps.specs.State.{State, depth};
 ghost use Rattle.bpf_journal.specs.Histories.{Record};
 ghost use Rattle.bpf_journal.specs.Tracks.{Track};
 ghost use Rattle.bpf_journal.specs.TakingBack.{taken_of};

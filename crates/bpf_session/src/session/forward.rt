@@ -1,6 +1,6 @@
 //! Forward commands.
 ghost use Rattle.std.specs.Prelude.{◌≡◌, ◌≤◌, Ok, Err, if◌then◌else◌, ◌==◌, false, unwrap_or};
-ghost use Rattle.bpf_machine.specs.State.{State, depth as depth_of};
+ghost use Rattle.bpf_steps.specs.State.{State, depth as depth_of};
 ghost use Rattle.bpf_entries.specs.Status.{has_ended};
 ghost use Rattle.bpf_journal.specs.Runs.{RunsOn};
 ghost use Rattle.bpf_journal.specs.Tracks.{Track, track_after};

@@ -1,8 +1,8 @@
 //! Which commands are refused.
 ghost use Rattle.std.specs.Prelude.{◌≡◌, ◌≤◌, ◌==◌, is_some};
 ghost use Rattle.bpf_isa.specs.Programs.{insn_at};
-ghost use Rattle.bpf_machine.specs.Regions.{index_of};
-ghost use Rattle.bpf_machine.specs.State.{depth};
+ghost use Rattle.bpf_steps.specs.Regions.{index_of};
+ghost use Rattle.bpf_steps.specs.State.{depth};
 ghost use Rattle.bpf_journal.specs.Tracks.{Track};
 ghost use Rattle.bpf_session.specs.Accepted.{first};
 ghost use Rattle.bpf_session.specs.Refused.{refusals_of};

@@ -1,4 +1,4 @@
-use Rattle.bpf_machine.proofs.ByAddress.{law_apart, law_runs, law_numbers, law_stores, law_accessible, law_opened}
+use Rattle.bpf_steps.proofs.ByAddress.{law_apart, law_runs, law_numbers, law_stores, law_accessible, law_opened}
 use Rattle.bpf_machine.proofs.Cells.{law_cells}
 use Rattle.bpf_machine.proofs.laws.memory_by_address.Goals as goal
 

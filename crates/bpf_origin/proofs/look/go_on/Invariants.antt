@@ -1,7 +1,7 @@
 use Rattle.std.proofs.Common.{◌≤◌, ◌-◌, length}
 use Rattle.bpf_journal.specs.Histories.{IsRun}
 use Rattle.bpf_journal.specs.Tracks.{Track}
-use Rattle.bpf_machine.specs.State.{State}
+use Rattle.bpf_steps.specs.State.{State}
 use Rattle.bpf_origin.specs.Pasts.{CourseStands, IsSameKeeper, gone_from}
 use Rattle.bpf_origin.proofs.look.go_on.Given as goal
 

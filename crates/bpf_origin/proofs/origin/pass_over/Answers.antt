@@ -1,5 +1,5 @@
 use Rattle.std.proofs.Common.{◌∷◌, ◌∙◌, sym}
-use Rattle.bpf_machine.specs.State.{depth}
+use Rattle.bpf_steps.specs.State.{depth}
 use Rattle.bpf_origin.proofs.Passing.{passes, touched_is}
 use Rattle.bpf_origin.proofs.origin.pass_over.Goals as goal
 

@@ -1,5 +1,5 @@
 use Rattle.std.proofs.Common.{ap, subst, ◌++◌, Bool, []}
-use Rattle.bpf_machine.specs.State.{State}
+use Rattle.bpf_steps.specs.State.{State}
 use Rattle.bpf_remote.specs.Answers.{text_of}
 use Rattle.bpf_remote.specs.Connections.{acknowledgement, packet, DoesRequest, IsConsole}
 use Rattle.bpf_remote.specs.Remarks.{is_told, remark_text}

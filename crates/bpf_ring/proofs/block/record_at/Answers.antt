@@ -3,8 +3,8 @@ use Rattle.std.proofs.lemmas.List.{drop_all, append-nil}
 use Rattle.bpf_entries.specs.Texts.{text}
 use Rattle.bpf_entries.specs.Weights.{weight}
 use Rattle.bpf_entries.proofs.Texts.{length-text}
-use Rattle.bpf_machine.specs.Entries.{step_entry}
-use Rattle.bpf_machine.proofs.ByAddress.{length-run}
+use Rattle.bpf_steps.specs.Entries.{step_entry}
+use Rattle.bpf_steps.proofs.ByAddress.{length-run}
 use Rattle.bpf_ring.specs.Blocks.{around, pasted}
 use Rattle.bpf_ring.proofs.block.record_at.Goals as goal
 use Rattle.bpf_ring.proofs.Arounds.{around_more, length-pasted, put_pasted}

@@ -1,5 +1,5 @@
 use Rattle.std.proofs.Common.{◌≡◌, take}
-use Rattle.bpf_machine.specs.Regions.{maps_len}
+use Rattle.bpf_steps.specs.Regions.{maps_len}
 use Rattle.bpf_suite.specs.Images.{map_bytes}
 use Rattle.bpf_suite.proofs.ending.map_bytes.Given as goal
 

@@ -1,5 +1,5 @@
 use Rattle.std.proofs.Common.{ℕ, ◌≡◌, ◌*◌, ◌++◌, List, refl, sym, ap, ◌∙◌, arith}
-use Rattle.bpf_machine.specs.Regions.{map_len}
+use Rattle.bpf_steps.specs.Regions.{map_len}
 use Rattle.bpf_suite.proofs.Endings.{never-absent, shape-some, whole-read}
 use Rattle.bpf_suite.proofs.ending.push_shaped.Goals as goal
 

@@ -1,6 +1,6 @@
 use Rattle.std.proofs.Common.{◌≡◌, None, ap, subst, ◌∙◌}
 use Rattle.std.specs.List.{filter_map}
-use Rattle.bpf_machine.specs.State.{State}
+use Rattle.bpf_steps.specs.State.{State}
 use Rattle.bpf_suite.specs.Cells.{cell_of}
 use Rattle.bpf_suite.specs.Outcomes.{missing, with_cells}
 use Rattle.bpf_suite.proofs.Images.{makes-runs}

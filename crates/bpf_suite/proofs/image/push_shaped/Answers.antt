@@ -1,5 +1,5 @@
 use Rattle.std.proofs.Common.{ℕ, ◌≡◌, ◌≤◌, ◌+◌, ◌-◌, ◌*◌, ◌%◌, subst, ap, ◌∙◌, arith}
-use Rattle.bpf_machine.specs.Regions.{map_len}
+use Rattle.bpf_steps.specs.Regions.{map_len}
 use Rattle.bpf_suite.specs.Images.{Holds}
 use Rattle.bpf_suite.proofs.Images.{shape-run, shape-short}
 use Rattle.bpf_suite.proofs.image.push_shaped.Goals as goal

@@ -1,5 +1,5 @@
 use Rattle.std.proofs.Common.{ℕ, ◌≡◌, ◌+◌, ◌*◌, take}
-use Rattle.bpf_machine.specs.Regions.{maps_len}
+use Rattle.bpf_steps.specs.Regions.{maps_len}
 use Rattle.bpf_suite.specs.Images.{Holds}
 use Rattle.bpf_suite.proofs.image.push_shaped.Given as goal
 

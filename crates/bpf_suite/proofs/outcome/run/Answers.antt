@@ -1,5 +1,5 @@
 use Rattle.std.proofs.Common.{ap, ◌∙◌}
-use Rattle.bpf_machine.specs.State.{State}
+use Rattle.bpf_steps.specs.State.{State}
 use Rattle.bpf_suite.proofs.Programs.{plain_end-program}
 use Rattle.bpf_suite.proofs.outcome.run.Goals as goal
 

@@ -1,5 +1,5 @@
 use Rattle.std.proofs.Common.{ap, ◌∙◌, rules, tests}
-use Rattle.bpf_machine.specs.State.{State}
+use Rattle.bpf_steps.specs.State.{State}
 use Rattle.bpf_suite.proofs.CellValues.{edited-cell}
 use Rattle.bpf_suite.proofs.outcome.set_cell.Goals as goal
 

@@ -3,8 +3,8 @@ use Rattle.std.specs.Prelude.{IsSome, slice_get}
 use Rattle.bpf_isa.specs.Programs.{Checked}
 use Rattle.bpf_isa.specs.declared.maps.MapShape.{MapShape}
 use Rattle.bpf_machine.specs.Edits.{has_cell}
-use Rattle.bpf_machine.specs.Platform.{cell_address}
-use Rattle.bpf_machine.specs.Regions.{index_of}
+use Rattle.bpf_steps.specs.Platform.{cell_address}
+use Rattle.bpf_steps.specs.Regions.{index_of}
 use Rattle.bpf_machine.proofs.Cells.{cell_is_there, cell_present}
 use Rattle.bpf_suite.proofs.values.cell_size.Goals as goal
 

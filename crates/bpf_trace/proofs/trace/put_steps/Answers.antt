@@ -1,6 +1,6 @@
 use Rattle.std.proofs.Common.{ℕ, ◌≡◌, false, true, arith, ap, refl, subst, sym, ◌∙◌}
 use Rattle.bpf_entries.specs.Status.{has_ended}
-use Rattle.bpf_machine.specs.Runs.{Steps}
+use Rattle.bpf_steps.specs.Runs.{Steps}
 use Rattle.bpf_trace.proofs.Lines.{Telling-broken, lines_start, lines_step, lines_ended, lines_all}
 use Rattle.bpf_trace.proofs.Stepping.{Steps-none, Steps-more, next-program}
 use Rattle.bpf_trace.proofs.trace.put_steps.Goals as goal

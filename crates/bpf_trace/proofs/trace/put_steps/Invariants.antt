@@ -1,5 +1,5 @@
 use Rattle.std.proofs.Common.{◌≡◌}
-use Rattle.bpf_machine.specs.Runs.{Steps}
+use Rattle.bpf_steps.specs.Runs.{Steps}
 use Rattle.bpf_trace.proofs.Lines.{TellsLines}
 use Rattle.bpf_trace.proofs.trace.put_steps.Given as goal
 

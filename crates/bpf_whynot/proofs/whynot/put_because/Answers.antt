@@ -3,7 +3,7 @@ use Rattle.std.specs.Prelude.{codes}
 use Rattle.std.proofs.lemmas.Bool.Decides.{nat_tests}
 use Rattle.counted_io.proofs.Appending.{WritesAfter-WritesAfter}
 use Rattle.bpf_journal.specs.Tracks.{Track}
-use Rattle.bpf_machine.specs.State.{State}
+use Rattle.bpf_steps.specs.State.{State}
 use Rattle.bpf_origin.specs.Asked.{answer_about}
 use Rattle.bpf_origin.specs.Reads.{conditions}
 use Rattle.bpfdb_replies.specs.Texts.{place}

@@ -1,6 +1,6 @@
 use Rattle.std.proofs.Common.{◌∙◌, ap}
 use Rattle.bpf_ring.specs.declared.keeper.RingKeeper.{RingKeeper}
-use Rattle.bpf_machine.specs.State.{State}
+use Rattle.bpf_steps.specs.State.{State}
 use Rattle.bpfdb_jobs.proofs.Originating.{script-arrives, script-refuses}
 use Rattle.bpfdb_jobs.proofs.Refusing.{no-places, session-arrival}
 use Rattle.bpfdb_jobs.proofs.origin.arrive_by.Goals as goal

@@ -1,5 +1,5 @@
 use Rattle.std.proofs.Common.{codes, ◌++◌, decimal, drop, flat_map, reverse}
-use Rattle.bpf_machine.specs.State.{depth}
+use Rattle.bpf_steps.specs.State.{depth}
 use Rattle.bpfdb_replies.proofs.Telling.{Telling}
 use Rattle.bpfdb_replies.specs.Texts.{text_of_frame}
 use Rattle.bpfdb_replies.proofs.frames.put_frames.Given as goal

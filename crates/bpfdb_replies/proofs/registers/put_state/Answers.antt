@@ -1,6 +1,6 @@
 -- The first register, then one each turn, and then where the machine stands.
 use Rattle.std.proofs.Common.{◌≡◌, ◌+◌, ◌-◌, ◌<◌, ◌++◌, ℕ, suc, [], arith, refl, ap, ◌∙◌}
-use Rattle.bpf_machine.specs.State.{State}
+use Rattle.bpf_steps.specs.State.{State}
 use Rattle.counted_io.proofs.Appending.{WritesAfter-WritesAfter}
 use Rattle.bpfdb_replies.specs.Texts.{registers_from, text_of_register, text_of_registers}
 use Rattle.bpfdb_replies.proofs.Telling.{Telling-start, Telling-step, Telling-end}

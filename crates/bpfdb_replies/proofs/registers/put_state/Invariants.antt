@@ -1,6 +1,6 @@
 use Rattle.std.proofs.Common.{codes, ◌++◌, ◌-◌}
 use Rattle.counted_io.specs.Writing.{hexadecimal}
-use Rattle.bpf_machine.specs.State.{register}
+use Rattle.bpf_steps.specs.State.{register}
 use Rattle.bpfdb_replies.proofs.Telling.{Telling}
 use Rattle.bpfdb_replies.specs.Texts.{registers_from}
 use Rattle.bpfdb_replies.proofs.registers.put_state.Given as goal

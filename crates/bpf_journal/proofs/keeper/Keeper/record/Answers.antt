@@ -1,7 +1,7 @@
 use Rattle.std.proofs.Common.{refl, sym, subst}
 use Rattle.bpf_machine.specs.declared.moves.Move.TheVariants as move
 use Rattle.bpf_entries.specs.Fields.{FitsFields}
-use Rattle.bpf_machine.specs.Next.{next}
+use Rattle.bpf_steps.specs.Next.{next}
 use Rattle.bpf_journal.proofs.keeper.Keeper.record.Goals as goal
 
 pub push-requires : goal.push-requires

@@ -4,7 +4,7 @@ use Rattle.bpf_entries.specs.Keeping.{keep, kept_weight}
 use Rattle.bpf_entries.specs.Past.{replaced}
 use Rattle.bpf_entries.specs.Status.{has_ended}
 use Rattle.bpf_machine.specs.declared.moves.Move.TheVariants.{Step}
-use Rattle.bpf_machine.specs.Entries.{entry_of, step_entry}
+use Rattle.bpf_steps.specs.Entries.{entry_of, step_entry}
 use Rattle.bpf_machine.specs.Moves.{Leads}
 use Rattle.bpf_ring.specs.Runs.{kept_after}
 use Rattle.bpf_ring.proofs.Runs.{kept_more, run_stops, running_more, runs_on}

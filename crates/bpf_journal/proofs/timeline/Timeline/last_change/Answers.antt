@@ -1,5 +1,5 @@
 use Rattle.std.proofs.Common.{ap, ◌∙◌}
-use Rattle.bpf_machine.specs.State.{depth}
+use Rattle.bpf_steps.specs.State.{depth}
 use Rattle.bpf_journal.proofs.ByteChanges.{change_told}
 use Rattle.bpf_journal.specs.Changes.{change_in}
 use Rattle.bpf_journal.specs.Histories.{kept_of}

@@ -1,7 +1,7 @@
 use Rattle.std.proofs.Common.{◌≡◌, ◌∙◌, ap, false, refl, rules}
 use Rattle.std.specs.Prelude.{is_some}
 use Rattle.bpf_entries.specs.Past.{replaced}
-use Rattle.bpf_machine.specs.Entries.{entry_of}
+use Rattle.bpf_steps.specs.Entries.{entry_of}
 use Rattle.bpf_machine.specs.declared.moves.Move.TheVariants as move
 use Rattle.bpf_machine.specs.Moves.{Leads}
 use Rattle.bpf_entries.specs.Status.{has_ended}

@@ -1,5 +1,5 @@
 use Rattle.std.proofs.Common.{ℕ, List, subst, sym}
-use Rattle.bpf_machine.specs.State.{IsFrame}
+use Rattle.bpf_steps.specs.State.{IsFrame}
 use Rattle.bpf_machine.proofs.Fitting.{frame_fits}
 use Rattle.bpf_machine.proofs.cpu.Cpu.call_frame.Goals as goal
 

@@ -1,6 +1,6 @@
 use Rattle.std.proofs.Common.{subst, sym, ℕ}
 use Rattle.std.specs.Prelude.{IsSome}
-use Rattle.bpf_machine.specs.Regions.{index_of}
+use Rattle.bpf_steps.specs.Regions.{index_of}
 use Rattle.bpf_machine.proofs.Cells.{cell_limits, cell_present}
 use Rattle.bpf_machine.proofs.cpu.Cpu.cell.Goals as goal
 

@@ -1,5 +1,5 @@
 use Rattle.std.proofs.Common.{subst, sym}
-use Rattle.bpf_machine.specs.Fetched.{Fits}
+use Rattle.bpf_steps.specs.Fetched.{Fits}
 use Rattle.bpf_machine.proofs.Fitting.{change_fits}
 use Rattle.bpf_machine.proofs.cpu.Cpu.commit.Goals as goal
 

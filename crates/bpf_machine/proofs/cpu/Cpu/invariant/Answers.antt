@@ -1,8 +1,8 @@
 use Rattle.std.proofs.Common.{◌<◌, ◌≤◌, ◌^◌, ℕ, List, length, ap, sym, ◌∙◌, subst, arith, length-take}
 use Rattle.std.specs.Prelude.{All}
 use Rattle.std.proofs.lemmas.List.Elements.{All-take}
-use Rattle.bpf_machine.specs.Platform.{trace_limit}
-use Rattle.bpf_machine.specs.State.{State}
+use Rattle.bpf_steps.specs.Platform.{trace_limit}
+use Rattle.bpf_steps.specs.State.{State}
 use Rattle.bpf_machine.proofs.cpu.Cpu.invariant.Goals as goal
 
 pub returns : goal.returns

@@ -1,7 +1,7 @@
 use Rattle.std.proofs.Common.{rules, arith, ◌<◌, ◌+◌, length, subst, sym, ap}
 use Rattle.bpf_isa.specs.Programs.{Checked}
-use Rattle.bpf_machine.specs.Platform.{frame_count}
-use Rattle.bpf_machine.specs.State.{State, IsFrame, depth}
+use Rattle.bpf_steps.specs.Platform.{frame_count}
+use Rattle.bpf_steps.specs.State.{State, IsFrame, depth}
 use Rattle.bpf_machine.proofs.Fitting.{frames_more}
 use Rattle.bpf_machine.proofs.cpu.Cpu.push.Goals as goal
 

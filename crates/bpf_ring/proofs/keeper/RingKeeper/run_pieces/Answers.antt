@@ -1,7 +1,7 @@
 use Rattle.std.proofs.Common.{◌≡◌, ◌≤◌, ◌+◌, ◌∙◌, ℕ, ap, subst, arith}
 use Rattle.std.proofs.lemmas.Bool.Decides.{nat_tests}
-use Rattle.bpf_machine.proofs.Running.{state_on}
-use Rattle.bpf_machine.specs.State.{State}
+use Rattle.bpf_steps.proofs.Running.{state_on}
+use Rattle.bpf_steps.specs.State.{State}
 use Rattle.bpf_ring.proofs.PieceLaws.{ends_there, kept_behind, running_behind, stops_there}
 use Rattle.bpf_ring.specs.Held.{IsHeld}
 use Rattle.bpf_ring.specs.Runs.{Running, kept_after, kept_on, state_after}

@@ -1,7 +1,7 @@
 use Rattle.std.proofs.Common.{◌≡◌, ◌∙◌, ◌++◌, length, ap}
 use Rattle.bpf_entries.specs.Texts.{text}
-use Rattle.bpf_machine.specs.Entries.{step_entry}
-use Rattle.bpf_machine.specs.Next.{next}
+use Rattle.bpf_steps.specs.Entries.{step_entry}
+use Rattle.bpf_steps.specs.Next.{next}
 use Rattle.bpf_ring.specs.Blocks.{Content, around}
 use Rattle.bpf_ring.proofs.ring.Ring.record.Goals as goal
 

@@ -2,7 +2,7 @@ use Rattle.std.proofs.Common.{◌≡◌, ◌∙◌, ◌++◌, length, take, ap, 
 use Rattle.std.proofs.lemmas.List.{take_at}
 use Rattle.bpf_entries.specs.Texts.{text}
 use Rattle.bpf_entries.proofs.Texts.{length-text}
-use Rattle.bpf_machine.specs.Entries.{step_entry}
+use Rattle.bpf_steps.specs.Entries.{step_entry}
 use Rattle.bpf_ring.proofs.ring.Ring.record_apart.Goals as goal
 
 pub returns : goal.returns

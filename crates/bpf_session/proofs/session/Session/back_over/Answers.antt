@@ -1,5 +1,5 @@
 use Rattle.std.proofs.Common.{◌∙◌, ℕ, [], refl, sym, ap, subst, arith}
-use Rattle.bpf_machine.specs.State.{depth}
+use Rattle.bpf_steps.specs.State.{depth}
 use Rattle.bpf_ring.specs.declared.backward.Stays.TheVariants.{Nothing}
 use Rattle.bpf_session.specs.Points.{Bounds}
 use Rattle.bpf_session.specs.Searches.{GoAtOnce}

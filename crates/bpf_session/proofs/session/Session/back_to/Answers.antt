@@ -1,6 +1,6 @@
 use Rattle.std.proofs.Common.{◌≡◌, ◌≤◌, ◌+◌, ◌-◌, Bool, true, false, ℕ, [], refl, sym, ap, subst, ◌∙◌, arith}
 use Rattle.std.specs.Prelude.{if◌then◌else◌}
-use Rattle.bpf_machine.specs.State.{depth}
+use Rattle.bpf_steps.specs.State.{depth}
 use Rattle.bpf_journal.specs.Tracks.{track_of}
 use Rattle.bpf_session.proofs.Backwards.{Seeking, seeking_step, seeking_found, seeking_on, seeking_end, looked, comparing, went_for}
 use Rattle.bpf_session.proofs.GoingOver.{over_for, seeking_far}

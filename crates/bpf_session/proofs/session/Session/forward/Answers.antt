@@ -1,7 +1,7 @@
 use Rattle.std.proofs.Common.{◌≡◌, ap, subst, ◌∙◌}
 use Rattle.std.specs.Prelude.{not}
 use Rattle.std.specs.Str.{bytes_eq}
-use Rattle.bpf_machine.specs.State.{depth}
+use Rattle.bpf_steps.specs.State.{depth}
 use Rattle.bpf_session.specs.Halting.{most_of}
 use Rattle.bpf_session.specs.Sessions.{SessionValue}
 use Rattle.bpf_session.specs.Watched.{bytes_at}

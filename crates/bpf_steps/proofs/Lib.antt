@@ -1,0 +1,11 @@
+pub mod Indices
+pub mod Spans
+pub mod ByAddress
+pub mod Facts
+pub mod Loans
+pub mod Codes
+pub mod Flats
+pub mod Arms
+pub mod Running
+pub mod Writing
+pub mod EntryParts
