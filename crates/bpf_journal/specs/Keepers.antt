@@ -9,6 +9,15 @@ use Rattle.bpf_journal.specs.Replaced.{byte_before, depth_before}
 use Rattle.bpf_steps.specs.Next.{next}
 use Rattle.bpf_steps.specs.State.{State}
 
+-- What is known of a kind of keeper: the lists that one holds, how often it has refused, and its room.
+pub record Known (K : Type 0) : Type 1 where
+  pub holds : K → List Kept → Type 0
+  pub refusals : K → ℕ
+  pub size : K → ℕ
+
+abbrev pub known_by : {K : Type 0} → (K → List Kept → Type 0) → (K → ℕ) → (K → ℕ) → Known K
+known_by holds refusals size = record { holds = holds; refusals = refusals; size = size }
+
 -- How often a keeper has refused, after one more push.
 abbrev pub refusals_after : {E : Type 0} → Result (Unit {0}) E → ℕ → ℕ
 refusals_after (Ok u) n = n

@@ -6,6 +6,7 @@ use Rattle.bpf_machine.specs.declared.moves.Move.TheVariants.{Step}
 use Rattle.bpf_ring.specs.Runs.{AreSteps, Running, RunsTo, state_after}
 use Rattle.bpf_journal.specs.Counts.{one_more}
 use Rattle.bpf_journal.specs.Histories.{Record, record_weight}
+use Rattle.bpf_ring.specs.Moments.{Moment}
 use Rattle.bpf_journal.specs.Timelines.{record_of}
 use Rattle.bpf_journal.specs.declared.run.Run.{Run}
 
@@ -29,20 +30,29 @@ abbrev pub history_on : ℕ → ℕ → State → List Record → List Record
 history_on room zero x h = h
 history_on room (suc k) x h = keep record_weight room (history_on room k x h) (record_of (state_after k x) Step false)
 
--- What is kept of new steps from x to y: all that stood before stands as it grew along them. By it a keeper is known, a timeline and a course.
-module _ {K A : Type 0} (refusals size : K → ℕ) (along : ℕ → ℕ → State → A → A) (stood stands : A → Type 0) where
+-- How often a keeper has refused, its room, and what grows along steps that it keeps: a list of entries, a history, a track.
+pub record Growth (K A : Type 0) : Type 0 where
+  pub refusals : K → ℕ
+  pub size : K → ℕ
+  pub along : ℕ → ℕ → State → A → A
+
+abbrev pub grown_by : {K A : Type 0} → (K → ℕ) → (K → ℕ) → (ℕ → ℕ → State → A → A) → Growth K A
+grown_by refusals size along = record { refusals = refusals; size = size; along = along }
+
+-- What is kept of new steps: all that stood before stands as it grew along them. By it a keeper is known, a timeline and a course.
+module _ {K A : Type 0} (by : Growth K A) (stood stands : A → Type 0) where
   -- A run ends, by a test, the most steps that it may take, or where the keeper refused one.
-  pub record RunsOn (test : Bool → State → Bool) (most : ℕ) (x y : State) (run : Run) (old new : K) : Type 0 where
-    pub ends : Ends test most x y run.steps run.is_cut
-    pub kept : (a : A) → stood a → stands (along (size old) run.steps x a)
-    pub refused : refusals new ≡ refusals_by_run run.is_cut (refusals old)
-    pub room : size new ≡ size old
+  pub record RunsOn (test : Bool → State → Bool) (most : ℕ) (old new : Moment K) (run : Run) : Type 0 where
+    pub ends : Ends test most old.state new.state run.steps run.is_cut
+    pub kept : (a : A) → stood a → stands (by.along (by.size old.keeper) run.steps old.state a)
+    pub refused : by.refusals new.keeper ≡ refusals_by_run run.is_cut (by.refusals old.keeper)
+    pub room : by.size new.keeper ≡ by.size old.keeper
 
   -- So many steps go on, at most as many as they may be; none is refused.
-  pub record GoesOn (most : ℕ) (x y : State) (n : ℕ) (old new : K) : Type 0 where
-    pub state : y ≡ state_after n x
-    pub steps : AreSteps x n
+  pub record GoesOn (most : ℕ) (old new : Moment K) (n : ℕ) : Type 0 where
+    pub state : new.state ≡ state_after n old.state
+    pub steps : AreSteps old.state n
     pub within : n ≤ most
-    pub kept : (a : A) → stood a → stands (along (size old) n x a)
-    pub refused : refusals new ≡ refusals old
-    pub room : size new ≡ size old
+    pub kept : (a : A) → stood a → stands (by.along (by.size old.keeper) n old.state a)
+    pub refused : by.refusals new.keeper ≡ by.refusals old.keeper
+    pub room : by.size new.keeper ≡ by.size old.keeper

@@ -9,15 +9,11 @@ use Rattle.bpf_journal.specs.declared.fault.TimelineFault.TheVariants as fault
 use Rattle.bpf_journal.specs.Counts.{one_more}
 use Rattle.bpf_journal.specs.declared.taken.Taken.{Taken}
 use Rattle.bpf_entries.specs.Keeping.{Kept, keep}
+pub use Rattle.bpf_ring.specs.Moments.{Moment, beside}
 use Rattle.bpf_journal.specs.Histories.{Record, record_weight, StandsFor}
 use Rattle.bpf_journal.specs.Replaced.{replaces_bytes}
 use Rattle.bpf_journal.specs.Reverting.{RefusesMove}
 use Rattle.bpf_journal.specs.TakingBack.{TakesBack}
-
--- A state and the keeper.
-pub record Moment (K : Type 0) : Type 0 where
-  pub state : State
-  pub keeper : K
 
 -- The record of a move.
 abbrev pub record_of : State → Move → Bool → Record

@@ -8,8 +8,8 @@ ghost use Rattle.bpf_journal.specs.Courses.{FailsThere, GoesBackOne, MakesAgain,
 ghost use Rattle.bpf_journal.specs.GoingBack.{GoesBackBy};
 ghost use Rattle.bpf_journal.specs.Histories.{HasHistory, Record, StandsFor, is_step, record_weight};
 ghost use Rattle.bpf_journal.specs.Lookups.{last_change};
-ghost use Rattle.bpf_journal.specs.Runs.{RunsOn};
-ghost use Rattle.bpf_journal.specs.Timelines.{refusals_by, TriesStep};
+ghost use Rattle.bpf_journal.specs.Runs.{RunsOn, grown_by};
+ghost use Rattle.bpf_journal.specs.Timelines.{beside, refusals_by, TriesStep};
 ghost use Rattle.bpf_journal.specs.Tracks.{Follows, IsCourse, Track, track_after, track_of, CanOpen};
 
 use crate::again::{entry_again, move_again};
@@ -160,10 +160,10 @@ impl<K: Keeper> Course<K> {
     pub fn run<T: StopTest>(&mut self, most: u64, test: &T) -> Run
         requires runs { has_ended self.old.state.status ≡ false }
         requires some { 1 ≤ most }
-        ensures { RunsOn K.refused K.room track_after
-            (Follows K.holds self.old) (Follows K.holds self.new)
-            (T.test test.now) most self.old.state self.new.state result
-            self.old.keeper self.new.keeper }
+        ensures { RunsOn (grown_by K.refused K.room track_after)
+            (Follows K.holds self.old) (Follows K.holds self.new) (T.test test.now) most
+            (beside self.old.state self.old.keeper) (beside self.new.state self.new.keeper)
+            result }
     {
         let run = self.timeline.run(most, test);
         if run.steps == 0 {

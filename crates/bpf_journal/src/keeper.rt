@@ -5,14 +5,16 @@ ghost use Rattle.bpf_entries.specs.Keeping.{Kept, kept_weight};
 ghost use Rattle.bpf_entries.specs.Status.{has_ended};
 ghost use Rattle.bpf_steps.specs.Entries.{step_entry};
 ghost use Rattle.bpf_steps.specs.Next.{change as change_of};
+ghost use Rattle.bpf_ring.specs.Moments.{beside};
 ghost use Rattle.bpf_ring.specs.Runs.{kept_after, kept_on};
+ghost use Rattle.bpf_ring.specs.Ways.{HandsBack};
 ghost use Rattle.bpf_ring.specs.Touched.{newest_touched};
 ghost use Rattle.bpf_journal.specs.EditEntries.{HoldsSome, is_of_step};
 ghost use Rattle.bpf_journal.specs.Handing.{HandsOver, HandsOverSteps};
 ghost use Rattle.bpf_journal.specs.Histories.{HasHistory, Record, StandsFor, newest};
 ghost use Rattle.bpf_journal.specs.TakingBack.{TakesBack};
-ghost use Rattle.bpf_journal.specs.Keepers.{IsPlace, IsWithin, Keeps, Passes, PlacesDiffer, TakesNewest, TellsByteBefore, WalksBack, next_after};
-ghost use Rattle.bpf_journal.specs.Runs.{GoesOn, RunsOn};
+ghost use Rattle.bpf_journal.specs.Keepers.{IsPlace, IsWithin, Keeps, Passes, PlacesDiffer, TakesNewest, TellsByteBefore, WalksBack, known_by, next_after};
+ghost use Rattle.bpf_journal.specs.Runs.{GoesOn, RunsOn, grown_by};
 
 use crate::fields::{is_of_step, step_count};
 use crate::run::Run;
@@ -78,8 +80,8 @@ pub trait Keeper {
     fn run<T: StopTest>(&mut self, cpu: &mut Cpu, most: u64, test: &T) -> Run
         requires runs { has_ended cpu.old.status ≡ false }
         requires some { 1 ≤ most }
-        ensures { RunsOn refused room kept_after (holds self.old) (holds self.new)
-            (T.test test.now) most cpu.old cpu.new result self.old self.new }
+        ensures { RunsOn (grown_by refused room kept_after) (holds self.old) (holds self.new)
+            (T.test test.now) most (beside cpu.old self.old) (beside cpu.new self.new) result }
     {
         for k in 0..most {
             let change = match cpu.look() {
@@ -114,8 +116,8 @@ pub trait Keeper {
     /// those that the keeper takes in one go, or behind one that leads to a slot that `marks` has,
     /// by the slot's remainder. Answers how many, maybe none. By itself a keeper takes none.
     fn repeat(&mut self, cpu: &mut Cpu, most: u64, marks: &[bool; 8192]) -> u64
-        ensures { GoesOn refused room kept_on (holds self.old) (holds self.new)
-            most cpu.old cpu.new result self.old self.new }
+        ensures { GoesOn (grown_by refused room kept_on) (holds self.old) (holds self.new)
+            most (beside cpu.old self.old) (beside cpu.new self.new) result }
     {
         let _cpu = cpu;
         let _most = most;
@@ -174,8 +176,8 @@ pub trait Keeper {
     /// they lie; by itself it reads the entry whole.
     fn hand_back(&mut self, cpu: &mut Cpu, ring: &mut RingKeeper) -> Option<Taken>
         requires way { HasHistory holds self.old cpu.old }
-        ensures { HandsOver holds refused room
-            result self.old self.new cpu.old cpu.new ring.old ring.new }
+        ensures { HandsOver (known_by holds refused room) result
+            (beside cpu.old self.old) (beside cpu.new self.new) ring.old ring.new }
     {
         entries_fit();
         match self.last() {
@@ -203,8 +205,8 @@ pub trait Keeper {
         stays: Stays,
     ) -> u64
         requires way { HasHistory holds self.old cpu.old }
-        ensures { HandsOverSteps holds refused room
-            marks.now stays most result self.old self.new cpu.old cpu.new ring.old ring.new }
+        ensures { HandsOverSteps (known_by holds refused room) (HandsBack marks.now stays) most
+            result (beside cpu.old self.old) (beside cpu.new self.new) ring.old ring.new }
     {
         let _cpu = cpu;
         let _ring = ring;

@@ -31,8 +31,8 @@ impl ListKeeper {
     /// A keeper for a journal of this many bytes, 1,024 to 16,777,216, that holds nothing and has
     /// refused nothing. It takes no memory yet.
     pub fn open(alloc: Global, size: usize) -> Result<ListKeeper, JournalFault>
-        ensures { Opens ⟦<ListKeeper as Keeper>⟧.holds ⟦<ListKeeper as Keeper>⟧.refused
-            ⟦<ListKeeper as Keeper>⟧.room size result }
+        ensures { Opens (⟦<ListKeeper as Keeper>⟧.holds) (⟦<ListKeeper as Keeper>⟧.refused)
+            (⟦<ListKeeper as Keeper>⟧.room) size result }
     {
         if !is_size(size) {
             return Err(JournalFault::SizeOutOfRange);

@@ -12,7 +12,8 @@ ghost use Rattle.bpf_journal.specs.GoingBack.{made_of};
 ghost use Rattle.bpf_journal.specs.Handing.{HandsOver, RingHolds, ring_room};
 ghost use Rattle.bpf_steps.specs.ByAddress.{byte};
 ghost use Rattle.bpf_steps.specs.Platform.{frame_count};
-ghost use Rattle.bpf_journal.specs.Runs.{history_after, history_on, GoesOn, RunsOn};
+ghost use Rattle.bpf_journal.specs.Keepers.{known_by};
+ghost use Rattle.bpf_journal.specs.Runs.{history_after, history_on, GoesOn, RunsOn, grown_by};
 ghost use Rattle.bpf_journal.specs.Timelines.{Moment, Makes, Fails, GoesBack, refusals_by, StandsAt, TriesStep};
 
 use crate::fault::{MoveFault, TimelineFault};
@@ -213,10 +214,9 @@ impl<K: Keeper> Timeline<K> {
     pub fn run<T: StopTest>(&mut self, most: u64, test: &T) -> Run
         requires runs { has_ended self.old.state.status ≡ false }
         requires some { 1 ≤ most }
-        ensures { RunsOn K.refused K.room history_after
+        ensures { RunsOn (grown_by K.refused K.room history_after)
             (StandsAt K.holds self.old) (StandsAt K.holds self.new)
-            (T.test test.now) most self.old.state self.new.state result
-            self.old.keeper self.new.keeper }
+            (T.test test.now) most self.old self.new result }
     {
         self.keeper.run(&mut self.cpu, most, test)
     }
@@ -225,9 +225,9 @@ impl<K: Keeper> Timeline<K> {
     /// takes in one go, maybe none, or those up to one that leads to a slot that `marks` has, by the
     /// slot's remainder. Answers how many.
     pub(crate) fn repeat(&mut self, most: u64, marks: &[bool; 8192]) -> u64
-        ensures { GoesOn K.refused K.room history_on
+        ensures { GoesOn (grown_by K.refused K.room history_on)
             (StandsAt K.holds self.old) (StandsAt K.holds self.new)
-            most self.old.state self.new.state result self.old.keeper self.new.keeper }
+            most self.old self.new result }
     {
         self.keeper.repeat(&mut self.cpu, most, marks)
     }
@@ -293,9 +293,8 @@ impl<K: Keeper> Timeline<K> {
     /// ring. None where no move is kept, or an edit is the newest, and then nothing changes.
     #[inline(always)]
     pub(crate) fn hand_back(&mut self, ring: &mut RingKeeper) -> Option<Taken>
-        ensures { HandsOver K.holds K.refused K.room
-            result self.old.keeper self.new.keeper self.old.state self.new.state
-            ring.old ring.new }
+        ensures { HandsOver (known_by K.holds K.refused K.room) result
+            self.old self.new ring.old ring.new }
     {
         self.keeper.hand_back(&mut self.cpu, ring)
     }

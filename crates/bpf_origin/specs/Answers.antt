@@ -1,7 +1,5 @@
 -- Where the values at some places came from: one pass over a history, the newest move first.
 use Rattle.std.specs.Prelude.{◌≡◌, ◌≤◌, ℕ, ◌+◌, ◌-◌, nat_lt, ◌==◌, if◌then◌else◌, List, [], ◌∷◌, ◌++◌, Option, Result, length}
-use Rattle.counted_io.specs.Counted.{Tally}
-use Rattle.counted_io.specs.Writing.{WritesAfter}
 use Rattle.counted_io.specs.declared.fault.WriteFault.{WriteFault}
 use Rattle.bpf_machine.specs.Moves.{overwritten}
 use Rattle.bpf_steps.specs.State.{State}
@@ -46,11 +44,21 @@ answer q k n wanted (r ∷ h) y =
     else answer q (k + 1) (n - 1) (wanted_before q r y wanted) h r.before))
     else answer q (k + 1) n (still_wanted y (overwritten r.before r.move) wanted) h r.before
 
+-- What is known of a kind of history: the present state, the tracks that it follows, its room, and how often its keeper has refused.
+pub record KnownPast (P : Type 0) : Type 1 where
+  pub state : P → State
+  pub follows : P → Track → Type 0
+  pub size : P → ℕ
+  pub refusals : P → ℕ
+
+abbrev pub past_by : {P : Type 0} → (P → State) → (P → Track → Type 0) → (P → ℕ) → (P → ℕ) → KnownPast P
+past_by state follows size refusals = record { state = state; follows = follows; size = size; refusals = refusals }
+
 -- The answer was written, and the moves that were taken back for it can be made again.
-pub record TellsOrigin {P W : Type 0} (state : P → State) (follows : P → Track → Type 0) (size refusals : P → ℕ) (contents : W → Option (List ℕ)) (answers : Track → Answer)
-    (old new : P) (was : Tally W) (before : Result (Unit {0}) WriteFault) (now : Tally W) (told : Told) : Type 0 where
-  pub text : (t : Track) → follows old t → WritesAfter contents was before now told.written (answers t).text
-  pub extent : (t : Track) → follows old t → told.extent ≡ (answers t).extent
-  pub back : (t : Track) → follows old t → StandsThere state follows new (gone_from told.moves t (state old))
-  pub within : (t : Track) → follows old t → told.moves ≤ length t.history
-  pub keeper : IsSameKeeper size refusals old new
+pub record TellsOrigin {P : Type 0} (by : KnownPast P) (answers : Track → Answer) (old new : P)
+    (writes : Result (Unit {0}) WriteFault → List ℕ → Type 0) (told : Told) : Type 0 where
+  pub text : (t : Track) → by.follows old t → writes told.written (answers t).text
+  pub extent : (t : Track) → by.follows old t → told.extent ≡ (answers t).extent
+  pub back : (t : Track) → by.follows old t → StandsThere by.state by.follows new (gone_from told.moves t (by.state old))
+  pub within : (t : Track) → by.follows old t → told.moves ≤ length t.history
+  pub keeper : IsSameKeeper by.size by.refusals old new

@@ -1,6 +1,7 @@
 //! The whole answer to where the values of some parts came from.
+ghost use Rattle.counted_io.specs.Writing.{WritesAfter};
 ghost use Rattle.bpf_journal.specs.Tracks.{Track};
-ghost use Rattle.bpf_origin.specs.Answers.{TellsOrigin};
+ghost use Rattle.bpf_origin.specs.Answers.{TellsOrigin, past_by};
 ghost use Rattle.bpf_origin.specs.Asked.{answer_about};
 
 use crate::origin::put_origin;
@@ -21,9 +22,9 @@ pub fn put_answer<P: Past, W: Write>(
     writer: &mut Counted<W>,
     so_far: Result<(), WriteFault>,
 ) -> Told
-    ensures { TellsOrigin P.state P.follows P.room P.refused W.contents
+    ensures { TellsOrigin (past_by P.state P.follows P.room P.refused)
         (λ (t : Track). answer_about question parts.now t.history (P.state history.old))
-        history.old history.new writer.old so_far writer.new result }
+        history.old history.new (WritesAfter W.contents writer.old so_far writer.new) result }
 {
     wanted.clear();
     if !wanted.want_parts(parts) {

@@ -1,4 +1,5 @@
 //! Where values came from: one pass over a history, each move taken back once.
+ghost use Rattle.counted_io.specs.Writing.{WritesAfter};
 ghost use Rattle.std.specs.Prelude.{◌≡◌, ◌<◌, ◌≤◌, ◌∷◌, [], ◌+◌, ◌-◌, length, ◌^◌, ℕ, List, Some, None, true, false, if◌then◌else◌};
 ghost use Rattle.bpf_entries.specs.declared.entry.Entry.{Entry as the_entry};
 ghost use Rattle.bpf_entries.specs.Past.{Fewer, past};
@@ -9,7 +10,7 @@ ghost use Rattle.bpf_steps.specs.State.{depth};
 ghost use Rattle.bpf_machine.specs.declared.moves.Move.{Move};
 ghost use Rattle.bpf_origin.specs.declared.place.Part.TheVariants as the_part;
 ghost use Rattle.bpf_origin.specs.declared.place.Place.{Place};
-ghost use Rattle.bpf_origin.specs.Answers.{TellsOrigin, answer};
+ghost use Rattle.bpf_origin.specs.Answers.{TellsOrigin, answer, past_by};
 ghost use Rattle.bpf_origin.specs.Pasts.{IsSameKeeper};
 ghost use Rattle.bpf_origin.specs.Reads as reads;
 ghost use Rattle.bpf_origin.specs.Turns.{PassesOver, TakesOne, TakesTurn, TellsRest, WentBack, parts_of};
@@ -53,9 +54,10 @@ pub fn put_origin<P: Past, W: Write>(
     writer: &mut Counted<W>,
     so_far: Result<(), WriteFault>,
 ) -> Told
-    ensures { TellsOrigin P.state P.follows P.room P.refused W.contents
+    ensures { TellsOrigin (past_by P.state P.follows P.room P.refused)
         (λ (t : Track). answer question 0 question.lines wanted.old t.history
-        (P.state history.old)) history.old history.new writer.old so_far writer.new result }
+        (P.state history.old)) history.old history.new
+        (WritesAfter W.contents writer.old so_far writer.new) result }
 {
     let mut told = so_far;
     let mut lines = question.lines;

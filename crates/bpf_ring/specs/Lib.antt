@@ -4,6 +4,7 @@ pub mod Heads
 pub mod Grown
 pub mod Held
 pub mod Left
+pub mod Moments
 pub mod Opening
 pub mod Runs
 pub mod Pieces

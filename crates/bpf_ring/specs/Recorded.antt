@@ -8,6 +8,7 @@ use Rattle.bpf_steps.specs.Entries.{step_entry}
 use Rattle.bpf_steps.specs.Next.{change, next}
 use Rattle.bpf_steps.specs.State.{State}
 use Rattle.bpf_steps.specs.declared.change.Change.{Change}
+use Rattle.bpf_ring.specs.Moments.{Moment}
 use Rattle.bpf_ring.specs.Blocks.{Content, around, behind}
 
 -- A machine runs, this is what `look` answers of it, and the step's entry has so many bytes.
@@ -51,9 +52,10 @@ pub record RecordsAt (x y : State) (old new : List ℕ) (from count n : ℕ) (ma
   pub text : count + n ≤ length old → around new from (count + n) ≡ around old from count ++ text (step_entry x) mark
 
 -- The same, unless that is no room for it in front of the block's last byte: then all stays.
-pub record RecordsIn (x y : State) (old new : List ℕ) (from count n : ℕ) (mark done : Bool) : Type 0 where
-  pub room : done ≡ nat_lt (behind (length old) from count + n) (length old)
-  pub stays : done ≡ false → (y ≡ x) × (new ≡ old)
-  pub next : done ≡ true → y ≡ next x
-  pub len : length new ≡ length old
-  pub text : done ≡ true → count + n ≤ length old → around new from (count + n) ≡ around old from count ++ text (step_entry x) mark
+pub record RecordsIn (old new : Moment (List ℕ)) (from count n : ℕ) (mark done : Bool) : Type 0 where
+  pub room : done ≡ nat_lt (behind (length old.keeper) from count + n) (length old.keeper)
+  pub stays : done ≡ false → (new.state ≡ old.state) × (new.keeper ≡ old.keeper)
+  pub next : done ≡ true → new.state ≡ next old.state
+  pub len : length new.keeper ≡ length old.keeper
+  pub text : done ≡ true → count + n ≤ length old.keeper
+      → around new.keeper from (count + n) ≡ around old.keeper from count ++ text (step_entry old.state) mark

@@ -17,6 +17,7 @@ use Rattle.bpf_ring.specs.declared.counts.Counts.{Counts}
 use Rattle.bpf_ring.specs.declared.keeper.RingKeeper.{RingKeeper}
 use Rattle.bpf_ring.specs.Blocks.{Content}
 use Rattle.bpf_ring.specs.Held.{IsHeld, RingHolds}
+use Rattle.bpf_ring.specs.Moments.{Moment}
 
 -- A move that was made, the state before it, and whether its entry is marked.
 pub record Made : Type 0 where
@@ -62,11 +63,11 @@ module _ (marks : List Bool) (stays : Stays) (z : State) (left other : List Kept
   HandsBack (suc n) (w ∷ ws) ls y = IsPlain marks stays (kept_by w) × HandsBack n ws (kept_by w ∷ ls) w.before
 
 -- So many moves, at most `most`, were taken back so, and their entries went over to another ring. The sizes stay.
-pub record HandsSteps (marks : List Bool) (stays : Stays) (most : ℕ) (y z : State) (old new other_old other_new : RingKeeper) (n : ℕ) : Type 0 where
+pub record HandsSteps (marks : List Bool) (stays : Stays) (most : ℕ) (old new : Moment RingKeeper) (other left : RingKeeper) (n : ℕ) : Type 0 where
   pub within : n ≤ most
-  pub size : (new.ring.size ≡ old.ring.size) × (other_new.ring.size ≡ other_old.ring.size)
-  pub handed : (ws : List Made) (ls : List Kept) → RingHolds old (map kept_by ws) → IsWay ws y
-      → HandsBack marks stays z (RingHolds new) (λ ms. RingHolds other_old ls → RingHolds other_new ms) n ws ls y
+  pub size : (new.keeper.ring.size ≡ old.keeper.ring.size) × (left.ring.size ≡ other.ring.size)
+  pub handed : (ws : List Made) (ls : List Kept) → RingHolds old.keeper (map kept_by ws) → IsWay ws old.state
+      → HandsBack marks stays new.state (RingHolds new.keeper) (λ ms. RingHolds other ls → RingHolds left ms) n ws ls old.state
 
 -- Scaffolding: bytes are the text of entries, which fit their fields.
 pub record HasText (bytes : List ℕ) (ks : List Kept) : Type 0 where

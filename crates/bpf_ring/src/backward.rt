@@ -8,6 +8,7 @@ ghost use Rattle.bpf_entries.specs.Texts.{kind, text as text_of};
 ghost use Rattle.bpf_machine.specs.Moves.{HasComeBy, Leads, overwritten};
 ghost use Rattle.bpf_steps.specs.State.{State};
 ghost use Rattle.bpf_machine.specs.declared.moves.Move.{Move};
+ghost use Rattle.bpf_ring.specs.Moments.{beside};
 ghost use Rattle.bpf_ring.specs.Ways.{EndsPlain, EndsWay, HandsBack, HandsSteps, HasLeft, HasText, HoldsWholeWay, IsPlain, IsWay, Made, kept_by};
 
 use crate::block::copy;
@@ -52,8 +53,8 @@ impl RingKeeper {
         stays: Stays,
     ) -> u64
         requires { HoldsWholeWay self.old.ring self.old.counts cpu.old }
-        ensures { HandsSteps marks.now stays most cpu.old cpu.new self.old self.new
-            other.old other.new result }
+        ensures { HandsSteps marks.now stays most (beside cpu.old self.old)
+            (beside cpu.new self.new) other.old other.new result }
     {
         let text = self.ring.newest_run();
         let handed = other.ring.take_run(cpu, text, most, marks, stays);

@@ -1,5 +1,6 @@
 //! A block whose bytes go around its end.
 ghost use Rattle.std.specs.Prelude.{◌≡◌, ◌≤◌, ◌<◌, ◌+◌, ◌^◌, ◌++◌, length, take, true, false};
+ghost use Rattle.bpf_ring.specs.Moments.{beside};
 ghost use Rattle.bpf_ring.specs.Blocks.{around, behind};
 ghost use Rattle.bpf_ring.specs.Recorded.{CanRecord, HasPlace, HasRoomAt, RecordsAt, RecordsIn, WritesIn};
 
@@ -115,7 +116,8 @@ pub(crate) fn record_in_place(
 ) -> bool
     requires can { CanRecord cpu.old change.now weight }
     requires place { HasPlace block.old first len }
-    ensures { RecordsIn cpu.old cpu.new block.old block.new first len weight mark result }
+    ensures { RecordsIn (beside cpu.old block.old) (beside cpu.new block.new)
+        first len weight mark result }
 {
     let size = block.len();
     let end = place(size, first, len);

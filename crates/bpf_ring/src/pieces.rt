@@ -6,6 +6,7 @@ ghost use Rattle.bpf_entries.specs.Keeping.{Kept};
 ghost use Rattle.bpf_entries.specs.Rings.{AllFit, ring as ring_of};
 ghost use Rattle.bpf_entries.specs.Status.{has_ended};
 ghost use Rattle.bpf_steps.specs.State.{State};
+ghost use Rattle.bpf_ring.specs.Moments.{beside};
 ghost use Rattle.bpf_ring.specs.Grown.{KeepsSteps};
 ghost use Rattle.bpf_ring.specs.Held.{RingHolds};
 ghost use Rattle.bpf_ring.specs.Left.{Left};
@@ -48,8 +49,8 @@ impl RingKeeper {
         requires goes { GoesOn cpu.old taken }
         requires most { taken ≤ most }
         requires room { length room.old ≡ 1008 }
-        ensures { RunsByPieces (T.test test.now) most taken cpu.old cpu.new self.old self.new
-            room.new result }
+        ensures { RunsByPieces (T.test test.now) most taken (beside cpu.old self.old)
+            (beside cpu.new self.new) room.new result }
     {
         let mut reached = taken;
         while reached < most {

@@ -10,6 +10,7 @@ ghost use Rattle.bpf_machine.specs.Moves.{HasComeBy, Leads, overwritten};
 ghost use Rattle.bpf_steps.specs.State.{State};
 ghost use Rattle.bpf_machine.specs.declared.moves.Move.{Move};
 ghost use Rattle.bpf_entries.specs.Keeping.{IsSize, Kept};
+ghost use Rattle.bpf_ring.specs.Moments.{beside};
 ghost use Rattle.bpf_ring.specs.Held.{IsHeld};
 ghost use Rattle.bpf_ring.specs.Left.{Left};
 ghost use Rattle.bpf_ring.specs.Recorded.{CanRecord, Records};
@@ -187,8 +188,8 @@ impl Ring {
     ) -> Reached
         requires goes { GoesOn cpu.old taken }
         requires most { (taken ≤ pause) × (pause ≤ most) }
-        ensures { RunsInRing (T.test test.now) most taken cpu.old cpu.new self.old self.new counts
-            result }
+        ensures { RunsInRing (T.test test.now) most taken (beside cpu.old self.old)
+            (beside cpu.new self.new) counts result }
     {
         let size = self.buffer.capacity();
         let span = Span {

@@ -3,6 +3,7 @@ use Rattle.std.specs.Prelude.{◌≡◌, ◌≤◌, ◌<◌, ◌==◌, ℕ, Bool
 use Rattle.bpf_entries.specs.Keeping.{Kept}
 use Rattle.bpf_journal.specs.GoingBack.{GoesBackBy}
 use Rattle.bpf_journal.specs.Histories.{Record, kept_of}
+use Rattle.bpf_journal.specs.Keepers.{Known}
 use Rattle.bpf_journal.specs.Tracks.{CourseValue, Track, track_of}
 use Rattle.bpf_machine.specs.Moves.{Leads}
 use Rattle.bpf_steps.specs.State.{State, depth}
@@ -52,14 +53,14 @@ pub record GoesOver {K : Type 0} (holds : K → List Kept → Type 0) (test : Te
 
 -- A command that was given at a depth goes back over so many moves at once, at most as many as they may be, and over fewer that it looks for
 -- than are left to be found. Breakpoints, watches and what the session was opened with stay.
-pub record GoesBackOver {K : Type 0} (holds : K → List Kept → Type 0) (refusals room : K → ℕ) (target : Target) (start left most n : ℕ) (old new : SessionValue K) : Type 0 where
+pub record GoesBackOver {K : Type 0} (by : Known K) (target : Target) (start left most n : ℕ) (old new : SessionValue K) : Type 0 where
   pub within : n ≤ most
   pub fewer : is_each target ≡ true → n < left
-  pub over : (first : State) (h : Track) → start ≡ depth first → HasPast holds old h →
-      GoesOver holds (passes target (record (point_of old (track_of [])) { state = first })) (is_each target) n h.history h.ahead old.moment.state new.moment
+  pub over : (first : State) (h : Track) → start ≡ depth first → HasPast by.holds old h →
+      GoesOver by.holds (passes target (record (point_of old (track_of [])) { state = first })) (is_each target) n h.history h.ahead old.moment.state new.moment
   pub stops : (new.breaks ≡ old.breaks) × (new.watches ≡ old.watches)
-  pub refused : refusals new.moment.keeper ≡ refusals old.moment.keeper
-  pub bounds : bounds_of room new ≡ bounds_of room old
+  pub refused : by.refusals new.moment.keeper ≡ by.refusals old.moment.keeper
+  pub bounds : bounds_of by.size new ≡ bounds_of by.size old
 
 -- How many of the moves that it looks for a command goes back over.
 abbrev pub count_in : Target → Point → ℕ

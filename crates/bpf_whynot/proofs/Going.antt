@@ -10,7 +10,7 @@ use Rattle.bpf_journal.specs.Tracks.{Track}
 use Rattle.bpf_steps.specs.State.{State}
 use Rattle.bpf_machine.specs.declared.moves.Move.{Move}
 use Rattle.bpf_machine.specs.declared.moves.Move.TheVariants as move
-use Rattle.bpf_origin.specs.Answers.{Answer, TellsOrigin, with_line}
+use Rattle.bpf_origin.specs.Answers.{Answer, TellsOrigin, past_by, with_line}
 use Rattle.bpf_origin.specs.Asked.{answer_about}
 use Rattle.bpf_origin.specs.Pasts.{IsSameKeeper, Stand, StandsThere, gone_back, gone_from}
 use Rattle.bpf_origin.specs.Reads.{conditions}
@@ -71,7 +71,7 @@ module _ {P W : Type 0} (state : P → State) (follows : P → Track → Type 0)
   -- a text that is the whole answer, and nothing was taken back for it
   pub told_only : (answers : Track → Answer) (p : P) (was now : Tally W) (before last : Result (Unit {0}) WriteFault) (text : List ℕ) (told : Told)
       → WritesAfter contents was before now last text → told ≡ record { written = last; extent = Whole; moves = 0 }
-      → ((t : Track) → follows p t → answers t ≡ only text) → TellsOrigin state follows size refusals contents answers p p was before now told
+      → ((t : Track) → follows p t → answers t ≡ only text) → TellsOrigin (past_by state follows size refusals) answers p p (WritesAfter contents was before now) told
   told_only answers p was now before last text told writes is all = record {
     text = λ t stands.
         subst (λ (r : Result (Unit {0}) WriteFault). WritesAfter contents was before now r (answers t).text) (sym (ap (λ (o : Told). o.written) is))
@@ -85,8 +85,8 @@ module _ {P W : Type 0} (state : P → State) (follows : P → Track → Type 0)
 
   -- a text, and then the rest of the answer
   pub told_line : (answers others : Track → Answer) (p new : P) (was mid now : Tally W) (before between : Result (Unit {0}) WriteFault) (text : List ℕ) (told : Told)
-      → WritesAfter contents was before mid between text → TellsOrigin state follows size refusals contents others p new mid between now told
-      → ((t : Track) → follows p t → answers t ≡ with_line text (others t)) → TellsOrigin state follows size refusals contents answers p new was before now told
+      → WritesAfter contents was before mid between text → TellsOrigin (past_by state follows size refusals) others p new (WritesAfter contents mid between now) told
+      → ((t : Track) → follows p t → answers t ≡ with_line text (others t)) → TellsOrigin (past_by state follows size refusals) answers p new (WritesAfter contents was before now) told
   told_line answers others p new was mid now before between text told writes rest all = record {
     text = λ t stands.
         subst (λ (a : Answer). WritesAfter contents was before now told.written a.text) (sym (all t stands))
@@ -102,10 +102,10 @@ module _ {P W : Type 0} (state : P → State) (follows : P → Track → Type 0)
       → can_from can (state p) ≡ false → ((t : Track) → follows p t → kept ≡ length t.history) → kept < 2 ^ 64
       → ((t : Track) → follows p t → IsLeft state follows can t (state p) mid left) → IsSameKeeper size refusals p mid
       → ((r : Record) (y : State) → state mid ≡ r.before → left.is_step ≡ is_step r.move → left.after ≡ standing y
-      → TellsOrigin state follows size refusals contents (λ (u : Track). left_by s left.moves r u.history y) mid new was before now told)
+      → TellsOrigin (past_by state follows size refusals) (λ (u : Track). left_by s left.moves r u.history y) mid new (WritesAfter contents was before now) told)
       → IsSameKeeper size refusals mid new
       → (left.moves + told.moves < 2 ^ 64 → m ≡ left.moves + told.moves)
-      → TellsOrigin state follows size refusals contents (λ (t : Track). why_not can s t.history (state p)) p new was before now
+      → TellsOrigin (past_by state follows size refusals) (λ (t : Track). why_not can s t.history (state p)) p new (WritesAfter contents was before now)
       (record { written = told.written; extent = told.extent; moves = m })
   told_left can s p mid new was now before kept m left told lost counts fits lefts keeper tells same sum = record {
     text = λ t stands.
@@ -137,7 +137,7 @@ module _ {P W : Type 0} (state : P → State) (follows : P → Track → Type 0)
   }
     where
       short : (t : Track) → follows p t → (l : IsLeft state follows can t (state p) mid left)
-          → TellsOrigin state follows size refusals contents (λ (u : Track). left_by s left.moves l.record_left u.history l.next) mid new was before now told
+          → TellsOrigin (past_by state follows size refusals) (λ (u : Track). left_by s left.moves l.record_left u.history l.next) mid new (WritesAfter contents was before now) told
           → left.moves + told.moves < 2 ^ 64
       short t stands l rest =
           let few = rest.within (record { history = l.older; ahead = l.ahead }) l.stands.on in
@@ -149,7 +149,7 @@ module _ {P W : Type 0} (state : P → State) (follows : P → Track → Type 0)
       → can_from can (state p) ≡ false → ((t : Track) → follows p t → kept ≡ length t.history)
       → ((t : Track) → follows p t → IsNeverLeft state follows can t (state p) new) → IsSameKeeper size refusals p new
       → WritesAfter contents was before now last (never_text s.question.opening) → told ≡ record { written = last; extent = Whole; moves = kept }
-      → TellsOrigin state follows size refusals contents (λ (t : Track). why_not can s t.history (state p)) p new was before now told
+      → TellsOrigin (past_by state follows size refusals) (λ (t : Track). why_not can s t.history (state p)) p new (WritesAfter contents was before now) told
   told_never can s p new was now before last kept told lost counts nevers keeper writes is = record {
     text = λ t stands.
         subst (λ (r : Result (Unit {0}) WriteFault). WritesAfter contents was before now r (why_not can s t.history (state p)).text) (sym (ap (λ (o : Told). o.written) is))

@@ -4,7 +4,7 @@ ghost use Rattle.bpf_isa.specs.Programs.{Checked};
 ghost use Rattle.bpf_journal.specs.Histories.{Record, is_step as is_step_of};
 ghost use Rattle.bpf_journal.specs.Tracks.{Track};
 ghost use Rattle.bpf_steps.specs.State.{State};
-ghost use Rattle.bpf_origin.specs.Answers.{TellsOrigin};
+ghost use Rattle.bpf_origin.specs.Answers.{TellsOrigin, past_by};
 ghost use Rattle.bpf_origin.specs.Pasts.{IsSameKeeper};
 ghost use Rattle.bpf_origin.specs.declared.question.Extent.TheVariants.{Whole};
 ghost use Rattle.bpf_whynot.specs.Answers as spec;
@@ -45,9 +45,9 @@ pub fn put_whynot<P: Past, W: Write>(
     so_far: Result<(), WriteFault>,
 ) -> Told
     ensures { (program : Checked) (goals : List ℕ) → AreGoals program goals search.now.goals.now →
-        TellsOrigin P.state P.follows P.room P.refused W.contents (λ (t : Track). spec.why_not
+        TellsOrigin (past_by P.state P.follows P.room P.refused) (λ (t : Track). spec.why_not
         (told_by search.now.reach.now) (query search.now goals) t.history (P.state history.old))
-        history.old history.new writer.old so_far writer.new result }
+        history.old history.new (WritesAfter W.contents writer.old so_far writer.new) result }
 {
     if search.reach.can_from(history.machine()) {
         return only(put(writer, so_far, b"it can still be reached\n"), 0);
@@ -146,9 +146,9 @@ fn put_left<P: Past, W: Write>(
     ensures tells { (program : Checked) (goals : List ℕ) (r : Record) (y : State) →
         AreGoals program goals search.now.goals.now → P.state history.old ≡ r.before →
         left.is_step ≡ is_step_of r.move → left.after ≡ standing y →
-        TellsOrigin P.state P.follows P.room P.refused W.contents
+        TellsOrigin (past_by P.state P.follows P.room P.refused)
         (λ (t : Track). spec.left_by (query search.now goals) left.moves r t.history y)
-        history.old history.new writer.old so_far writer.new result }
+        history.old history.new (WritesAfter W.contents writer.old so_far writer.new) result }
     ensures keeper { IsSameKeeper P.room P.refused history.old history.new }
 {
     if is_goal(search, history.machine(), left.is_step) {
@@ -185,9 +185,9 @@ fn put_because<P: Past, W: Write>(
 ) -> Told
     ensures tells { (goals : List ℕ) (r : Record) →
         P.state history.old ≡ r.before → is_step ≡ is_step_of r.move →
-        TellsOrigin P.state P.follows P.room P.refused W.contents
+        TellsOrigin (past_by P.state P.follows P.room P.refused)
         (λ (t : Track). spec.because (query search.now goals) r t.history)
-        history.old history.new writer.old so_far writer.new result }
+        history.old history.new (WritesAfter W.contents writer.old so_far writer.new) result }
     ensures keeper { IsSameKeeper P.room P.refused history.old history.new }
 {
     let parts = compared(history.machine(), is_step);

@@ -2,6 +2,7 @@
 ghost use Rattle.std.specs.Prelude.{◌≡◌, ◌≤◌, ◌<◌, true, Ok, if◌then◌else◌};
 ghost use Rattle.bpf_steps.specs.State.{State, depth};
 ghost use Rattle.bpf_journal.specs.Histories.{Record};
+ghost use Rattle.bpf_journal.specs.Keepers.{known_by};
 ghost use Rattle.bpf_journal.specs.Tracks.{Track};
 ghost use Rattle.bpf_journal.specs.TakingBack.{taken_of};
 ghost use Rattle.bpf_session.specs.Accepted.{Accepts};
@@ -140,7 +141,7 @@ impl<K: Keeper> Session<K> {
     /// them. Answers how many moves, maybe none.
     fn back_over(&mut self, target: &Target, start: usize, left: u64, most: u64) -> u64
         requires { 1 ≤ left }
-        ensures { GoesBackOver K.holds K.refused K.room target.now start left most
+        ensures { GoesBackOver (known_by K.holds K.refused K.room) target.now start left most
             result self.old self.new }
     {
         let unwatched = self.watches.is_empty();

@@ -2,7 +2,8 @@
 ghost use Rattle.std.specs.Prelude.{◌≡◌, ◌≤◌, Ok, Err, if◌then◌else◌, ◌==◌, false, unwrap_or};
 ghost use Rattle.bpf_steps.specs.State.{State, depth as depth_of};
 ghost use Rattle.bpf_entries.specs.Status.{has_ended};
-ghost use Rattle.bpf_journal.specs.Runs.{RunsOn};
+ghost use Rattle.bpf_journal.specs.Runs.{RunsOn, grown_by};
+ghost use Rattle.bpf_journal.specs.Timelines.{beside};
 ghost use Rattle.bpf_journal.specs.Tracks.{Track, track_after};
 ghost use Rattle.bpf_session.specs.Forward.{forward, is_done, stop_in};
 ghost use Rattle.bpf_session.specs.Halting.{halts};
@@ -48,11 +49,11 @@ impl<K: Keeper> Session<K> {
     fn run(&mut self, most: u64, seen: &Seen, floor: usize) -> Run
         requires runs { has_ended self.old.moment.state.status ≡ false }
         requires some { 1 ≤ most }
-        ensures run { RunsOn K.refused K.room track_after
+        ensures run { RunsOn (grown_by K.refused K.room track_after)
             (HasPast K.holds self.old) (HasPast K.holds self.new)
-            (halts self.old.breaks self.old.watches seen.now floor)
-            most self.old.moment.state self.new.moment.state result
-            self.old.moment.keeper self.new.moment.keeper }
+            (halts self.old.breaks self.old.watches seen.now floor) most
+            (beside self.old.moment.state self.old.moment.keeper)
+            (beside self.new.moment.state self.new.moment.keeper) result }
         ensures tables { (self.new.breaks ≡ self.old.breaks) × (self.new.watches ≡ self.old.watches)
             × (self.new.limit ≡ self.old.limit) }
     {

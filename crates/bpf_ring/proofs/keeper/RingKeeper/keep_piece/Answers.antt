@@ -11,7 +11,7 @@ use Rattle.bpf_ring.proofs.keeper.RingKeeper.keep_piece.Goals as goal
 pub returns : goal.returns
 returns g c = record {
   piece = piece_of (g.T.StopTest.test c.args.test.now) c.marks.result.now c.overlooks_stores.result c.args.cpu.now c.keep-kept.new.self c.keep-kept.new.room c.keep-kept.result.taken c.keep-kept.result.len c.marks.ensures c.overlooks_stores.ensures c.keep-kept.ensures.keeps;
-  within = c.keep-kept.ensures.within;
+  within = c.keep-kept.ensures.within.0;
   size = c.append_steps.ensures.size ∙ c.make_room.ensures.size ∙ c.drop_in_place.ensures.size;
   held = λ ks held.
       let x = c.args.cpu.now in
@@ -30,5 +30,5 @@ returns g c = record {
       let whole = c.append_steps.ensures.held (fit kept_weight (size - len) ks) x left fits is in
       subst (IsHeld c.append_steps.new.self.ring c.append_steps.new.self.counts)
       (ap (λ (k : ℕ). entries_of n x ++ fit kept_weight (size - k) ks) (sym weighs) ∙ sym (kept_piece size n x ks small within)) whole;
-  room = c.keep-kept.ensures.len ∙ c.requires.room;
+  room = c.keep-kept.ensures.within.1 ∙ c.requires.room;
 }
