@@ -92,6 +92,8 @@ def bpfdb():
 
 def main(words):
     """Prints what was sent; whether the program exited."""
+    if sys.stdout is None:
+        raise OSError
     if any(word in ('-h', '--help') for word in words):
         print(USAGE)
         return True
@@ -125,12 +127,11 @@ def end_with_status():
     except Refused as refusal:
         warn(f'bpfdb-events: {refusal}')
         status = 2
-    except BrokenPipeError:
-        os.dup2(os.open(os.devnull, os.O_WRONLY), 1)
-        status = 2
     except OSError as fault:
-        warn(f'bpfdb-events: {fault.strerror}')
+        warn('bpfdb-events: ' + (f'{fault.strerror}: {fault.filename}' if fault.filename else 'cannot write output'))
         status = 2
+        # (what is still held of the output isn't tried again)
+        os.dup2(os.open(os.devnull, os.O_WRONLY), 1)
     except KeyboardInterrupt:
         status = 130
     sys.exit(status)

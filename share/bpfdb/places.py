@@ -4,10 +4,8 @@ import contextlib
 import os
 import re
 import struct
-import sys
-import tempfile
 
-from bpfdb.texts import beside, line_in, plain, ran, start_of, text_lines, warn
+from bpfdb.texts import beside, in_memory, line_in, path_of, plain, ran, text_lines, warn
 
 NAME = re.compile(r'[A-Za-z_][A-Za-z_0-9]*')
 # What addr2line says of an address: that, a file and a line.
@@ -81,14 +79,13 @@ class Object(Source):
     def __init__(self, path, link, size):
         super().__init__()
         tool = beside('bpfdb-symbols')
-        with tempfile.TemporaryDirectory() as folder:
-            symbols = os.path.join(folder, 'symbols')
-            _, said = ran([tool, *link, '--', path, symbols])
-            file = start_of(symbols, sys.maxsize)
-            if file is None:
+        with in_memory() as symbols:
+            _, said = ran([tool, *link, '--', path, path_of(symbols)], [symbols])
+            file = symbols.read()
+            if not file:
                 return warn(said, '')
             self.labels = {name: at // 8 for name, at in functions(file) if at < size}
-            found, _ = ran(['addr2line', '-a', '-p', '-e', symbols, *(hex(at) for at in range(0, size, 8))])
+            found, _ = ran(['addr2line', '-a', '-p', '-e', path_of(symbols), *(hex(at) for at in range(0, size, 8))], [symbols])
         places = {}
         for address, file, line in ADDRESS_LINE.findall(found):
             places.setdefault(file, []).append((int(address, 16) // 8, int(line)))

@@ -7,7 +7,7 @@ import sys
 
 from bpfdb.habits import INFOS, OWN_HELP, command, commands, words
 from bpfdb.session import Hint
-from bpfdb.texts import warn
+from bpfdb.texts import LONGEST_LINE, LONGEST_TEXT, warn
 
 
 class Prompt:
@@ -29,9 +29,12 @@ class Prompt:
             return input('(bpfdb) ')
         if self.terminal:
             warn('(bpfdb) ', '')
-        line = sys.stdin.readline()
+        line = part = sys.stdin.readline(LONGEST_TEXT)
         if not line:
             raise EOFError
+        while len(part) == LONGEST_TEXT and not part.endswith('\n'):
+            # (without an end it would take all memory: what is kept is refused for its length)
+            part, line = sys.stdin.readline(LONGEST_TEXT), '?' * (LONGEST_LINE + 1)
         return line.rstrip('\n').rstrip('\r')
 
     def lines(self):

@@ -4,7 +4,8 @@ import contextlib
 import os
 import re
 import subprocess
-import tempfile
+
+from bpfdb.texts import in_memory
 
 # The bytes that a journal may have. (docs/JOURNAL.md)
 LARGEST_JOURNAL = 16777216
@@ -153,7 +154,7 @@ def has(words, option):
 
 def linked(program, file, link):
     """A file with the words of an object, and what `link` said on standard error."""
-    content = tempfile.TemporaryFile()
+    content = in_memory()
     done = subprocess.run([program, 'link', *link, '--', file], stdin=subprocess.DEVNULL, stdout=content, stderr=subprocess.PIPE, text=True,
                           errors='surrogateescape')
     if done.returncode:

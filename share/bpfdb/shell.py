@@ -14,7 +14,7 @@ from bpfdb.meanings import Meanings
 from bpfdb.places import Listing, Object, Source
 from bpfdb.prompt import Prompt, edit_lines, uncommented
 from bpfdb.session import FOR_SYMBOLS, MOVE, PLACE, Ended, Hint, Program, Refused, has, linked, maps_of, split_words
-from bpfdb.texts import LONGEST_LINE, is_text, plain, ran, start_of, text_lines, warn
+from bpfdb.texts import LONGEST_LINE, is_text, path_of, plain, ran, start_of, text_lines, warn
 from bpfdb.values import Values
 from bpfdb.ways import Ways
 
@@ -209,7 +209,7 @@ def opened(program, given):
         debug = [word for word in debug if word != '--object']
         maps, names = maps_of(said)
         debug += [] if has(debug, '--maps') else maps
-        kept, path = [content], f'/dev/fd/{content.fileno()}'
+        kept, path = [content], path_of(content)
         if sys.stdin.isatty():
             warn(f"> bpfdb link {' '.join([*link, file])}\n{said}", '')
         places = [word for option in options for word in option if option[0].split('=')[0] in FOR_SYMBOLS]
@@ -242,6 +242,8 @@ def explain(errors, source, given):
 
 
 def main(given):
+    if sys.stdout is None:
+        raise OSError
     if '-h' in given or '--help' in given:
         print(f'{USAGE}\n\n{table()}\n\n{HELP_END}')
         return 0
@@ -249,8 +251,6 @@ def main(given):
     if not shutil.which(program):
         warn(f'bpfdb-shell: cannot find {program}; name it by BPFDB')
         return 2
-    if sys.stdout is None:
-        raise OSError
     sys.stdin, sys.stderr = sys.stdin or open(os.devnull), sys.stderr or open(os.devnull, 'w')
     for stream in (sys.stdin, sys.stdout, sys.stderr):
         stream.reconfigure(encoding='utf-8', errors='surrogateescape')

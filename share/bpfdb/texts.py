@@ -67,10 +67,20 @@ def beside(name):
     return next((os.path.normpath(place) for place in places if os.path.isfile(place)), name)
 
 
-def ran(line):
-    """What a program writes to standard output and to standard error; nothing to the first if it fails or isn't there."""
+def in_memory():
+    """A file that is in no folder, so there needs to be none that can be written to. Programs get it by its number."""
+    return os.fdopen(os.memfd_create('bpfdb'), 'r+b')
+
+
+def path_of(file):
+    """The path of a file that a program gets by its number."""
+    return f'/dev/fd/{file.fileno()}'
+
+
+def ran(line, kept=()):
+    """What a program writes to standard output and to standard error; nothing to the first if it fails or isn't there. It gets these files."""
     try:
-        done = subprocess.run(line, stdin=subprocess.DEVNULL, capture_output=True)
+        done = subprocess.run(line, stdin=subprocess.DEVNULL, capture_output=True, pass_fds=[file.fileno() for file in kept])
     except OSError:
         return '', f'cannot find {line[0]}\n'
     return '' if done.returncode else done.stdout.decode(errors='surrogateescape'), done.stderr.decode(errors='surrogateescape')

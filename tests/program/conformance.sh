@@ -42,6 +42,10 @@ if [ -c /dev/full ]; then
     : > found/out
     check 'bpfdb-conformance: a full output' 2 '' 'bpfdb-conformance: cannot write output\n'
 fi
+printf '%b' "$answer\n" | BPFDB=$program "$top/share/bpfdb-conformance" > found/out 2>&-
+echo $? > found/status
+: > found/err
+check 'bpfdb-conformance: a closed standard error' 0 '2a\n' ''
 memory=$(awk 'BEGIN { for (i = 0; i < 20000; i++) printf "00" }')
 (trap '' XFSZ && ulimit -f 8 && BPFDB=$program "$top/share/bpfdb-conformance" "$memory" --program "$length") > found/out 2> found/err
 echo $? > found/status

@@ -73,6 +73,14 @@ LISTING
     said='map 2: perf of processor 5, 3 bytes at 0x300100020: 010203\n'
     events_of 'a record' 0 "$said" '' --listing --maps 8x2,16x4096 sent.s
     events_of 'a record, and its options in other places' 0 "$said" '' sent.s --listing --maps=8x2,16x4096 --steps 20
+    for words in --help '--listing --maps 8x2,16x4096 sent.s'; do
+        # (words without quotes)
+        # shellcheck disable=SC2086
+        BPFDB=$program "$top/share/bpfdb-events" $words >&- 2> found/err
+        echo $? > found/status
+        : > found/out
+        check "bpfdb-events $words: a closed output" 2 '' 'bpfdb-events: cannot write output\n'
+    done
     sed '/exit/i \        stw [r1+12], 2' sent.s > lost.s
     events_of 'records without room' 0 "$said" 'bpfdb-events: 2 records had no room\n' --listing --maps 8x2,8x6 lost.s
     sed '/exit/i \        ldxb r0, [r0+0]' sent.s > fault.s

@@ -91,6 +91,10 @@ if has python3 'pages of runs'; then
     cat two.s > piped/two.s &
     made 0 '' -o left/piped.html --listing piped/two.s
     same 'bpfdb-page of what a pipe brings' left/run.html left/piped.html
+    "$BPFDB_PAGE" --help < /dev/null >&- 2> found/err
+    echo $? > found/status
+    : > found/out
+    check 'bpfdb-page --help: a closed output' 2 '' 'cannot write output\n'
     "$BPFDB_PAGE" --help < /dev/null > found/out 2>&1 && grep -q '^usage: bpfdb-page -o PAGE' found/out || complain 'bpfdb-page --help'
 
     # A failing test leaves its page, whose name a file system takes. One that was refused never ran, and cells can't be traced.

@@ -113,6 +113,17 @@ if has python3 'bpfdb-shell'; then
         check 'bpfdb-shell: a full output' 2 '' 'cannot write output\n'
     fi
 
+    for words in --help plain.s; do
+        echo si | "$shell" "$words" >&- 2> found/err
+        echo $? > found/status
+        : > found/out
+        check "bpfdb-shell $words: a closed output" 2 '' 'cannot write output\n'
+    done
+    # (a line without an end is refused when it ends, and takes no memory till then)
+    (ulimit -v 400000 && { head -c 200000000 /dev/zero && printf '\nsi\n'; } | "$shell") > found/out 2> found/err
+    echo $? > found/status
+    check 'bpfdb-shell: a line of 200 MB' 0 'refused Q12: line too long\n1 forward; done; at 1: exit\n' ''
+
     "$shell" 0> other > found/out 2> found/err
     echo $? > found/status
     check "bpfdb-shell: input that can't be read" 2 '' 'cannot read input\n'
@@ -232,6 +243,12 @@ PYTHON
         habit 'start; stepi 3; start' 'p $pc' '> info regs / $pc = 0x1 (1)'
     fi
     plainly 'an object' 0 'c\n' '105 forward; end; fault access 0x10077656d at 25\n' '' -m context.bin overrun.o
+    # (a Python that finds no folder for temporary files)
+    mkdir full
+    printf 'import tempfile\ntempfile.tempdir = "/nowhere"\n' > full/sitecustomize.py
+    (failures=0 PYTHONPATH=$PWD/full; export PYTHONPATH; plainly 'an object, and no folder for temporary files' 0 'b copy\nc\n' \
+        'ok\n10 forward; break; at 13: jeq r3, 0, L23\n' '' -m context.bin overrun.o; exit "$failures") || failures=$((failures + 1))
+    count=$((count + 1))
     plainly 'a function of an object' 0 'b copy\nc\n' 'ok\n10 forward; break; at 13: jeq r3, 0, L23\n' '' -m context.bin overrun.o
     plainly 'an object, and a section that it has' 0 'c\n' '105 forward; end; fault access 0x10077656d at 25\n' '' \
         --section filter -m context.bin overrun.o

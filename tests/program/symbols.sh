@@ -61,6 +61,11 @@ if has python3 'bpfdb-symbols'; then
 
     refused_object 'No such file or directory' nothing.o
     refused_object 'no ELF file' "$top/README.md"
+    if [ -c /dev/full ]; then
+        "$top/share/bpfdb-symbols" overrun.o /dev/full > found/out 2> found/err
+        echo $? > found/status
+        check 'bpfdb-symbols: a full output' 2 '' 'bpfdb-symbols: /dev/full: No space left on device\n'
+    fi
     : > empty.o
     refused_object 'no ELF file' empty.o
     head -c 63 calls.o > cut.o
