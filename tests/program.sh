@@ -27,7 +27,7 @@ trap 'exit 130' HUP INT TERM
 
 # all_parts: each part, those that take longest first.
 all_parts() {
-    printf '%s\n' fuzz faults page memory hostile transcripts limits context convert calls trace gdb linux machine headers join runs journal listings objects direct suite session origin whynot pieces usage refusals results remote dap shell editors conformance symbols jobs install dist files streams build
+    printf '%s\n' fuzz faults page memory hostile transcripts limits context convert calls trace gdb linux machine headers join runs journal listings bugs objects direct suite session origin whynot pieces usage refusals results remote dap shell editors conformance symbols jobs install dist files streams build
 }
 
 # total: the last lines of the parts, added up. Fails where a test failed, or a part has no such line.
@@ -45,6 +45,9 @@ total() {
 }
 
 if [ $# -eq 0 ]; then
+    # (help writes texts anew, and harness and packets are read by parts)
+    unlisted=$(ls "$parts" | sed -n 's/\.sh$//p' | grep -v -x -e harness -e help -e packets -e "$(all_parts)")
+    [ -z "$unlisted" ] || { echo "FAILED: parts that all_parts doesn't name: $unlisted"; exit 1; }
     # (work has no quotes: mktemp made it)
     all_parts | xargs -P "$(nproc)" -I PART sh -c "sh tests/program.sh PART > '$work/PART' 2>&1"
     all_parts | while read -r part; do

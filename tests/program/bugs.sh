@@ -3,7 +3,7 @@
 
 # session FILE: what a terminal shows, without these.
 session() {
-    sed 's/(bpfdb) //g' "$1" | grep -v -e '^$' -e '^> ' -e "^'help' lists" -e '^--maps ' -e '^at 0: ' -e '^[a-z]*\.c:[0-9]* <' -e '^r[0-9]* 0x[0-9a-f]* -> '
+    sed 's/(bpfdb) //g' "$1" | grep -v -e '^$' -e '^> ' -e "^'help' lists" -e '^--maps ' -e '^map [0-9]*: ' -e '^at 0: ' -e '^[a-z]*\.c:[0-9]* <' -e '^r[0-9]* 0x[0-9a-f]* -> '
 }
 
 # bug NAME LINE COMMANDS: the session on this program takes so many commands, and its answers name this line.
