@@ -7,13 +7,15 @@ import struct
 import sys
 
 from bpfdb.machine import MAP_STRIDE, MAPS, MOST_BYTES
-from bpfdb.session import MOVE, Ended, Program, split_words
-from bpfdb.texts import Refused, beside, plain, warn
+from bpfdb import session
+from bpfdb.session import MOVE, Ended, Program, has, linked, maps_of, split_words
+from bpfdb.texts import Refused, beside, path_of, plain, start_of, warn
 
 USAGE = """usage: bpfdb-events [-m PATH] --maps VxN,VxN [--steps N] FILE
-Runs a program that 'bpfdb link --with bpfdb-linux.o' wrote to FILE, and prints
-what it sent to perf buffers, to ring buffers and to the trace, a line a record.
-The options are those of 'bpfdb run'.
+       bpfdb-events [-m PATH] [--steps N] [LINKING] OBJECT
+Runs a program that 'bpfdb link --with bpfdb-linux.o' wrote to FILE, or, with
+--joined, to OBJECT, and prints what it sent to perf buffers, to ring buffers
+and to the trace, a line a record. The options are those of 'bpfdb run'.
 
   -h, --help  writes this
 
@@ -98,17 +100,26 @@ def main(words):
         print(USAGE)
         return True
     options, file, link = split_words(words)
-    if file is None or link:
-        raise Refused("'bpfdb-events --maps VxN,VxN FILE' is wanted; bpfdb-events --help tells more")
-    sizes = sizes_of_maps(options)
-    program = Program([bpfdb(), 'debug', *options, '--', file], [])
+    if file is None:
+        raise Refused("'bpfdb-events --maps VxN,VxN FILE' or 'bpfdb-events OBJECT' is wanted; bpfdb-events --help tells more")
+    path, kept, link = bpfdb(), [], [word for option in link for word in option]
+    if start_of(file, 4) == b'\x7fELF':
+        content, said = linked(path, file, link)
+        # (--object says what is known already)
+        options, link = [word for word in options if word != '--object'] + maps_of(said)[0], []
+        file, kept = path_of(content), [content]
+    # (an object without maps is a program that sends nothing)
+    sizes = sizes_of_maps(options) if has(options, '--maps') or not kept else []
+    program = Program([path, 'debug', *options, *link, '--', file], kept)
     try:
         move = MOVE.match(program.ask('continue')[0])
         base, content, lost = output_of(program, sizes)
     except Ended:
         status, said = program.end()
         raise Refused(said.rstrip('\n') or f'bpfdb ended with status {status}') from None
-    program.end()
+    finally:
+        # (which an interrupt doesn't end by itself)
+        program.kill()
     for *told, place, data in records_in(content):
         print(line_of(*told, base + place, data))
     if lost:
@@ -124,8 +135,8 @@ def end_with_status():
     try:
         status = 0 if main(sys.argv[1:]) else 1
         sys.stdout.flush()
-    except Refused as refusal:
-        warn(f'bpfdb-events: {refusal}')
+    except (Refused, session.Refused) as refusal:
+        warn(f"bpfdb-events: {str(refusal).rstrip()}")
         status = 2
     except OSError as fault:
         warn('bpfdb-events: ' + (f'{fault.strerror}: {fault.filename}' if fault.filename else 'cannot write output'))

@@ -96,12 +96,22 @@ LISTING
     printf 'mov r0, 1\nexit\n' > none.s
     events_of 'no record' 0 '' '' --listing --maps 8x2 none.s
     events_of 'no maps' 2 '' 'bpfdb-events: --maps is wanted, as link told it: what was sent lies in a map\n' --listing none.s
-    events_of 'no file' 2 '' "bpfdb-events: 'bpfdb-events --maps VxN,VxN FILE' is wanted; bpfdb-events --help tells more\n" --maps 8x2
+    events_of 'no file' 2 '' "bpfdb-events: 'bpfdb-events --maps VxN,VxN FILE' or 'bpfdb-events OBJECT' is wanted; bpfdb-events --help tells more\n" --maps 8x2
+    bytes overrun.o $(sed 's/../& /g' "$top/examples/overrun/object.hex")
+    events_of 'an object that sends nothing' 1 '' 'bpfdb-events: fault access 0x10077656d at 25\n' -m "$top/examples/overrun/context.bin" --object overrun.o
+    events_of 'an object that is refused' 2 '' 'bpfdb-events: refused E8: no such code section: .text, filter\n' --section nothing overrun.o
     events_of 'a file that is none' 2 '' 'bpfdb-events: cannot read nowhere\n' --maps 8x2 nowhere
     events_of 'maps that are none' 2 '' 'bpfdb-events: refused M5: malformed map list\n' --listing --maps 8 none.s
     BPFDB=nowhere "$top/share/bpfdb-events" --listing --maps 8x2 none.s > found/out 2> found/err
     echo $? > found/status
     check 'no bpfdb' 2 '' 'bpfdb-events: cannot find nowhere\n'
+    # An interrupt ends bpfdb with it. (Shells let what they start behind them ignore one.)
+    printf 'loop: ja loop\n' > endless.s
+    printf '#!/bin/sh\necho $$ > number\nexec "$REAL" "$@"\n' > noted
+    chmod 755 noted
+    count=$((count + 1))
+    BPFDB=$PWD/noted REAL=$program timeout -s INT 2 env --default-signal=INT "$top/share/bpfdb-events" --listing --maps 8x2 --steps 1000000000 endless.s > found/out 2>&1
+    ! kill "$(cat number)" 2> /dev/null || complain 'bpfdb-events leaves bpfdb behind where it is interrupted'
     count=$((count + 1))
     "$top/share/bpfdb-events" --maps 8x2 --help | grep -q '^usage: bpfdb-events' || complain 'help of bpfdb-events'
 fi
@@ -135,6 +145,10 @@ perf_buffer_with_a_packet|map 1: perf of processor 0, 5 bytes at 0020: aabb00010
 ring_buffer|map 2: ring, 3 bytes at 0020: 070809\nmap 2: ring, 2 bytes at 0038: 0044\nmap 2: ring, 1 byte at 0050, discarded: 00\nmap 2: ring, 1 byte at 0068, neither submitted nor discarded: 55\n
 texts|trace, 5 bytes at 0020: hello\ntrace, 17 bytes at 0038: -1 4294967295 ff\ntrace, 40 bytes at 0060: -1 18446744073709551615 ffffffffffffffff\ntrace, 18 bytes at 0098:    42|42   |-0042|\ntrace, 9 bytes at 00c0: 100 of x%\ntrace, 6 bytes at 00e0: ABC +5\ntrace, 16 bytes at 00f8: 0000000000001234\ntrace, 0 bytes at 0118: \ntrace, 18 bytes at 0128:       ab|cd      |\ntrace, 6 bytes at 0150: kernel\ntrace, 4 bytes at 0168: user\ntrace, 17 bytes at 0180: 0000000000000001 \ntrace, 10 bytes at 01a8: 1 2 3 four\n
 ROWS
+        # (of the joined object the maps needn't be given)
+        "$program" link --joined --section test --entry ring_buffer --with library.o events.o > words 2> told || complain "events.o: link --joined: $(cat told)"
+        maps='--section test --entry ring_buffer'
+        sent "ring_buffer, joined, $compiler" 'map 2: ring, 3 bytes at 0020: 070809\nmap 2: ring, 2 bytes at 0038: 0044\nmap 2: ring, 1 byte at 0050, discarded: 00\nmap 2: ring, 1 byte at 0068, neither submitted nor discarded: 55\n'
 
         # Random calls, as the context says them, on maps of each kind with keys, on a queue and a stack: what comes of each is a model's, apart from the code.
         if has python3 'random calls of helpers'; then

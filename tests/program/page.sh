@@ -60,6 +60,12 @@ if has python3 'pages of runs'; then
     if [ -c /dev/full ]; then
         made 2 'cannot write /dev/full\n' -o /dev/full two.s
     fi
+    cp two.s left/context.bin
+    made 2 'left/context.bin: it is read, and would be lost\n' -o left/context.bin -m left/context.bin two.s
+    ln -s context.bin left/two.s
+    made 2 'left/context.bin: it is read, and would be lost\n' -o left/context.bin left/two.s
+    same 'bpfdb-page replaces nothing that it reads' two.s left/context.bin
+    rm left/two.s left/context.bin
     (ulimit -f 8 && made 2 "cannot write $PWD/left/run.html\\n" -o left/run.html two.s; exit "$failures") || failures=$((failures + 1))
     count=$((count + 1))
     ls -A left > found/left

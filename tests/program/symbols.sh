@@ -61,6 +61,14 @@ if has python3 'bpfdb-symbols'; then
 
     refused_object 'No such file or directory' nothing.o
     refused_object 'no ELF file' "$top/README.md"
+    PYTHONOPTIMIZE=2 "$top/share/bpfdb-symbols" overrun.o without > found/out 2> found/err
+    echo $? > found/status
+    check 'bpfdb-symbols: a Python without texts of documentation' 0 '' ''
+    cp overrun.o kept.o
+    "$top/share/bpfdb-symbols" kept.o ./kept.o > found/out 2> found/err
+    echo $? > found/status
+    check 'bpfdb-symbols: its own object' 2 '' 'bpfdb-symbols: kept.o: it is read, and would be lost\n'
+    same 'bpfdb-symbols leaves its object' overrun.o kept.o
     if [ -c /dev/full ]; then
         "$top/share/bpfdb-symbols" overrun.o /dev/full > found/out 2> found/err
         echo $? > found/status
