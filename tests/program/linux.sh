@@ -113,7 +113,7 @@ LISTING
     BPFDB=$PWD/noted REAL=$program timeout -s INT 2 env --default-signal=INT "$top/share/bpfdb-events" --listing --maps 8x2 --steps 1000000000 endless.s > found/out 2>&1
     ! kill "$(cat number)" 2> /dev/null || complain 'bpfdb-events leaves bpfdb behind where it is interrupted'
     count=$((count + 1))
-    "$top/share/bpfdb-events" --maps 8x2 --help | grep -q '^usage: bpfdb-events' || complain 'help of bpfdb-events'
+    "$top/share/bpfdb-events" --maps 8x2 --help | grep '^usage: bpfdb-events' > /dev/null || complain 'help of bpfdb-events'
 fi
 
 if ! "$program" link --help | grep -q -e --with; then
