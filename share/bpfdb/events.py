@@ -8,8 +8,8 @@ import sys
 
 from bpfdb.machine import MAP_STRIDE, MAPS, MOST_BYTES
 from bpfdb import session
-from bpfdb.session import MOVE, Ended, Program, has, linked, maps_of, split_words
-from bpfdb.texts import Refused, beside, path_of, plain, start_of, warn
+from bpfdb.session import MOVE, Ended, Program, has, linked, maps_of, split_words, with_readable
+from bpfdb.texts import Refused, beside, path_of, plain, readable, start_of, warn
 
 USAGE = """usage: bpfdb-events [-m PATH] --maps VxN,VxN [--steps N] FILE
        bpfdb-events [-m PATH] [--steps N] [LINKING] OBJECT
@@ -103,13 +103,15 @@ def main(words):
     if file is None:
         raise Refused("'bpfdb-events --maps VxN,VxN FILE' or 'bpfdb-events OBJECT' is wanted; bpfdb-events --help tells more")
     path, kept, link = bpfdb(), [], [word for option in link for word in option]
-    if start_of(file, 4) == b'\x7fELF':
-        content, said = linked(path, file, link)
+    options, file = with_readable(options, kept), readable(file, kept)
+    is_object = start_of(file, 4) == b'\x7fELF'
+    if is_object:
+        content, said = linked(path, file, link, kept)
         # (--object says what is known already)
         options, link = [word for word in options if word != '--object'] + maps_of(said)[0], []
-        file, kept = path_of(content), [content]
+        file, kept = path_of(content), [*kept, content]
     # (an object without maps is a program that sends nothing)
-    sizes = sizes_of_maps(options) if has(options, '--maps') or not kept else []
+    sizes = sizes_of_maps(options) if has(options, '--maps') or not is_object else []
     program = Program([path, 'debug', *options, *link, '--', file], kept)
     try:
         move = MOVE.match(program.ask('continue')[0])

@@ -76,11 +76,11 @@ class Listing(Source):
 class Object(Source):
     """An object with its functions, and the lines of C if it has them and addr2line is installed: both by bpfdb-symbols."""
 
-    def __init__(self, path, link, size):
+    def __init__(self, path, link, size, kept=()):
         super().__init__()
         tool = beside('bpfdb-symbols')
         with in_memory() as symbols:
-            _, said = ran([tool, *link, '--', path, path_of(symbols)], [symbols])
+            _, said = ran([tool, *link, '--', path, path_of(symbols)], [symbols, *kept])
             file = symbols.read()
             if not file:
                 return warn(said, '')

@@ -5,7 +5,7 @@ import os
 import re
 import subprocess
 
-from bpfdb.texts import in_memory
+from bpfdb.texts import in_memory, readable
 
 # The bytes that a journal may have. (docs/JOURNAL.md)
 LARGEST_JOURNAL = 16777216
@@ -147,16 +147,26 @@ def split_words(given):
     return debug, file, link
 
 
+def with_readable(words, kept):
+    """Words for `debug`, in which the context can be read again, by `origin` and `whynot`."""
+    found = []
+    for word in words:
+        name, path = re.fullmatch(r'(-m=?|--mem=|)(.*)', word, re.DOTALL).groups()
+        is_path = found[-1:] in (['-m'], ['--mem']) or name and path
+        found.append(name + readable(path, kept) if is_path else word)
+    return found
+
+
 def has(words, option):
     """Whether an option is among words."""
     return any(word.split('=')[0] == option for word in words)
 
 
-def linked(program, file, link):
-    """A file with the words of an object, and what `link` said on standard error."""
+def linked(program, file, link, kept=()):
+    """A file with the words of an object, and what `link` said on standard error. It gets the kept files."""
     content = in_memory()
     done = subprocess.run([program, 'link', *link, '--', file], stdin=subprocess.DEVNULL, stdout=content, stderr=subprocess.PIPE, text=True,
-                          errors='surrogateescape')
+                          errors='surrogateescape', pass_fds=[file.fileno() for file in kept])
     if done.returncode:
         raise Refused(done.stderr, done.returncode)
     return content, done.stderr

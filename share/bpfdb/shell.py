@@ -13,8 +13,8 @@ from bpfdb.listings import Listings
 from bpfdb.meanings import Meanings
 from bpfdb.places import Listing, Object, Source
 from bpfdb.prompt import Prompt, edit_lines, uncommented
-from bpfdb.session import FOR_SYMBOLS, MOVE, PLACE, Ended, Hint, Program, Refused, has, linked, maps_of, split_words
-from bpfdb.texts import LONGEST_LINE, is_text, path_of, plain, ran, start_of, text_lines, warn
+from bpfdb.session import FOR_SYMBOLS, MOVE, PLACE, Ended, Hint, Program, Refused, has, linked, maps_of, split_words, with_readable
+from bpfdb.texts import LONGEST_LINE, is_text, path_of, plain, ran, readable, start_of, text_lines, warn
 from bpfdb.values import Values
 from bpfdb.ways import Ways
 
@@ -201,26 +201,27 @@ class Shell(Prompt, Meanings, Values, Listings, Halts, Ways):
 def opened(program, given):
     """The session of a command line."""
     debug, file, options = split_words(given)
-    link = [word for option in options for word in option]
-    source, kept, path = Source(), [], file
-    if file and start_of(file, 4) == b'\x7fELF':
-        content, said = linked(program, file, link)
+    link, kept = [word for option in options for word in option], []
+    debug, path = with_readable(debug, kept), file and readable(file, kept)
+    source = Source()
+    if file and start_of(path, 4) == b'\x7fELF':
+        content, said = linked(program, path, link, kept)
         # (--object says what is known already)
         debug = [word for word in debug if word != '--object']
         maps, names = maps_of(said)
         debug += [] if has(debug, '--maps') else maps
-        kept, path = [content], path_of(content)
         if sys.stdin.isatty():
             warn(f"> bpfdb link {' '.join([*link, file])}\n{said}", '')
         places = [word for option in options for word in option if option[0].split('=')[0] in FOR_SYMBOLS]
-        source = Object(file, places, os.fstat(content.fileno()).st_size)
+        source = Object(path, places, os.fstat(content.fileno()).st_size, kept)
         source.maps = {name: number for number, name in names.items()}
+        kept, path = [*kept, content], path_of(content)
     else:
         debug = debug + link
         if file and file.endswith('.s') and os.path.isfile(file) and '--listing' not in debug:
             debug = debug + ['--listing']
-        if '--listing' in debug and file and os.path.isfile(file):
-            source = Listing(file, ran([program, 'lines', '--', file])[0])
+        if '--listing' in debug and file and os.path.isfile(path):
+            source = Listing(path, ran([program, 'lines', '--', path], kept)[0])
     line = [program] + (['debug', *debug] if given else []) + (['--', path] if file else [])
     return Shell(Program(line, kept), source, not given)
 

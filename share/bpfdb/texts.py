@@ -3,12 +3,13 @@
 import contextlib
 import os
 import re
+import stat
 import subprocess
 import sys
 
 MASK = (1 << 64) - 1
-# The bytes that a line of bpfdb may have (so much is shown of a text's, too), and a text of which lines are shown.
-LONGEST_LINE, LONGEST_TEXT = 1024, 1 << 24
+# The bytes that a line of bpfdb may have (so much is shown of a text's, too), a text of which lines are shown, and what is kept of a pipe.
+LONGEST_LINE, LONGEST_TEXT, LONGEST_FILE = 1024, 1 << 24, 1 << 26
 NUMBER = re.compile(r'0x[0-9a-fA-F]+|[0-9]+')
 # What a terminal obeys and doesn't show: control bytes, marks that turn the direction of a text, and bytes that are no UTF-8.
 UNSEEN = re.compile('[\x00-\x1f\x7f-\x9f\u061c\u200e\u200f\u202a-\u202e\u2066-\u2069\udc80-\udcff]')
@@ -75,6 +76,18 @@ def in_memory():
 def path_of(file):
     """The path of a file that a program gets by its number."""
     return f'/dev/fd/{file.fileno()}'
+
+
+def readable(path, kept):
+    """The path of a file that can be read again: of a pipe, which can't, that of a copy in memory, which is kept."""
+    with contextlib.suppress(OSError):
+        if stat.S_ISFIFO(os.stat(path).st_mode):
+            with open(path, 'rb') as pipe:
+                kept.append(in_memory())
+                kept[-1].write(pipe.read(LONGEST_FILE + 1))
+                kept[-1].flush()
+            return path_of(kept[-1])
+    return path
 
 
 def ran(line, kept=()):

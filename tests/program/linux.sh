@@ -99,6 +99,10 @@ LISTING
     events_of 'no file' 2 '' "bpfdb-events: 'bpfdb-events --maps VxN,VxN FILE' or 'bpfdb-events OBJECT' is wanted; bpfdb-events --help tells more\n" --maps 8x2
     bytes overrun.o $(sed 's/../& /g' "$top/examples/overrun/object.hex")
     events_of 'an object that sends nothing' 1 '' 'bpfdb-events: fault access 0x10077656d at 25\n' -m "$top/examples/overrun/context.bin" --object overrun.o
+    mkfifo pipe
+    cat "$top/examples/overrun/context.bin" > pipe &
+    events_of 'a context by a pipe' 1 '' 'bpfdb-events: fault access 0x10077656d at 25\n' -m pipe overrun.o
+    rm pipe
     events_of 'an object that is refused' 2 '' 'bpfdb-events: refused E8: no such code section: .text, filter\n' --section nothing overrun.o
     events_of 'a file that is none' 2 '' 'bpfdb-events: cannot read nowhere\n' --maps 8x2 nowhere
     events_of 'maps that are none' 2 '' 'bpfdb-events: refused M5: malformed map list\n' --listing --maps 8 none.s

@@ -243,6 +243,14 @@ PYTHON
         habit 'start; stepi 3; start' 'p $pc' '> info regs / $pc = 0x1 (1)'
     fi
     plainly 'an object' 0 'c\n' '105 forward; end; fault access 0x10077656d at 25\n' '' -m context.bin overrun.o
+    # What comes by a pipe can be read but once, and origin needs it again.
+    mkfifo pipe
+    cat context.bin > pipe &
+    plainly 'a context by a pipe' 0 'c\norigin r0\n' '105 forward; end; fault access 0x10077656d at 25\n-9 r0 = 0x77; 19: ldxb r0, [r0+0]; from 0x10000000c:1\n'\
+'left 0x10000000c = 0x77; byte 12 of the context; at the opening\n' '' -m pipe overrun.o
+    cat overrun.o > pipe &
+    plainly 'an object by a pipe' 0 'b copy\nc\norigin r7\n' 'ok\n10 forward; break; at 13: jeq r3, 0, L23\nleft r7 = 0x0; at the opening\n' '' --mem=context.bin pipe
+    rm pipe
     # (a Python that finds no folder for temporary files)
     mkdir full
     printf 'import tempfile\ntempfile.tempdir = "/nowhere"\n' > full/sitecustomize.py
