@@ -14,7 +14,7 @@ from bpfdb.meanings import Meanings
 from bpfdb.places import Listing, Object, Source
 from bpfdb.prompt import Prompt, edit_lines, uncommented
 from bpfdb.session import FOR_SYMBOLS, MOVE, PLACE, Ended, Hint, Program, Refused, has, linked, maps_of, split_words, with_readable
-from bpfdb.texts import LONGEST_LINE, is_text, path_of, plain, ran, readable, start_of, text_lines, warn
+from bpfdb.texts import LONGEST_LINE, beside, is_text, path_of, plain, ran, readable, start_of, text_lines, warn
 from bpfdb.values import Values
 from bpfdb.ways import Ways
 
@@ -248,7 +248,7 @@ def main(given):
     if '-h' in given or '--help' in given:
         print(f'{USAGE}\n\n{table()}\n\n{HELP_END}')
         return 0
-    program = os.environ.get('BPFDB') or 'bpfdb'
+    program = os.environ.get('BPFDB') or beside('bpfdb')
     if not shutil.which(program):
         warn(f'bpfdb-shell: cannot find {program}; name it by BPFDB')
         return 2

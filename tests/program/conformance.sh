@@ -35,6 +35,18 @@ plugin 2 "$answer\n" '' "bpfdb-conformance: memory has half a byte\n" 012
 plugin 2 '' '' 'bpfdb-conformance: there is no program\n'
 plugin 2 '' '' 'bpfdb-conformance: --program needs the words of a program\n' --program
 
+# bpfdb lies beside it where it isn't on the PATH, and is missed by name.
+mkdir beside
+cp "$top/share/bpfdb-conformance" beside
+for row in '0|2a\n|' '2||bpfdb-conformance: cannot find beside/bpfdb\n'; do
+    [ "${row%%|*}" = 2 ] || ln -s "$program" beside/bpfdb
+    (unset BPFDB && PATH=/usr/bin:/bin beside/bpfdb-conformance --program "$answer") > found/out 2> found/err
+    echo $? > found/status
+    text=${row#*|}
+    check 'bpfdb-conformance: bpfdb beside it, or nowhere' "${row%%|*}" "${text%|*}" "${text#*|}"
+    rm -f beside/bpfdb
+done
+
 # What can't be written is no answer.
 if [ -c /dev/full ]; then
     BPFDB=$program "$top/share/bpfdb-conformance" --program "$answer" > /dev/full 2> found/err

@@ -103,6 +103,14 @@ if has python3 'bpfdb-shell'; then
     same 'bpfdb-shell: help behind other words' wanted/help found/help
     opened=blank.s
     habit '' 'info line 1' '1: blank.s:2: exit'
+    # Where it is installed bpfdb is beside it, and needn't be on the PATH.
+    mkdir placed placed/bin placed/share
+    cp "$shell" placed/bin
+    cp -r "$top/share/bpfdb" placed/share
+    ln -s "$program" placed/bin/bpfdb
+    echo si | (unset BPFDB && placed/bin/bpfdb-shell plain.s) > found/out 2> found/err
+    echo $? > found/status
+    check 'bpfdb-shell: bpfdb beside it' 0 '1 forward; done; at 1: exit\n' ''
     plainly 'no program' 2 'si\n' '' 'cannot read missing\n' missing
     plainly 'a refused program' 2 'si\n' '' 'refused C3: length is no multiple of 8\n' context
     plainly 'a command line that is none' 2 'si\n' '' "$("$program" debug --frob 2>&1 | sed 's/\\/\\\\/g')\n" --frob

@@ -205,6 +205,8 @@ mkdir new
 typed 'bpfdb-show into a new folder' 0 'context options program script\ncat F/script - | bpfdb debug --maps=4x3,2x2 --steps=16 -m F/context F/program\n' '' \
     'TMPDIR=new; export TMPDIR; bpfdb-show a shown.test > shown; echo $(ls new/*); sed -n "1s:new/bpfdb-show\.......:F:gp" shown'
 typed 'bpfdb-show of no test' 2 '' 'refused T7: no test of this name: b\n' 'TMPDIR=new bpfdb-show b shown.test'
+typed 'bpfdb-show without bpfdb' 2 '' 'cannot find nowhere\n' 'BPFDB=nowhere bpfdb-show a shown.test'
+typed 'bpfdb-show with bpfdb beside it' 0 'context\noptions\nprogram\nscript\n' '' "PATH=\$(dirname \"\$(command -v sh)\"):/usr/bin:/bin; bin/bpfdb-show a shown.test near > shown && ls near"
 typed 'what bpfdb-show leaves of no test' 0 '1\n' '' 'ls new | wc -l'
 # Names of folders are words of the shell, whatever is in them; what a test file holds is none of its lines.
 for dir in 'a\tb\041\c' "it's \"c\"" '-m' 'a
