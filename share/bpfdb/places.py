@@ -65,7 +65,7 @@ class Listing(Source):
     def __init__(self, path, rows):
         super().__init__()
         name, whole, texts = os.path.basename(path), os.path.abspath(path), text_lines(path)
-        for row in rows.splitlines():
+        for row in rows.splitlines() if re.match(r'\d+ \d+', rows) else ():
             slot, line, *labels = row.split(' ')
             self.labels.update(dict.fromkeys(labels, int(slot)))
             code = line_in(texts, int(line)).split(';')[0]

@@ -168,7 +168,7 @@ def linked(program, file, link, kept=()):
     done = subprocess.run([program, 'link', *link, '--', file], stdin=subprocess.DEVNULL, stdout=content, stderr=subprocess.PIPE, text=True,
                           errors='surrogateescape', pass_fds=[file.fileno() for file in kept])
     if done.returncode:
-        raise Refused(done.stderr, done.returncode)
+        raise Refused(done.stderr or f'bpfdb ended with status {done.returncode}\n', 2)
     return content, done.stderr
 
 

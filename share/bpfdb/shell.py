@@ -272,6 +272,8 @@ def main(given):
         shell.program.child.kill()
         return 130
     status, errors = shell.program.end()
+    if status < 0:
+        status, errors = 2, f'bpfdb-shell: bpfdb ended with status {status}\n'
     warn(errors, '')
     if shell.terminal:
         explain(errors, shell.source, given)

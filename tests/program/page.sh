@@ -71,6 +71,11 @@ if has python3 'pages of runs'; then
     ls -A left > found/left
     : > wanted/left
     same 'bpfdb-page leaves nothing of what it refuses' wanted/left found/left
+    BPFDB=/bin/echo made 2 'what BPFDB names is no bpfdb\n' -o left/run.html two.s
+    printf '#!/bin/sh\nkill -9 $$\n' > killed
+    chmod 755 killed
+    BPFDB=$PWD/killed made 2 'bpfdb ended with status -9\n' -o left/run.html overrun.o
+    BPFDB=$PWD/killed made 2 'bpfdb ended with status -9\n' -o left/run.html two.s
     BPFDB=$PWD/nothing made 2 "cannot find $PWD/nothing\\n" -o left/run.html two.s
 
     # An option's value in each form that bpfdb takes, and what is said where bpfdb takes over a second.

@@ -251,6 +251,12 @@ PYTHON
         habit 'start; stepi 3; start' 'p $pc' '> info regs / $pc = 0x1 (1)'
     fi
     plainly 'an object' 0 'c\n' '105 forward; end; fault access 0x10077656d at 25\n' '' -m context.bin overrun.o
+    # Where bpfdb is killed, it says so.
+    printf '#!/bin/sh\nkill -9 $$\n' > killed
+    chmod 755 killed
+    (BPFDB=$PWD/killed failures=0; plainly 'bpfdb is killed' 2 'si\n' '' 'bpfdb-shell: bpfdb ended with status -9\n' context
+        plainly 'link is killed' 2 'si\n' '' 'bpfdb ended with status -9\n' overrun.o; exit "$failures") || failures=$((failures + 1))
+    count=$((count + 2))
     # What comes by a pipe can be read but once, and origin needs it again.
     mkfifo pipe
     cat context.bin > pipe &
