@@ -96,6 +96,7 @@ def main(words):
     """Prints what was sent; whether the program exited."""
     if sys.stdout is None:
         raise OSError
+    sys.stdout.reconfigure(encoding='utf-8')
     if any(word in ('-h', '--help') for word in words):
         print(USAGE)
         return True

@@ -92,6 +92,9 @@ LISTING
     sed 's/sth \[r1+24\], 1/sth [r1+24], 9/' sent.s > kind.s
     events_of 'a record of no kind' 0 'map 2: kind 9, 3 bytes at 0x300100020: 010203\n' '' --listing --maps 8x2,8x6 kind.s
     sed 's/sth \[r1+24\], 1/sth [r1+24], 3/; s/0x030201/0x070a41/' sent.s > text.s
+    # (c3 b6 is the letter that follows in UTF-8)
+    sed 's/0x070a41/0x41b6c3/' text.s > letter.s
+    PYTHONIOENCODING=ascii events_of 'a text that is no ASCII' 0 'trace, 3 bytes at 0x300100020: \0303\0266A\n' '' --listing --maps 8x2,8x6 letter.s
     events_of 'a text that steers' 0 'trace, 3 bytes at 0x300100020: A\\x0a\\x07\n' '' --listing --maps 8x2,8x6 text.s
     printf 'mov r0, 1\nexit\n' > none.s
     events_of 'no record' 0 '' '' --listing --maps 8x2 none.s

@@ -64,6 +64,9 @@ if has python3 'bpfdb-symbols'; then
     PYTHONOPTIMIZE=2 "$top/share/bpfdb-symbols" overrun.o without > found/out 2> found/err
     echo $? > found/status
     check 'bpfdb-symbols: a Python without texts of documentation' 0 '' ''
+    "$top/share/bpfdb-symbols" "$(printf 'no\033]0;T\007\342\200\256')" without > found/out 2> found/err
+    echo $? > found/status
+    check 'bpfdb-symbols: a name that a terminal would obey' 2 '' 'bpfdb-symbols: no\\x1b]0;T\\x07\\xe2\\x80\\xae: No such file or directory\n'
     cp overrun.o kept.o
     "$top/share/bpfdb-symbols" kept.o ./kept.o > found/out 2> found/err
     echo $? > found/status
