@@ -13,6 +13,7 @@ lacking() {
         command -v "$name" > /dev/null || echo "$packages"
     done <<'PROGRAMS'
 addr2line binutils
+bashreadline libbpf-tools
 cc gcc libc6-dev
 chromium chromium
 clang clang
