@@ -109,8 +109,8 @@ def main(words):
     if is_object:
         content, said = linked(path, file, link, kept)
         # (--object says what is known already)
-        options, link = [word for word in options if word != '--object'] + maps_of(said)[0], []
-        file, kept = path_of(content), [*kept, content]
+        options = [word for word in options if word != '--object'] + ([] if has(options, '--maps') else maps_of(said)[0])
+        file, link, kept = path_of(content), [], [*kept, content]
     # (an object without maps is a program that sends nothing)
     sizes = sizes_of_maps(options) if has(options, '--maps') or not is_object else []
     program = Program([path, 'debug', *options, *link, '--', file], kept)

@@ -102,6 +102,12 @@ LISTING
     events_of 'no file' 2 '' "bpfdb-events: 'bpfdb-events --maps VxN,VxN FILE' or 'bpfdb-events OBJECT' is wanted; bpfdb-events --help tells more\n" --maps 8x2
     bytes overrun.o $(sed 's/../& /g' "$top/examples/overrun/object.hex")
     events_of 'an object that sends nothing' 1 '' 'bpfdb-events: fault access 0x10077656d at 25\n' -m "$top/examples/overrun/context.bin" --object overrun.o
+    bytes firewall.o $(sed 's/../& /g' "$top/examples/firewall/object.hex")
+    for words in '' '--maps 8x5' '--maps=8x6'; do
+        # (words without quotes)
+        # shellcheck disable=SC2086
+        events_of "an object with maps: '$words'" 0 '' '' $words --section xdp --entry bpfdb -m "$top/examples/firewall/context.bin" firewall.o
+    done
     mkfifo pipe
     cat "$top/examples/overrun/context.bin" > pipe &
     events_of 'a context by a pipe' 1 '' 'bpfdb-events: fault access 0x10077656d at 25\n' -m pipe overrun.o
