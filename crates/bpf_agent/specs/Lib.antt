@@ -1,0 +1,4 @@
+pub mod Registers
+pub mod Arithmetic
+pub mod Expressions
+pub mod Conditions
