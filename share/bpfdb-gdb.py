@@ -84,8 +84,9 @@ class Commands:
 
 
 commands = Commands()
-# What was asked of machines and of the debug information: whether a machine is bpfdb's, and where the functions of instructions begin.
-known_machines, known_functions = {}, {}
+# What was asked of machines and of the debug information: whether a machine is bpfdb's, where the functions of instructions begin, and what the
+# frame that was looked at last holds, by its bytes.
+known_machines, known_functions, known_frames = {}, {}, {}
 
 
 def is_bpf(architecture):
@@ -180,8 +181,18 @@ def function_start(counter):
 def saved_by(depth, architecture):
     """What comes back where the call that made this depth returns: registers with their values."""
     size = struct.calcsize(FRAME)
-    counter, *saved = struct.unpack(FRAME, gdb.selected_inferior().read_memory(FRAMES + size * (depth - 1), size))
+    content = bytes(gdb.selected_inferior().read_memory(FRAMES + size * (depth - 1), size))
     name = architecture.name()
+    if (name, content) not in known_frames:
+        # (steps within a function ask for the same again and again)
+        known_frames.clear()
+        known_frames[name, content] = values_of(name, content, architecture)
+    return known_frames[name, content]
+
+
+def values_of(name, content, architecture):
+    """The same, of these bytes."""
+    counter, *saved = struct.unpack(FRAME, content)
     # (r6 to r9 under the name that BPF has for each, too, where that is a register of its own)
     pairs = [(COUNTERS[name], counter), *zip(REGISTERS[name][6:10], saved), *zip(("r6", "r7", "r8", "r9"), saved)]
     word, known = architecture.integer_type(64), architecture.registers()
@@ -226,8 +237,8 @@ class Unwinder(gdb.unwinder.Unwinder):
             frame.add_saved_register(COUNTERS[name], counter)
         # The outermost frame has no caller. Where a file of symbols is loaded gdb knows by its entry, and asks only for a frame that differs.
         # Elsewhere, and before the entry, it stops at one that doesn't.
-        is_known = gdb.current_progspace().filename and not is_before_entry(counter)
-        steps = 1 if depth > 0 or depth == 0 and is_known else 0
+        has_caller = depth > 0 or depth == 0 and gdb.current_progspace().filename and not is_before_entry(counter)
+        steps = 1 if has_caller else 0
         frame.add_saved_register(registers[10], gdb.Value(int(pointer) - steps * POINTER_STRIDE).cast(pointer.type))
         return frame
 

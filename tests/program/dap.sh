@@ -32,6 +32,9 @@ if has python3 'bpfdb-dap'; then
     python3 -c 'import sys; sys.stdout.buffer.write(bytes.fromhex(sys.stdin.read()))' < "$top/examples/overrun/object.hex" > overrun.o
     cp "$top/examples/overrun/overrun.c" "$top/examples/overrun/context.bin" "$top/examples/fault/program.s" .
     cp "$top/examples/fault/context.bin" fault.bin
+    python3 -c 'import sys; sys.stdout.buffer.write(bytes.fromhex(sys.stdin.read()))' < "$top/examples/firewall/object.hex" > firewall.o
+    cp "$top/examples/firewall/firewall.c" .
+    cp "$top/examples/firewall/context.bin" packet.bin
     printf 'mov r0, 0\nloop: add r0, 1\nja loop\n' > endless.s
     printf 'mov r0, 0\nloop: add r0, 1\njlt r0, 450000, loop\nexit\n' > loop.s
     printf 'mov r0, 0\nloop: add r0, 1\nja loop\nexit\n' > words.s
@@ -55,10 +58,10 @@ if has python3 'bpfdb-dap'; then
         fi
         if ls -d /usr/share/emacs/site-lisp/elpa-src/dap-mode-* > /dev/null 2>&1 && has emacs "Emacs's dap-mode"; then
             HOME=$PWD timeout 100 emacs --batch -Q -l "$parts/dap/emacs.el" 2>&1 |
-                grep -E '^(entry|stepBack|continue|back|begin|next|[0-9]+ (back|moves)) ?' > found/out
+                grep -E '^(entry|firewall|stepBack|continue|back|begin|next|ok|[0-9]+ (back|moves))[ ,]?' > found/out
             echo 0 > found/status
             : > found/err
-            check 'Emacs: README by bpfdb-dap.el' 0 'entry entry:30
+            check "Emacs: README's two sessions by bpfdb-dap.el" 0 'entry entry:30
 stepBack t
 continue size_of:26
 back size_of:26
@@ -68,6 +71,12 @@ begin entry:30
 next entry:31
 2 back; done; at 0: mov r2, r1, entry:30
 0 moves, 0 commands, 0 of 4194304 bytes, entry:30
+firewall bpfdb:57
+continue firewall:54
+ok, firewall:54
+continue bpfdb:61
+19 back; done; at 44: ldxh r1, [r1+22], firewall:54
+begin bpfdb:57
 ' ''
         else
             left_out "Emacs's dap-mode" 'there is no elpa-dap-mode'

@@ -432,7 +432,7 @@ asks() {
 # answers comes before a failed write.
 begin_script
 asks '$s#73' '+$T05thread:0;0a:0002000002000000;0b:0800000000000000;#ef'
-asks '$qSupported:swbreak+#8b' '+$PacketSize=4000;ReverseStep+;ReverseContinue+;swbreak+;vContSupported+;QStartNoAckMode+#fa'
+asks '$qSupported:swbreak+#8b' '+$PacketSize=4000;ReverseStep+;ReverseContinue+;swbreak+;vContSupported+;QStartNoAckMode+;ConditionalBreakpoints+#56'
 asks '$c#63' '+$O65786974656420617420313a20723020307832610a#25$T05replaylog:end;thread:0;0a:0002000002000000;0b:0800000000000000;#6a'
 asks '$bs#d5' '+$T05thread:0;0a:0002000002000000;0b:0800000000000000;#ef'
 status=0

@@ -36,7 +36,7 @@ row 'a refused listing' 2 '$?#3f' '' 'refused A1 at line 1: unknown mnemonic\n' 
 row 'a refused journal' 2 '$?#3f' '' 'refused J1: journal size out of range\n' gdb --journal 1 --listing answer.s
 
 # The tables: sessions, streams of bytes, beginnings of a stream, and descriptions of machines.
-for name in requests refusals numbers statuses stops ends watches frames lengths machines origin whynot; do
+for name in requests refusals numbers statuses stops conditions ends watches frames lengths machines origin whynot; do
     play_blocks "$parts/packets/$name.txt"
 done
 streams_of "$parts/packets/streams.txt"
@@ -189,7 +189,7 @@ z2,2000001f8,1|E0b
 ROWS
 printf 'stw [r10-8], 7\nldxb r0, [r0+0]\nexit\n' > watched.s
 requests 'ways to go on, a watch, a fault and the end' gdb --listing watched.s <<'ROWS'
-vCont?|vCont;c;C;s;S
+vCont?|vCont;c;C;s;S;r
 Z2,2000001f8,2|OK
 vCont;c:1|T05watch:00000002000001f8;
 vCont;s:1|T0b|fault access 0x0 at 1

@@ -1,7 +1,7 @@
 -- Evaluations, instruction by instruction.
 use Rattle.std.proofs.Common.{◌≡◌, ◌<◌, ◌+◌, ◌-◌, ℕ, suc, List, Option, Some, None, refl, ap, ◌∙◌, arith}
 use Rattle.bpf_agent.specs.Expressions.{Went, step, value_from}
-use Rattle.bpf_machine.specs.State.{State}
+use Rattle.bpf_steps.specs.State.{State}
 use Rattle.bpf_agent.specs.declared.expression.Next.TheVariants.{At, Value}
 
 -- the value by the step that is taken first

@@ -1,7 +1,7 @@
 -- The instructions of expressions that work on numbers, by their opcodes, over numbers of 64 bits.
 use Rattle.std.specs.Prelude.{ℕ, ◌+◌, ◌-◌, ◌*◌, ◌/◌, ◌%◌, ◌^◌, ◌==◌, ◌&&◌, bit_and, bit_or, bit_xor, int_div, int_rem, int_lt, nat_lt, nat_le, if◌then◌else◌, Bool, true, false, Option, Some, None}
 use Rattle.std.specs.Int.{int_shr}
-use Rattle.bpf_machine.specs.Numbers.{signed, wrap}
+use Rattle.bpf_steps.specs.Numbers.{signed, wrap}
 
 -- A truth as a number.
 abbrev pub truth : Bool → ℕ

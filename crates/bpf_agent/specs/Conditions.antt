@@ -1,7 +1,7 @@
 -- The conditions of breakpoints: by the slot of each its bytecode.
 use Rattle.std.specs.Prelude.{ℕ, ◌==◌, ◌++◌, not, nat_lt, if◌then◌else◌, Bool, false, List, [], ◌∷◌, length, filter, find, Option, Some, None}
 use Rattle.std.specs.Option.{option_map, unwrap_or}
-use Rattle.bpf_machine.specs.State.{State}
+use Rattle.bpf_steps.specs.State.{State}
 use Rattle.bpf_agent.specs.Expressions.{value}
 
 -- In order of setting, at most one of a slot.

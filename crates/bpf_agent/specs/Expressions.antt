@@ -3,8 +3,8 @@
 use Rattle.std.specs.Prelude.{ℕ, zero, suc, ◌+◌, ◌==◌, ◌||◌, ◌&&◌, nat_lt, nat_le, if◌then◌else◌, Bool, true, false, List, [], ◌∷◌, length, drop, slice_get, Option, Some, None}
 use Rattle.std.specs.Option.{option_map, option_and_then}
 use Rattle.byteorder.specs.Endian.{big_number, little_number}
-use Rattle.bpf_machine.specs.Regions.{run_at}
-use Rattle.bpf_machine.specs.State.{State}
+use Rattle.bpf_steps.specs.Regions.{run_at}
+use Rattle.bpf_steps.specs.State.{State}
 use Rattle.bpf_agent.specs.Arithmetic.{binary, unary}
 use Rattle.bpf_agent.specs.Registers.{value_of}
 use Rattle.bpf_agent.specs.declared.expression.Next.{Next}

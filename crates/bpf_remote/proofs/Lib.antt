@@ -7,6 +7,7 @@ pub mod Telling
 pub mod LineTexts
 pub mod Turns
 pub mod Bodies
+pub mod Rounds
 pub mod Consoles
 pub mod OriginTexts
 pub mod WhyTexts

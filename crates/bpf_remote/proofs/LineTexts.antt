@@ -12,7 +12,8 @@ use Rattle.bpf_session.specs.declared.reply.Reply.{Reply}
 use Rattle.bpf_session.specs.Replies.{text_of_answer}
 use Rattle.bpf_session.specs.Sessions.{SessionValue, HasPast, bounds_of, point_of}
 use Rattle.bpf_remote.specs.Answers.{error_text}
-use Rattle.bpf_remote.specs.Connections.{Heeds, Obeyed, ObeysCommand, ObeysLine, Tells, line_of}
+use Rattle.bpf_remote.specs.Connections.{Heeds, ObeysCommand, ObeysLine, Tells, line_of}
+use Rattle.bpf_remote.specs.Ways.{Obeyed}
 use Rattle.bpf_remote.specs.Help.{help_text}
 use Rattle.bpf_remote.specs.Moves.{moves_after}
 use Rattle.bpf_remote.specs.Numbers.{hex_text}

@@ -5,7 +5,8 @@ use Rattle.std.proofs.lemmas.List.{append-nil}
 use Rattle.bpf_steps.specs.State.{State}
 use Rattle.bpf_remote.specs.Packets.{Buffer, Holds}
 use Rattle.bpf_remote.specs.Numbers.{address_text, hex_text, word_text}
-use Rattle.bpf_remote.specs.Answers.{byte_at, error_text, moves_text, other_text, register_text, present, registers_below, stop_text, value_of, memory_part, has_memory, part_of, watched_text}
+use Rattle.bpf_remote.specs.Answers.{byte_at, error_text, moves_text, other_text, register_text, present, registers_below, stop_text, memory_part, has_memory, part_of, watched_text}
+use Rattle.bpf_agent.specs.Registers.{value_of}
 use Rattle.bpf_remote.specs.Layouts.{has_moves}
 use Rattle.bpf_remote.specs.declared.layout.Layout.{Layout}
 use Rattle.bpf_remote.specs.declared.manners.Manners.{Manners}

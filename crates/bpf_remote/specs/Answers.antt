@@ -5,7 +5,8 @@ use Rattle.bpf_entries.specs.declared.status.Fault.TheVariants.{Access}
 use Rattle.bpf_entries.specs.declared.status.Status.{Status}
 use Rattle.bpf_entries.specs.declared.status.Status.TheVariants.{Running, Exited, Faulted}
 use Rattle.bpf_steps.specs.Regions.{run_at}
-use Rattle.bpf_steps.specs.State.{State, register}
+use Rattle.bpf_steps.specs.State.{State}
+use Rattle.bpf_agent.specs.Registers.{value_of}
 use Rattle.bpfdb_commands.specs.Refusals.{number_of}
 use Rattle.bpfdb_commands.specs.declared.refusal.Refusal.{Refusal}
 use Rattle.bpfdb_commands.specs.declared.refusal.Refusal.TheVariants.{MachineEnded, NoKeptStep}
@@ -86,11 +87,7 @@ watched_text address = codes "T05watch:" ++ address_text address ++ codes ";"
 abbrev pub error_text : ℕ → List ℕ
 error_text number = codes "E" ++ two_digits number
 
--- The registers by gdb's numbers: r0 to r10; pc, which counts bytes, eight a slot; and r0 to r10 once more.
-abbrev pub value_of : State → ℕ → ℕ
-value_of x n = if n == 11 then 8 * x.pc else register x (if nat_lt n 11 then n else n - 12)
-
--- How many moves lie before the state has a number of its own. Any other register has no value.
+-- The registers have gdb's numbers. How many moves lie before the state has one of its own. Any other register has no value.
 abbrev pub other_text : ℕ → ℕ → List ℕ
 other_text moves n = if n == 64 then word_text moves else codes "xxxxxxxxxxxxxxxx"
 
@@ -142,8 +139,8 @@ memory_text x address count = memory_part x address (min count most_bytes)
 
 -- What is understood.
 abbrev pub supported_text : Layout → List ℕ
-supported_text layout.Bpf = codes "PacketSize=4000;ReverseStep+;ReverseContinue+;swbreak+;vContSupported+;QStartNoAckMode+"
-supported_text _ = codes "PacketSize=4000;ReverseStep+;ReverseContinue+;swbreak+;vContSupported+;QStartNoAckMode+;qXfer:features:read+"
+supported_text layout.Bpf = codes "PacketSize=4000;ReverseStep+;ReverseContinue+;swbreak+;vContSupported+;QStartNoAckMode+;ConditionalBreakpoints+"
+supported_text _ = codes "PacketSize=4000;ReverseStep+;ReverseContinue+;swbreak+;vContSupported+;QStartNoAckMode+;ConditionalBreakpoints+;qXfer:features:read+"
 
 -- A part of a text from an offset on: `l` where it ends there, `m` where more follows.
 abbrev pub part_of : List ℕ → ℕ → List ℕ
@@ -158,7 +155,7 @@ text_of m x answer.Done = codes "OK"
 text_of m x (answer.Error number) = error_text number
 text_of m x (answer.Halted halt) = text_of_halt m.swbreak halt ++ stop_text m x
 text_of m x (answer.Watched address) = watched_text address ++ stop_text m x
-text_of m x answer.Actions = codes "vCont;c;C;s;S"
+text_of m x answer.Actions = codes "vCont;c;C;s;S;r"
 text_of m x answer.Registers = registers_text m.layout x
 text_of m x (answer.Register n) = register_text m x n
 text_of m x (answer.Memory address count) = memory_text x address count

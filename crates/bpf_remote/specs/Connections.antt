@@ -4,20 +4,22 @@ use lib.Chars.{codes}
 use Rattle.std.specs.Option.{option_map}
 use Rattle.std.specs.Result.{result_ok}
 use Rattle.hex.specs.Hex.{decode_of}
+use Rattle.bpf_agent.specs.Conditions.{ConditionList, with_code, without}
 use Rattle.bpf_entries.specs.Keeping.{Kept}
+use Rattle.bpf_steps.specs.State.{depth}
 use Rattle.bpf_journal.specs.Tracks.{Track}
 use Rattle.bpfdb_commands.specs.Commands.{command_of}
 use Rattle.bpfdb_commands.specs.Refusals.{refusal_text}
 use Rattle.bpfdb_commands.specs.declared.command.Command.{Command}
 use Rattle.bpfdb_commands.specs.declared.command.Command.TheVariants as command
 use Rattle.bpfdb_commands.specs.declared.command.Goal.TheVariants as goal
+use Rattle.bpfdb_commands.specs.declared.command.Stop.TheVariants as stop
 use Rattle.bpfdb_commands.specs.declared.refusal.Refusal.{Refusal}
 use Rattle.bpf_session.specs.declared.reply.Reply.{Reply}
-use Rattle.bpf_session.specs.Meaning.{does}
 use Rattle.bpf_session.specs.Output.{is_quit}
 use Rattle.bpf_session.specs.Replies.{text_of_answer}
-use Rattle.bpf_session.specs.Sessions.{SessionValue, HasPast, Obeys, bounds_of, point_of}
-use Rattle.bpf_session.specs.WatchRuns.{SetsWatches, first_changed, seen_at, with_run, without_run}
+use Rattle.bpf_session.specs.Sessions.{SessionValue, HasPast, bounds_of, point_of}
+use Rattle.bpf_session.specs.WatchRuns.{SetsWatches, with_run, without_run}
 use Rattle.bpf_origin.specs.declared.fault.WhatFault.{WhatFault}
 use Rattle.bpf_origin.specs.declared.what.What.{What}
 use Rattle.bpf_remote.specs.Numbers.{behind, hex_text}
@@ -25,9 +27,10 @@ use Rattle.bpf_remote.specs.Origins.{Shows, TellsOrigin, asked_in}
 use Rattle.bpf_remote.specs.Whynots.{TellsWhynot, asks_whynot}
 use Rattle.bpf_remote.specs.Packets.{framed, IsItem}
 use Rattle.bpf_remote.specs.Requests.{request_of}
-use Rattle.bpf_remote.specs.Answers.{answer_of_move, answer_of_set, error_text, halt_of_status, sent, text_of}
+use Rattle.bpf_remote.specs.Answers.{answer_of_set, error_text, halt_of_status, sent, text_of}
 use Rattle.bpf_remote.specs.Help.{asks_help, help_text}
 use Rattle.bpf_remote.specs.Moves.{moves_after}
+use Rattle.bpf_remote.specs.Ways.{Goes, Obeyed, wants_again}
 use Rattle.bpf_remote.specs.Remarks.{console_text, is_told, remark_of, remark_text}
 use Rattle.bpf_remote.specs.declared.answer.Answer.{Answer}
 use Rattle.bpf_remote.specs.declared.answer.Answer.TheVariants as answer
@@ -44,10 +47,10 @@ pub record Place (K : Type 0) : Type 0 where
   pub manners : Manners
   pub last : List ℕ
 
--- Whether a command goes on until something stops the machine.
-abbrev pub runs : Command → Bool
-runs (command.Forward goal.Continue) = true
-runs _ = false
+-- The same between turns, with the conditions of breakpoints that gdb has sent.
+pub record Desk (K : Type 0) : Type 0 where
+  pub place : Place K
+  pub conditions : ConditionList
 
 -- The answer to a request that asks and changes nothing.
 abbrev pub answer_to : {K : Type 0} → Request → SessionValue K → Answer
@@ -68,6 +71,14 @@ abbrev pub manners_after : Request → ℕ → Manners → Manners
 manners_after request.Silence moves m = record m { acknowledges = false; moves = moves }
 manners_after (request.Supported swbreak) moves m = record m { swbreak = swbreak; moves = moves }
 manners_after _ moves m = record m { moves = moves }
+
+-- The conditions behind a request that was answered: a breakpoint that was set has the one that came with it, or none, and so has one that is
+-- taken away none.
+abbrev pub conditions_after : Request → Answer → ConditionList → ConditionList
+conditions_after (request.Break slot (Some code)) answer.Done cs = with_code slot code cs
+conditions_after (request.Break slot None) answer.Done cs = without slot cs
+conditions_after (request.Set (command.Remove (stop.Breakpoint slot))) told cs = without slot cs
+conditions_after _ told cs = cs
 
 -- Whether the connection goes on behind a request, and whether it is answered.
 abbrev pub goes_on : Request → Bool
@@ -101,27 +112,32 @@ abbrev pub line_of : List ℕ → Option (Result (Option Command) Refusal)
 line_of digits = option_map command_of (result_ok (decode_of digits))
 
 module _ {K : Type 0} (holds : K → List Kept → Type 0) (refusals room : K → ℕ) where
-  -- The session obeyed a command, as it obeys it everywhere.
-  abbrev pub Obeyed : SessionValue K → SessionValue K → Command → Result Reply Refusal → Type 0
-  Obeyed old new command said = Obeys holds refusals room old new (λ gap. does gap (bounds_of room old) command) said
+  -- The session obeyed a command, and is answered by whether it did.
+  abbrev pub Sets : SessionValue K → SessionValue K → Command → Answer → ℕ → ℕ → Type 0
+  Sets old new command told moves now = (said : Result Reply Refusal) × Obeyed holds refusals room old new command said
+      × (told ≡ answer_of_set said) × (now ≡ moves_after said command moves)
+
+  -- It was let go by a command that a request may want again.
+  abbrev pub Moves : SessionValue K → SessionValue K → Request → ConditionList → Command → Answer → ℕ → ℕ → Type 0
+  Moves old new r cs command told moves now =
+      Goes holds refusals room command (wants_again r cs (depth old.moment.state)) old new told moves now
 
   -- A request is answered as the session answers the command that it stands for, which makes some moves or takes some back; one that stands
   -- for none changes nothing.
-  abbrev pub Answers : SessionValue K → SessionValue K → Request → Answer → ℕ → ℕ → Type 0
-  Answers old new (request.Move command) told moves now = (said : Result Reply Refusal) × Obeyed old new command said
-      × (told ≡ answer_of_move said (runs command) new.moment.state.status (first_changed (seen_at old.watches old.moment.state) new.moment.state))
-      × (now ≡ moves_after said command moves)
-  Answers old new (request.Set command) told moves now = (said : Result Reply Refusal) × Obeyed old new command said
-      × (told ≡ answer_of_set said) × (now ≡ moves_after said command moves)
-  Answers old new (request.Watch run) told moves now = (said : Result (Unit {0}) Refusal)
+  abbrev pub Answers : SessionValue K → SessionValue K → Request → ConditionList → Answer → ℕ → ℕ → Type 0
+  Answers old new (request.Move command) cs told moves now = Moves old new (request.Move command) cs command told moves now
+  Answers old new (request.Range from to) cs told moves now = Moves old new (request.Range from to) cs (command.Forward (goal.Steps 1)) told moves now
+  Answers old new (request.Set command) cs told moves now = Sets old new command told moves now
+  Answers old new (request.Break slot condition) cs told moves now = Sets old new (command.Add (stop.Breakpoint slot)) told moves now
+  Answers old new (request.Watch run) cs told moves now = (said : Result (Unit {0}) Refusal)
       × SetsWatches old new (with_run run old.watches old.moment.state) said × (told ≡ answer_of_set said) × (now ≡ moves)
-  Answers old new (request.Unwatch run) told moves now = (said : Result (Unit {0}) Refusal)
+  Answers old new (request.Unwatch run) cs told moves now = (said : Result (Unit {0}) Refusal)
       × SetsWatches old new (without_run run old.watches) said × (told ≡ answer_of_set said) × (now ≡ moves)
-  Answers old new r told moves now = (new ≡ old) × (told ≡ answer_to r old) × (now ≡ moves)
+  Answers old new r cs told moves now = (new ≡ old) × (told ≡ answer_to r old) × (now ≡ moves)
 
   abbrev pub ObeysCommand : SessionValue K → SessionValue K → Command → Bool → List ℕ → ℕ → ℕ → Type 0
   ObeysCommand old new command true body moves now = (new ≡ old) × (body ≡ codes "OK") × (now ≡ moves)
-  ObeysCommand old new command false body moves now = (said : Result Reply Refusal) × Obeyed old new command said
+  ObeysCommand old new command false body moves now = (said : Result Reply Refusal) × Obeyed holds refusals room old new command said
       × ((t : Track) → HasPast holds new t → Tells (text_of_answer (bounds_of room new) said (point_of new t)) body)
       × (now ≡ moves_after said command moves)
 
@@ -141,13 +157,17 @@ module _ {K : Type 0} (holds : K → List Kept → Type 0) (refusals room : K �
   Remarked s r told moves remark = (t : Track) → HasPast holds s t → remark ≡ remark_of r told s.moment.state s.limit (moves - length t.history)
 
   -- A packet with this body was answered.
-  abbrev pub DoesRequest : Place K → Place K → Request → List ℕ → Bool → Type 0
-  DoesRequest old new r told on = (answer : Answer) × (moves : ℕ) × Answers old.session new.session r answer old.manners.moves moves
+  abbrev pub DoesPlaced : Place K → Place K → Request → ConditionList → Answer → List ℕ → Bool → Type 0
+  DoesPlaced old new r cs answer told on = (moves : ℕ) × Answers old.session new.session r cs answer old.manners.moves moves
       × (new.manners ≡ manners_after r moves old.manners)
       × (new.last ≡ text_of new.manners new.session.moment.state answer)
       × (remark : Remark) × Remarked new.session r answer moves remark
       × (console : List ℕ) × IsConsole (is_told remark) (remark_text remark new.session.moment.state) console
       × (told ≡ acknowledgement old.manners ++ console ++ packet (is_answered r) new.last) × (on ≡ goes_on r)
+
+  abbrev pub DoesRequest : Desk K → Desk K → Request → List ℕ → Bool → Type 0
+  DoesRequest old new r told on = (answer : Answer) × DoesPlaced old.place new.place r old.conditions answer told on
+      × (new.conditions ≡ conditions_after r answer old.conditions)
 
   -- A line is answered in packets for gdb's user, behind which `OK` stands. Some of the moves before the state may then be left out.
   abbrev pub DoesShow : Place K → Place K → (ℕ → List ℕ → Type 0) → List ℕ → Bool → Type 0
@@ -171,15 +191,16 @@ module _ {K : Type 0} (holds : K → List Kept → Type 0) (refusals room : K �
   abbrev pub DoesLine : Place K → Place K → List ℕ → List ℕ → Bool → Type 0
   DoesLine old new digits told on = DoesWhy old new (asks_whynot digits) digits told on
 
-  abbrev pub DoesBody : Place K → Place K → List ℕ → Option (List ℕ) → List ℕ → Bool → Type 0
+  -- A line may set breakpoints and remove them: no condition is kept behind it.
+  abbrev pub DoesBody : Desk K → Desk K → List ℕ → Option (List ℕ) → List ℕ → Bool → Type 0
   DoesBody old new body None told on = DoesRequest old new (request_of body) told on
-  DoesBody old new body (Some digits) told on = DoesLine old new digits told on
+  DoesBody old new body (Some digits) told on = DoesLine old.place new.place digits told on × (new.conditions ≡ [])
 
   -- What was done and told for an item: a damaged packet is answered by `-`, and the wish to have an answer again by the last one.
-  abbrev pub Does : Place K → Place K → Item → List ℕ → List ℕ → Bool → Type 0
+  abbrev pub Does : Desk K → Desk K → Item → List ℕ → List ℕ → Bool → Type 0
   Does old new item.Packet body told on = DoesBody old new body (behind (codes "qRcmd,") body) told on
   Does old new item.Damaged body told on = (new ≡ old) × (told ≡ codes "-") × (on ≡ true)
-  Does old new item.Again body told on = (new ≡ old) × (told ≡ framed (sent old.last)) × (on ≡ true)
+  Does old new item.Again body told on = (new ≡ old) × (told ≡ framed (sent old.place.last)) × (on ≡ true)
   Does old new item.End body told on = ⊥
 
   -- A turn: the bytes that were read, what they are, what was told, whether the connection goes on, and where it then is.
@@ -189,13 +210,13 @@ module _ {K : Type 0} (holds : K → List Kept → Type 0) (refusals room : K �
     pub body : List ℕ
     pub told : List ℕ
     pub on : Bool
-    pub after : Place K
+    pub after : Desk K
 
-  abbrev pub IsTurn : Place K → Turn → Type 0
+  abbrev pub IsTurn : Desk K → Turn → Type 0
   IsTurn from t = IsItem t.said t.read (record { bytes = t.body; is_long = false }) × Does from t.after t.said t.body t.told t.on
 
   -- Turns, the newest first: where they lead, what was read in them and what was told.
-  abbrev pub end_of : Place K → List Turn → Place K
+  abbrev pub end_of : Desk K → List Turn → Desk K
   end_of from [] = from
   end_of from (t ∷ ts) = t.after
 
@@ -212,6 +233,6 @@ module _ {K : Type 0} (holds : K → List Kept → Type 0) (refusals room : K �
   GoOn [] = Unit {0}
   GoOn (t ∷ ts) = t.on ≡ true
 
-  abbrev pub AreTurns : Place K → List Turn → Type 0
+  abbrev pub AreTurns : Desk K → List Turn → Type 0
   AreTurns from [] = Unit {0}
   AreTurns from (t ∷ ts) = IsTurn (end_of from ts) t × GoOn ts × AreTurns from ts

@@ -7,6 +7,7 @@ pub mod Requests
 pub mod Frames
 pub mod Answers
 pub mod Moves
+pub mod Ways
 pub mod Remarks
 pub mod Help
 pub mod Origins

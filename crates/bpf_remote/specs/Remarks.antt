@@ -26,6 +26,7 @@ remark_of_move _ x limit dropped = remark_of_end x
 -- Beside any other, nothing.
 abbrev pub remark_of : Request → Answer → State → ℕ → ℕ → Remark
 remark_of (request.Move command) told x limit dropped = remark_of_move told x limit dropped
+remark_of (request.Range from to) told x limit dropped = remark_of_move told x limit dropped
 remark_of _ told x limit dropped = remark.Nothing
 
 abbrev pub is_told : Remark → Bool

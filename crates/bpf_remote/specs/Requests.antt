@@ -9,7 +9,6 @@ use Rattle.bpfdb_commands.specs.declared.command.Command.{Command}
 use Rattle.bpfdb_commands.specs.declared.command.Command.TheVariants as command
 use Rattle.bpfdb_commands.specs.declared.command.Goal.{Goal}
 use Rattle.bpfdb_commands.specs.declared.command.Goal.TheVariants as goal
-use Rattle.bpfdb_commands.specs.declared.command.Stop.{Stop}
 use Rattle.bpfdb_commands.specs.declared.command.Stop.TheVariants as stop
 use Rattle.bpfdb_commands.specs.declared.command.Target.TheVariants as target
 use Rattle.bpf_session.specs.WatchRuns.{run_of}
@@ -56,12 +55,31 @@ bytes_at address count bytes = if length bytes == count then Some (request.Set (
 abbrev pub set_memory : Arguments
 set_memory rest = or_wrong (option_and_then (λ parts. option_and_then (λ p. option_and_then (λ bytes. bytes_at p.0 p.1 bytes) (bytes_of parts.1)) (pair 44 parts.0)) (cut 58 rest))
 
--- The address of an instruction, which is eight times its slot, and its kind, which says nothing.
+-- The address of an instruction, which is eight times its slot, and a breakpoint's kind, which says nothing.
 abbrev pub slot_of : ℕ → Option ℕ
 slot_of address = if address % 8 == 0 then Some (address / 8) else None
 
-abbrev pub breakpoint : (Stop → Command) → Arguments
-breakpoint does rest = or_wrong (option_and_then (λ p. option_map (λ slot. request.Set (does (stop.Breakpoint slot))) (slot_of p.0)) (pair 44 rest))
+abbrev pub slot_at : List ℕ → Option ℕ
+slot_at rest = option_and_then (λ p. slot_of p.0) (pair 44 rest)
+
+abbrev pub delete : Arguments
+delete rest = or_wrong (option_map (λ slot. request.Set (command.Remove (stop.Breakpoint slot))) (slot_at rest))
+
+-- A list of one condition: `X`, how many bytes it has, a comma and its bytes, 1 to 256 of them. Of any other list none is kept: then the
+-- breakpoint stops each time, and gdb looks itself.
+abbrev pub of_length : ℕ → List ℕ → Option (List ℕ)
+of_length n bytes = if length bytes == n then Some bytes else None
+
+abbrev pub condition_of : List ℕ → Option (List ℕ)
+condition_of list =
+    option_and_then (λ rest. option_and_then (λ parts. option_and_then (λ n. option_and_then (λ bytes. of_length n bytes) (bytes_of parts.1)) (number parts.0)) (cut 44 rest)) (behind (codes "X") list)
+
+abbrev pub condition_behind : List ℕ → Option (List ℕ)
+condition_behind rest = option_and_then (λ parts. condition_of parts.1) (cut 59 rest)
+
+-- A breakpoint, and behind a semicolon its conditions, if it has any.
+abbrev pub set_break : Arguments
+set_break rest = or_wrong (option_map (λ slot. request.Break slot (condition_behind rest)) (slot_at (before 59 rest)))
 
 -- An address, a comma, and how many bytes are watched from there on: 1 to 4.
 abbrev pub watch : (List ℕ → Request) → Arguments
@@ -100,8 +118,12 @@ goes =
 abbrev pub with_signal : Goal → Arguments
 with_signal does rest = or_wrong (option_map (λ n. request.Move (command.Forward does)) (number rest))
 
+-- A range of addresses: the first, a comma, and the one behind the last.
+abbrev pub range : Arguments
+range rest = or_wrong (option_map (λ p. request.Range p.0 p.1) (pair 44 rest))
+
 abbrev pub signalled : List (List ℕ × Arguments)
-signalled = (codes "S", with_signal (goal.Steps 1)) ∷ (codes "C", with_signal goal.Continue) ∷ []
+signalled = (codes "S", with_signal (goal.Steps 1)) ∷ (codes "C", with_signal goal.Continue) ∷ (codes "r", range) ∷ []
 
 -- What each thread is to do, one behind another with semicolons between them, and behind a colon the thread. There is one thread, so the
 -- first counts, whatever thread it names.
@@ -127,10 +149,10 @@ words =
 -- Those that set what stops the machine, or take it away. There is one kind of breakpoint.
 abbrev pub stops : List (List ℕ × Arguments)
 stops =
-    (codes "Z0,", breakpoint command.Add)
-    ∷ (codes "z0,", breakpoint command.Remove)
-    ∷ (codes "Z1,", breakpoint command.Add)
-    ∷ (codes "z1,", breakpoint command.Remove)
+    (codes "Z0,", set_break)
+    ∷ (codes "z0,", delete)
+    ∷ (codes "Z1,", set_break)
+    ∷ (codes "z1,", delete)
     ∷ (codes "Z2,", watch request.Watch)
     ∷ (codes "z2,", watch request.Unwatch)
     ∷ []

@@ -8,16 +8,16 @@ use Rattle.bpf_session.specs.declared.fault.RunFault.{RunFault}
 use Rattle.bpf_session.specs.declared.fault.RunFault.TheVariants.{Read, Write}
 use Rattle.bpf_remote.specs.Packets.{IsUnfinished}
 use Rattle.bpf_remote.specs.Streams.{Reads, Fails, IsAll}
-use Rattle.bpf_remote.specs.Connections.{Place, Turn, AreTurns, GoOn, end_of, read_in, told_in}
+use Rattle.bpf_remote.specs.Connections.{Desk, Turn, AreTurns, GoOn, end_of, read_in, told_in}
 use Rattle.bpf_remote.specs.declared.layout.Layout.{Layout}
 use Rattle.bpf_remote.specs.declared.manners.Manners.{Manners}
 
--- At first packets are acknowledged, gdb is not known to understand `swbreak`, nothing has moved, and there is no last answer.
+-- At first packets are acknowledged, gdb is not known to understand `swbreak`, nothing has moved, and there is no last answer and no condition.
 abbrev pub first_manners : Layout → Manners
 first_manners gdb = record { acknowledges = true; swbreak = false; layout = gdb; moves = 0 }
 
-abbrev pub opening : {K : Type 0} → Layout → SessionValue K → Place K
-opening gdb session = record { session = session; manners = first_manners gdb; last = [] }
+abbrev pub opening : {K : Type 0} → Layout → SessionValue K → Desk K
+opening gdb session = record { place = record { session = session; manners = first_manners gdb; last = [] }; conditions = [] }
 
 -- What was known before a connection and after it.
 pub record Ends (K R W : Type 0) : Type 0 where
@@ -43,14 +43,14 @@ module _ {K R W : Type 0} (holds : K → List Kept → Type 0) (refusals room : 
   -- A connection that was served to its end.
   abbrev pub Serves : Ends K R W → Type 0
   Serves x = (ts : List (Turn holds refusals room)) × AreTurns holds refusals room (opening x.gdb x.from) ts
-      × ((end_of holds refusals room (opening x.gdb x.from) ts).session ≡ x.to) × Told x (told_in holds refusals room ts) × Finishes x ts
+      × ((end_of holds refusals room (opening x.gdb x.from) ts).place.session ≡ x.to) × Told x (told_in holds refusals room ts) × Finishes x ts
 
   -- A read failed behind the turns, in mid-item; or a write failed in the last turn, of which a beginning was told.
   abbrev pub Breaks : RunFault → Ends K R W → Type 0
   Breaks Read x = (ts : List (Turn holds refusals room)) × AreTurns holds refusals room (opening x.gdb x.from) ts
-      × ((end_of holds refusals room (opening x.gdb x.from) ts).session ≡ x.to) × Told x (told_in holds refusals room ts) × GoOn holds refusals room ts
+      × ((end_of holds refusals room (opening x.gdb x.from) ts).place.session ≡ x.to) × Told x (told_in holds refusals room ts) × GoOn holds refusals room ts
       × (part : List ℕ) × IsUnfinished part × Fails remaining x.reader x.reader' (read_in holds refusals room ts ++ part)
   Breaks Write x = (t : Turn holds refusals room) × (ts : List (Turn holds refusals room)) × AreTurns holds refusals room (opening x.gdb x.from) (t ∷ ts)
-      × (t.after.session ≡ x.to) × Reads remaining x.reader x.reader' (read_in holds refusals room (t ∷ ts))
+      × (t.after.place.session ≡ x.to) × Reads remaining x.reader x.reader' (read_in holds refusals room (t ∷ ts))
       × (front rest : List ℕ) × (t.told ≡ front ++ rest) × Appends (contents x.writer.inner) (contents x.writer'.inner) (told_in holds refusals room ts ++ front)
       × (x.writer'.failures ≡ one_more x.writer.failures)

@@ -3,6 +3,7 @@ use Rattle.std.specs.Prelude.{◌≡◌, ◌≤◌, ℕ, Bool, true, List, lengt
 use lib.Chars.{codes}
 use Rattle.counted_io.specs.Counted.{Tally}
 use Rattle.counted_io.specs.Writing.{Writes}
+use Rattle.bpf_agent.specs.Conditions.{ConditionList}
 use Rattle.bpf_entries.specs.Keeping.{Kept}
 use Rattle.bpf_session.specs.Sessions.{SessionValue}
 use Rattle.bpf_origin.specs.declared.fault.WhatFault.{WhatFault}
@@ -10,7 +11,7 @@ use Rattle.bpf_origin.specs.declared.what.What.{What}
 use Rattle.bpf_remote.specs.Numbers.{behind}
 use Rattle.bpf_remote.specs.Packets.{Buffer, Holds, longest_body}
 use Rattle.bpf_remote.specs.Requests.{request_of}
-use Rattle.bpf_remote.specs.Connections.{Place, Does, DoesAsked, DoesBody, DoesLine, DoesRequest, DoesWhy}
+use Rattle.bpf_remote.specs.Connections.{Desk, Place, Does, DoesAsked, DoesBody, DoesLine, DoesRequest, DoesWhy}
 use Rattle.bpf_remote.specs.declared.manners.Manners.{Manners}
 use Rattle.bpf_remote.specs.declared.stream.Item.{Item}
 use Rattle.bpf_remote.specs.declared.stream.Item.TheVariants.{Packet, End}
@@ -22,8 +23,18 @@ pub record Sides (K W : Type 0) : Type 0 where
   pub answer : Buffer
   pub writer : Tally W
 
+-- The same of a turn, with the conditions of breakpoints.
+pub record Standings (K W : Type 0) : Type 0 where
+  pub old : Sides K W
+  pub new : Sides K W
+  pub conditions : ConditionList
+  pub conditions' : ConditionList
+
 abbrev pub place : {K W : Type 0} → Sides K W → List ℕ → Place K
 place s last = record { session = s.session; manners = s.manners; last = last }
+
+abbrev pub desk : {K W : Type 0} → Sides K W → List ℕ → ConditionList → Desk K
+desk s last cs = record { place = place s last; conditions = cs }
 
 -- Something was done and told: this is where the connection then is, what was told, and whether it goes on.
 pub record Tells {K W A E : Type 0} (contents : W → Option (List ℕ)) (before after : Sides K W) (result : Result A E)
@@ -47,14 +58,14 @@ module _ {K W : Type 0} (holds : K → List Kept → Type 0) (refusals room : K 
   AnswersLine old new result digits = (before : List ℕ)
       → Tells contents old new result (λ last told on. DoesLine holds refusals room (place old before) (place new last) digits told on) true
 
-  abbrev pub AnswersRequest : {A E : Type 0} → Sides K W → Sides K W → Result A E → Bool → List ℕ → Type 0
-  AnswersRequest old new result on body = (before : List ℕ)
-      → Tells contents old new result (λ last told on. DoesRequest holds refusals room (place old before) (place new last) (request_of body) told on) on
+  abbrev pub AnswersRequest : {A E : Type 0} → Standings K W → Result A E → Bool → List ℕ → Type 0
+  AnswersRequest x result on body = (before : List ℕ)
+      → Tells contents x.old x.new result (λ last told on. DoesRequest holds refusals room (desk x.old before x.conditions) (desk x.new last x.conditions') (request_of body) told on) on
 
-  abbrev pub AnswersBody : {A E : Type 0} → Sides K W → Sides K W → Result A E → Bool → List ℕ → Type 0
-  AnswersBody old new result on body = (before : List ℕ)
-      → Tells contents old new result (λ last told on. DoesBody holds refusals room (place old before) (place new last) body (behind (codes "qRcmd,") body) told on) on
+  abbrev pub AnswersBody : {A E : Type 0} → Standings K W → Result A E → Bool → List ℕ → Type 0
+  AnswersBody x result on body = (before : List ℕ)
+      → Tells contents x.old x.new result (λ last told on. DoesBody holds refusals room (desk x.old before x.conditions) (desk x.new last x.conditions') body (behind (codes "qRcmd,") body) told on) on
 
-  abbrev pub TakesTurn : {A E : Type 0} → Sides K W → Sides K W → Result A E → Bool → Item → Buffer → Type 0
-  TakesTurn old new result on item request = (before body : List ℕ) → Holds old.answer before → (item ≡ Packet → Holds request body × (length body ≤ longest_body)) → (item ≡ End → ⊥)
-      → Tells contents old new result (λ last told on. Does holds refusals room (place old before) (place new last) item body told on) on
+  abbrev pub TakesTurn : {A E : Type 0} → Standings K W → Result A E × Bool → Item → Buffer → Type 0
+  TakesTurn x answered item request = (before body : List ℕ) → Holds x.old.answer before → (item ≡ Packet → Holds request body × (length body ≤ longest_body)) → (item ≡ End → ⊥)
+      → Tells contents x.old x.new answered.0 (λ last told on. Does holds refusals room (desk x.old before x.conditions) (desk x.new last x.conditions') item body told on) answered.1

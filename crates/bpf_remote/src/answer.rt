@@ -1,6 +1,6 @@
 //! Answers: what the bodies of packets tell gdb.
-ghost use Rattle.std.specs.Prelude.{◌≡◌, ◌==◌, ◌≤◌, ◌<◌, ◌+◌, ◌-◌, ◌^◌, ◌++◌, if◌then◌else◌, nat_le, List, drop, true, ℕ};
-ghost use Rattle.bpf_remote.specs.Answers.{answer_of_move, answer_of_set, answer_of_why, byte_at, description_text, error_text, halt_of, halt_of_end, halt_of_status, has_memory, memory_text, moves_text, other_text, part_of, present, register_text, registers_text, stop_text, supported_text, text_of, text_of_halt, value_of, watched_text};
+ghost use Rattle.std.specs.Prelude.{◌≡◌, ◌==◌, ◌≤◌, ◌<◌, ◌+◌, ◌^◌, ◌++◌, List, drop, true, ℕ};
+ghost use Rattle.bpf_remote.specs.Answers.{answer_of_move, answer_of_set, answer_of_why, byte_at, description_text, error_text, halt_of, halt_of_end, halt_of_status, has_memory, memory_text, moves_text, other_text, part_of, present, register_text, registers_text, stop_text, supported_text, text_of, text_of_halt, watched_text};
 ghost use Rattle.bpf_remote.specs.Numbers.{hex_text};
 ghost use Rattle.bpf_remote.specs.Packets.{Holds};
 
@@ -8,7 +8,7 @@ use crate::body::Body;
 use crate::frames::{FRAMES_BASE, frame_byte};
 use crate::layout::{Layout, described, described_again, has_moves};
 use crate::manners::Manners;
-use bpf_isa::Reg;
+use bpf_agent::value_of;
 use bpf_machine::{Cpu, Fault, Status};
 use bpf_session::{Refusal, Reply, Why};
 
@@ -169,7 +169,7 @@ pub(crate) fn append_answer(answer: Answer, cpu: &Cpu, manners: Manners, body: &
             append_description(manners.layout, offset, count, body)
         }
         Answer::Attached => body.append(b"1"),
-        Answer::Actions => body.append(b"vCont;c;C;s;S"),
+        Answer::Actions => body.append(b"vCont;c;C;s;S;r"),
         Answer::Empty => {}
     }
 }
@@ -232,10 +232,10 @@ fn supported_text(layout: Layout) -> &'static str
 {
     match layout {
         Layout::Bpf => {
-            "PacketSize=4000;ReverseStep+;ReverseContinue+;swbreak+;vContSupported+;QStartNoAckMode+"
+            "PacketSize=4000;ReverseStep+;ReverseContinue+;swbreak+;vContSupported+;QStartNoAckMode+;ConditionalBreakpoints+"
         }
         _ => {
-            "PacketSize=4000;ReverseStep+;ReverseContinue+;swbreak+;vContSupported+;QStartNoAckMode+;qXfer:features:read+"
+            "PacketSize=4000;ReverseStep+;ReverseContinue+;swbreak+;vContSupported+;QStartNoAckMode+;ConditionalBreakpoints+;qXfer:features:read+"
         }
     }
 }
@@ -294,25 +294,6 @@ fn append_registers(cpu: &Cpu, layout: Layout, body: &mut Body)
     for n in 0..count {
         body.append_word(value_of(cpu, n));
     }
-}
-
-/// The value of a register by gdb's number, 0 to 22.
-fn value_of(cpu: &Cpu, n: u8) -> u64
-    requires { n ≤ 22 }
-    ensures { result ≡ value_of cpu.now n }
-{
-    match Reg::new(register_of(n)) {
-        Some(register) => cpu.reg(register),
-        None => 8 * u64::from(cpu.pc()),
-    }
-}
-
-/// The register of a number, 11 where it is pc.
-fn register_of(n: u8) -> u8
-    requires { n ≤ 22 }
-    ensures { result ≡ (if nat_le n 11 then n else n - 12) }
-{
-    if n <= 11 { n } else { n - 12 }
 }
 
 /// Writes the value of a register behind a body.

@@ -19,6 +19,7 @@ mod remark;
 mod request;
 mod serving;
 mod stream;
+mod ways;
 mod whynot;
 
 pub use answer::{Answer, Halt, TOO_LONG};

@@ -9,12 +9,10 @@ ghost use Rattle.bpf_remote.specs.Answers.{error_text};
 ghost use Rattle.bpf_remote.specs.Help.{asks_help, help_text};
 ghost use Rattle.bpf_remote.specs.Remarks.{console_text, remark_text};
 ghost use Rattle.bpf_remote.specs.Numbers.{hex_text};
-ghost use Rattle.bpf_remote.specs.Connections.{Answers, Heeds, ObeysCommand, ObeysLine, Tells, goes_on, is_answered, answer_to, line_of, manners_after, runs};
+ghost use Rattle.bpf_remote.specs.Connections.{Answers, Heeds, ObeysCommand, ObeysLine, Sets, Tells, conditions_after, goes_on, is_answered, answer_to, line_of, manners_after};
 ghost use Rattle.bpf_remote.specs.Packets.{Holds, longest_body};
 
-use crate::answer::{
-    Answer, TOO_LONG, answer_of_move, answer_of_set, append_error, halt_of_status,
-};
+use crate::answer::{Answer, TOO_LONG, answer_of_set, append_error, halt_of_status};
 use crate::body::{Body, LONGEST_BODY};
 use crate::help::help;
 use crate::manners::Manners;
@@ -22,10 +20,12 @@ use crate::moves::moves_after;
 use crate::parser::is;
 use crate::remark::{Remark, write_remark};
 use crate::request::Request;
+use crate::ways::go;
 use arrayvec::ArrayVec;
+use bpf_agent::Conditions;
 use bpf_journal::Keeper;
 use bpf_machine::Cpu;
-use bpf_session::{Command, Goal, Refusal, Reply, Session, parse_command};
+use bpf_session::{Command, Count, Goal, Refusal, Reply, Session, Stop, parse_command};
 use bpfdb_replies::put_refusal;
 use counted_io::{Counted, WriteFault, put};
 
@@ -38,22 +38,21 @@ const LONGEST_TEXT: usize = LONGEST_BODY / 2;
 pub(crate) fn obey<K: Keeper>(
     session: &mut Session<K>,
     request: &Request,
+    conditions: &Conditions,
     moves: u64,
 ) -> (Answer, u64)
-    ensures { Answers K.holds K.refused K.room session.old session.new request.now result.0
-        moves result.1 }
+    ensures { Answers K.holds K.refused K.room session.old session.new request.now
+        conditions.now result.0 moves result.1 }
 {
     match request {
-        Request::Move(command) => {
-            let sight = session.sight();
-            let said = session.apply(command);
-            let changed = sight.first_changed(session.cpu());
-            let told = answer_of_move(&said, runs(command), session.cpu().status(), changed);
-            (told, moves_after(&said, command, moves))
+        Request::Move(command) => go(session, request, command, conditions, moves),
+        Request::Range { .. } => {
+            let step = Command::Forward(Goal::Steps(Count::ONE));
+            go(session, request, &step, conditions, moves)
         }
-        Request::Set(command) => {
-            let said = session.apply(command);
-            (answer_of_set(&said), moves_after(&said, command, moves))
+        Request::Set(command) => set(session, command, moves),
+        Request::Break { slot, .. } => {
+            set(session, &Command::Add(Stop::Breakpoint(*slot)), moves)
         }
         Request::Watch(run) => (answer_of_set(&session.watch(run)), moves),
         Request::Unwatch(run) => (answer_of_set(&session.unwatch(run)), moves),
@@ -61,14 +60,13 @@ pub(crate) fn obey<K: Keeper>(
     }
 }
 
-/// Whether a command goes on until something stops the machine.
-fn runs(command: &Command) -> bool
-    ensures { result ≡ runs command.now }
+/// Obeys a command, which is answered by whether it was obeyed.
+fn set<K: Keeper>(session: &mut Session<K>, command: &Command, moves: u64) -> (Answer, u64)
+    ensures { Sets K.holds K.refused K.room session.old session.new command.now result.0
+        moves result.1 }
 {
-    match command {
-        Command::Forward(Goal::Continue) => true,
-        _ => false,
-    }
+    let said = session.apply(command);
+    (answer_of_set(&said), moves_after(&said, command, moves))
 }
 
 /// The answer to a request that asks, and changes nothing.
@@ -114,6 +112,20 @@ pub(crate) fn manners_after(request: &Request, moves: u64, manners: Manners) -> 
             moves,
         },
         _ => with_moves(moves, manners),
+    }
+}
+
+/// Keeps the condition of a breakpoint that was set, and forgets that of one that is taken away.
+pub(crate) fn keep_conditions(request: &Request, told: Answer, conditions: &mut Conditions)
+    ensures { conditions.new ≡ conditions_after request.now told conditions.old }
+{
+    match (request, told) {
+        (Request::Break { slot, condition }, Answer::Done) => match condition {
+            Some(code) => conditions.set(*slot, code.as_slice()),
+            None => conditions.remove(*slot),
+        },
+        (Request::Set(Command::Remove(Stop::Breakpoint(slot))), _) => conditions.remove(*slot),
+        _ => {}
     }
 }
 

@@ -5,7 +5,7 @@ ghost use Rattle.bpf_session.specs.WatchRuns.{run_of};
 ghost use Rattle.bpf_remote.specs.Numbers.{behind, pair};
 ghost use Rattle.std.specs.Str.{bytes_eq};
 ghost use Rattle.bpfdb_commands.specs.Commands.{bytes_of};
-ghost use Rattle.bpf_remote.specs.Requests.{action, actions, begun_request, breakpoint, contains, description, edit_of, memory, question, register, request_of, set_memory, set_register, slot_of, stop_request, supported, watch, with_signal, word_request};
+ghost use Rattle.bpf_remote.specs.Requests.{action, actions, begun_request, condition_behind, condition_of, contains, delete, description, edit_of, memory, question, range, register, request_of, set_break, set_memory, set_register, slot_of, stop_request, supported, watch, with_signal, word_request};
 
 use crate::number::{before, behind, cut, number, pair, word};
 use crate::request::Request;
@@ -246,19 +246,47 @@ fn slot_at(rest: &[u8]) -> Option<u64>
     }
 }
 
-/// Sets a breakpoint.
+/// Sets a breakpoint: its address and kind, and a list of conditions behind a semicolon, if it has
+/// one.
 fn set_break(rest: &[u8]) -> Request
-    ensures { result ≡ breakpoint Command.Add rest.now }
+    ensures { result ≡ set_break rest.now }
 {
-    match slot_at(rest) {
-        Some(slot) => Request::Set(Command::Add(Stop::Breakpoint(slot))),
+    match slot_at(before(b';', rest)) {
+        Some(slot) => Request::Break {
+            slot,
+            condition: condition_behind(rest),
+        },
         None => Request::Wrong,
+    }
+}
+
+/// The bytecode of the condition behind a semicolon, None where there is none that is kept.
+fn condition_behind(rest: &[u8]) -> Option<ByteString>
+    ensures { result ≡ condition_behind rest.now }
+{
+    match cut(b';', rest) {
+        Some((_, list)) => condition_of(list),
+        None => None,
+    }
+}
+
+/// The bytecode of a list of one condition: `X`, how many bytes it has, a comma, and its bytes.
+fn condition_of(list: &[u8]) -> Option<ByteString>
+    ensures { result ≡ condition_of list.now }
+{
+    let rest = behind("X", list)?;
+    let (len, digits) = cut(b',', rest)?;
+    let (len, code) = (number(len)?, bytes_of(digits)?);
+    if code.as_slice().len() as u64 == len {
+        Some(code)
+    } else {
+        None
     }
 }
 
 /// Removes a breakpoint.
 fn delete(rest: &[u8]) -> Request
-    ensures { result ≡ breakpoint Command.Remove rest.now }
+    ensures { result ≡ delete rest.now }
 {
     match slot_at(rest) {
         Some(slot) => Request::Set(Command::Remove(Stop::Breakpoint(slot))),
@@ -304,7 +332,7 @@ fn actions(rest: &[u8]) -> Request
     action(before(b':', before(b';', rest)))
 }
 
-/// What a thread is to do: `s` or `c`, or `S` or `C` with a signal.
+/// What a thread is to do: `s` or `c`, `S` or `C` with a signal, or `r` with a range.
 fn action(text: &[u8]) -> Request
     ensures { result ≡ action text.now }
 {
@@ -316,8 +344,20 @@ fn action(text: &[u8]) -> Request
         with_signal(Goal::Steps(Count::ONE), rest)
     } else if let Some(rest) = behind("C", text) {
         with_signal(Goal::Continue, rest)
+    } else if let Some(rest) = behind("r", text) {
+        range(rest)
     } else {
         Request::Wrong
+    }
+}
+
+/// The first address of a range, a comma, and the address behind its last.
+fn range(rest: &[u8]) -> Request
+    ensures { result ≡ range rest.now }
+{
+    match pair(b',', rest) {
+        Some((from, to)) => Request::Range { from, to },
+        None => Request::Wrong,
     }
 }
 

@@ -34,7 +34,7 @@ pub(crate) fn remark_of(
     ensures { result ≡ remark_of request.now told cpu.now limit dropped }
 {
     match request {
-        Request::Move(_) => remark_of_move(told, cpu, limit, dropped),
+        Request::Move(_) | Request::Range { .. } => remark_of_move(told, cpu, limit, dropped),
         _ => Remark::Nothing,
     }
 }

@@ -16,7 +16,8 @@ use crate::layout::Layout;
 use crate::manners::Manners;
 use crate::number::behind;
 use crate::obeying::{
-    append_remark, goes_on, heed_line, is_answered, manners_after, obey, with_moves,
+    append_remark, goes_on, heed_line, is_answered, keep_conditions, manners_after, obey,
+    with_moves,
 };
 use crate::origin::{asked_in, show_origin};
 use crate::packet::put_packet;
@@ -24,6 +25,7 @@ use crate::parser::request_of;
 use crate::remark::{Remark, remark_of};
 use crate::stream::{Item, next_item};
 use crate::whynot::{aim_in, show_why};
+use bpf_agent::Conditions;
 use bpf_journal::Keeper;
 use bpf_machine::Cpu;
 use bpf_origin::{Wanted, What, WhatFault};
@@ -72,6 +74,7 @@ pub fn serve<K: Keeper, R: Read, W: Write>(
         layout: gdb,
         moves: 0,
     };
+    let mut conditions = Conditions::new();
     let mut request = Body::new();
     let mut answer = Body::new();
     'items: loop {
@@ -87,6 +90,7 @@ pub fn serve<K: Keeper, R: Read, W: Write>(
             session,
             wanted,
             &mut manners,
+            &mut conditions,
             item,
             &request,
             &mut answer,
@@ -107,6 +111,7 @@ fn take_turn<K: Keeper, W: Write>(
     session: &mut Session<K>,
     wanted: &mut Wanted,
     manners: &mut Manners,
+    conditions: &mut Conditions,
     item: Item,
     request: &Body,
     answer: &mut Body,
@@ -115,20 +120,24 @@ fn take_turn<K: Keeper, W: Write>(
     ensures { (on : Bool) × IfOk result (λ more. more ≡ on)
         × TakesTurn K.holds K.refused K.room W.contents
         (record {
-          session = session.old;
-          manners = manners.old;
-          answer = answer.old;
-          writer = writer.old;
-        })
-        (record {
-          session = session.new;
-          manners = manners.new;
-          answer = answer.new;
-          writer = writer.new;
-        }) result on item request.now }
+          old = record {
+            session = session.old;
+            manners = manners.old;
+            answer = answer.old;
+            writer = writer.old;
+          };
+          new = record {
+            session = session.new;
+            manners = manners.new;
+            answer = answer.new;
+            writer = writer.new;
+          };
+          conditions = conditions.old;
+          conditions' = conditions.new;
+        }) (result, on) item request.now }
 {
     let (told, on) = answer_item(
-        alloc, session, wanted, manners, item, request, answer, writer,
+        alloc, session, wanted, manners, conditions, item, request, answer, writer,
     );
     flush(writer, told, on)
 }
@@ -160,6 +169,7 @@ fn answer_item<K: Keeper, W: Write>(
     session: &mut Session<K>,
     wanted: &mut Wanted,
     manners: &mut Manners,
+    conditions: &mut Conditions,
     item: Item,
     request: &Body,
     answer: &mut Body,
@@ -167,21 +177,27 @@ fn answer_item<K: Keeper, W: Write>(
 ) -> (Result<(), WriteFault>, bool)
     ensures { TakesTurn K.holds K.refused K.room W.contents
         (record {
-          session = session.old;
-          manners = manners.old;
-          answer = answer.old;
-          writer = writer.old;
-        })
-        (record {
-          session = session.new;
-          manners = manners.new;
-          answer = answer.new;
-          writer = writer.new;
-        }) result.0 result.1 item request.now }
+          old = record {
+            session = session.old;
+            manners = manners.old;
+            answer = answer.old;
+            writer = writer.old;
+          };
+          new = record {
+            session = session.new;
+            manners = manners.new;
+            answer = answer.new;
+            writer = writer.new;
+          };
+          conditions = conditions.old;
+          conditions' = conditions.new;
+        }) result item request.now }
 {
     match item {
         Item::Packet => match request.bytes() {
-            Some(body) => answer_body(alloc, session, wanted, manners, body, answer, writer),
+            Some(body) => answer_body(
+                alloc, session, wanted, manners, conditions, body, answer, writer,
+            ),
             None => (Ok(()), true),
         },
         Item::Damaged => (write_text(writer, b"-"), true),
@@ -196,6 +212,7 @@ fn answer_body<K: Keeper, W: Write>(
     session: &mut Session<K>,
     wanted: &mut Wanted,
     manners: &mut Manners,
+    conditions: &mut Conditions,
     body: &[u8],
     answer: &mut Body,
     writer: &mut Counted<W>,
@@ -203,24 +220,31 @@ fn answer_body<K: Keeper, W: Write>(
     requires { length body.now ≤ longest_body }
     ensures { AnswersBody K.holds K.refused K.room W.contents
         (record {
-          session = session.old;
-          manners = manners.old;
-          answer = answer.old;
-          writer = writer.old;
-        })
-        (record {
-          session = session.new;
-          manners = manners.new;
-          answer = answer.new;
-          writer = writer.new;
+          old = record {
+            session = session.old;
+            manners = manners.old;
+            answer = answer.old;
+            writer = writer.old;
+          };
+          new = record {
+            session = session.new;
+            manners = manners.new;
+            answer = answer.new;
+            writer = writer.new;
+          };
+          conditions = conditions.old;
+          conditions' = conditions.new;
         }) result.0 result.1 body.now }
 {
     match behind("qRcmd,", body) {
-        Some(digits) => (
-            answer_line(alloc, session, wanted, manners, digits, answer, writer),
-            true,
-        ),
-        None => answer_request(session, manners, body, answer, writer),
+        Some(digits) => {
+            conditions.clear();
+            (
+                answer_line(alloc, session, wanted, manners, digits, answer, writer),
+                true,
+            )
+        }
+        None => answer_request(session, manners, conditions, body, answer, writer),
     }
 }
 
@@ -385,27 +409,33 @@ fn answer_script<K: Keeper, W: Write>(
 fn answer_request<K: Keeper, W: Write>(
     session: &mut Session<K>,
     manners: &mut Manners,
+    conditions: &mut Conditions,
     body: &[u8],
     answer: &mut Body,
     writer: &mut Counted<W>,
 ) -> (Result<(), WriteFault>, bool)
     ensures { AnswersRequest K.holds K.refused K.room W.contents
         (record {
-          session = session.old;
-          manners = manners.old;
-          answer = answer.old;
-          writer = writer.old;
-        })
-        (record {
-          session = session.new;
-          manners = manners.new;
-          answer = answer.new;
-          writer = writer.new;
+          old = record {
+            session = session.old;
+            manners = manners.old;
+            answer = answer.old;
+            writer = writer.old;
+          };
+          new = record {
+            session = session.new;
+            manners = manners.new;
+            answer = answer.new;
+            writer = writer.new;
+          };
+          conditions = conditions.old;
+          conditions' = conditions.new;
         }) result.0 result.1 body.now }
 {
     let begun = acknowledge(*manners, writer);
     let request = request_of(body);
-    let (told, moves) = obey(session, &request, manners.moves);
+    let (told, moves) = obey(session, &request, conditions, manners.moves);
+    keep_conditions(&request, told, conditions);
     let dropped = moves.saturating_sub(session.kept() as u64);
     let remark = remark_of(&request, told, session.cpu(), session.limit(), dropped);
     let remarked = put_console(writer, begun, remark, session.cpu(), answer);

@@ -78,6 +78,31 @@ def readme():
 
 
 @story
+def firewall():
+    """README's second session: the packet to port 23 that passes, where its port is read, a word further on, and back."""
+    editor, _ = started('firewall.o', section='xdp', entry='bpfdb', context='packet.bin')
+    source = {'path': os.path.join(HERE, 'firewall.c')}
+    hold(editor.ask('setBreakpoints', source=source, breakpoints=[{'line': 54}])['breakpoints'][0]['verified'], True, 'the breakpoint')
+    hold(editor.go('continue')[::2], ('breakpoint', 54), 'where the port is read')
+    hold(editor.hand('info regs').split('\n')[1], 'at 44: ldxh r1, [r1+22]', 'its place')
+    before = editor.state()
+    header = editor.number('r1')
+    editor.ask('setVariable', variablesReference=editor.scope('Registers'), name='r1', value=hex(header + 4))
+    hold(editor.go('continue')[0], 'exited', 'the end')
+    hold(editor.body['description'], 'exited at 12: r0 0x1', 'XDP_DROP')
+    hold(editor.hand('undo'), '19 back; done; at 44: ldxh r1, [r1+22]', 'back to where the port is read')
+    editor.stop()
+    hold(editor.hand('undo').split(';')[0], '1 back', 'the edit is taken back')
+    editor.stop()
+    hold(editor.state(), before, 'the state before it')
+    hold(editor.go('continue')[0], 'exited', 'the end without it')
+    hold(editor.body['description'], 'exited at 12: r0 0x2', 'XDP_PASS')
+    hold(editor.go('reverseContinue')[::2], ('breakpoint', 54), 'back to the breakpoint')
+    hold(editor.state(), before, 'the same state')
+    left(editor)
+
+
+@story
 def there_and_back():
     """Each line forwards, and back again: each step back leads to the state before the step, to the first; and the moves are the same."""
     editor, _ = started()
@@ -322,6 +347,23 @@ def pause():
     editor.answer(editor.send('continue', {'threadId': 1}))
     hold(editor.ask('setBreakpoints', source={'path': os.path.join(HERE, 'endless.s')}, breakpoints=[{'line': 2}])['breakpoints'][0]['verified'], True, 'a breakpoint')
     hold(editor.stop()[::2], ('breakpoint', 2), 'which is met')
+    left(editor)
+    # Behind a pause all is there: one undo leads to where the program stood before, which redo makes again.
+    editor, _ = started('endless.s', journal=16777216)
+    before = editor.state()
+    editor.answer(editor.send('continue', {'threadId': 1}))
+    time.sleep(0.001)
+    editor.ask('pause', threadId=1)
+    hold(editor.stop()[0], 'pause', 'another pause')
+    paused = editor.state()
+    moves = int(editor.hand('info history').split()[0])
+    if editor.number('r0') < 400000:
+        hold(editor.hand('undo').split(';')[0], f'{moves} back', 'what ran until the pause')
+        editor.stop()
+        hold(editor.state(), before, 'the state before it')
+        hold(editor.hand('redo').split(';')[0], f'{moves} redone', 'and again')
+        editor.stop()
+        hold(editor.state(), paused, 'the state at the pause')
     left(editor)
     # One continue, many pieces of bpfdb's, which are taken back at once. (A move of the loop takes 7 bytes or 16.)
     editor, _ = started('loop.s', journal=16777216)

@@ -19,8 +19,8 @@ returns g c = λ before.
     (record { session = c.obey-told.new.session; manners = c.manners_after.result; answer = c.append_answer.new.body; writer = c.put_answer-wrote.new.writer })
     c.put_answer-wrote.result
     (λ last told on. DoesRequest g.K.Keeper.holds g.K.Keeper.refused g.K.Keeper.room
-    (record { session = c.args.session.now; manners = c.args.manners.now; last = before })
-    (record { session = c.obey-told.new.session; manners = c.manners_after.result; last = last }) r told on)
+    (record { place = record { session = c.args.session.now; manners = c.args.manners.now; last = before }; conditions = c.args.conditions.now })
+    (record { place = record { session = c.obey-told.new.session; manners = c.manners_after.result; last = last }; conditions = c.keep_conditions.new.conditions }) r told on)
     c.goes_on.result)
     c.request_of-request.ensures
     (record {
@@ -28,7 +28,7 @@ returns g c = λ before.
       told = acknowledgement c.args.manners.now ++ console.0 ++ packet c.is_answered.result text;
       done = (
         told,
-        moves,
+        (moves,
         c.obey-told.ensures,
         c.manners_after.ensures,
         ap (λ (x : State). text_of c.manners_after.result x told) c.cpu-3.ensures,
@@ -37,7 +37,8 @@ returns g c = λ before.
         console.0,
         subst (λ (x : State). IsConsole (is_told c.remark_of-remark.result) (remark_text c.remark_of-remark.result x) console.0) c.cpu-2.ensures console.1,
         ap (λ (b : Bool). acknowledgement c.args.manners.now ++ console.0 ++ packet b text) c.is_answered.ensures,
-        c.goes_on.ensures,
+        c.goes_on.ensures),
+        c.keep_conditions.ensures,
       );
       held = c.append_answer.ensures [] c.clear.ensures;
       written = c.put_answer-wrote.ensures text (c.append_answer.ensures [] c.clear.ensures) _ _ (console.2 _ _ c.acknowledge-begun.ensures);
