@@ -1,5 +1,5 @@
 -- The rounds of a way.
-use Rattle.std.proofs.Common.{◌≡◌, ◌<◌, ◌≤◌, ◌+◌, inl, inr, ℕ, Bool, true, false, List, [], ◌∷◌, Option, None, Result, refl, sym, ap, subst, ◌∙◌}
+use Rattle.std.proofs.Common.{◌≡◌, ◌<◌, ◌≤◌, ◌+◌, inl, inr, ℕ, Bool, true, false, List, [], ◌∷◌, Option, Result, refl, sym, ap, subst, ◌∙◌}
 use Rattle.std.specs.Prelude.{max, is_none, ◌&&◌}
 use Rattle.bpf_entries.specs.Keeping.{Kept}
 use Rattle.bpf_entries.specs.declared.status.Status.{Status}

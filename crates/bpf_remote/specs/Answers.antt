@@ -1,5 +1,5 @@
 -- What the bodies of answers tell.
-use Rattle.std.specs.Prelude.{ℕ, zero, suc, ◌+◌, ◌-◌, ◌*◌, ◌^◌, ◌∷◌, slice_index, take, drop, ◌==◌, ◌&&◌, is_some, option_map, min, if◌then◌else◌, nat_lt, nat_le, Bool, List, [], ◌++◌, Some, None, Result, Ok, Err, length, Option}
+use Rattle.std.specs.Prelude.{ℕ, zero, suc, ◌+◌, ◌-◌, ◌^◌, ◌∷◌, slice_index, take, drop, ◌==◌, ◌&&◌, is_some, option_map, min, if◌then◌else◌, nat_lt, nat_le, Bool, List, [], ◌++◌, Some, None, Result, Ok, Err, length, Option}
 use lib.Chars.{codes}
 use Rattle.bpf_entries.specs.declared.status.Fault.TheVariants.{Access}
 use Rattle.bpf_entries.specs.declared.status.Status.{Status}

@@ -1,5 +1,5 @@
 -- The ways that gdb lets the machine go: a command of the session, given again behind what gdb doesn't want to hear of.
-use Rattle.std.specs.Prelude.{◌≡◌, ℕ, ◌+◌, ◌*◌, ◌<◌, ◌≤◌, ◌==◌, ◌&&◌, ◌||◌, ◌⊎◌, nat_le, nat_lt, max, is_none, Bool, true, false, List, [], ◌∷◌, Option, Result, Ok, Err}
+use Rattle.std.specs.Prelude.{◌≡◌, ℕ, ◌+◌, ◌*◌, ◌<◌, ◌≤◌, ◌==◌, ◌&&◌, ◌||◌, ◌⊎◌, nat_le, nat_lt, max, is_none, Bool, true, false, List, [], ◌∷◌, Option, Result, Ok}
 use Rattle.bpf_agent.specs.Conditions.{ConditionList, is_false}
 use Rattle.bpf_entries.specs.Keeping.{Kept}
 use Rattle.bpf_steps.specs.State.{State, depth}

@@ -28,16 +28,18 @@ returns g c = λ before.
       told = acknowledgement c.args.manners.now ++ console.0 ++ packet c.is_answered.result text;
       done = (
         told,
-        (moves,
-        c.obey-told.ensures,
-        c.manners_after.ensures,
-        ap (λ (x : State). text_of c.manners_after.result x told) c.cpu-3.ensures,
-        c.remark_of-remark.result,
-        (λ t past. remarked _ _ _ _ _ _ _ _ _ _ _ c.remark_of-remark.ensures c.cpu.ensures c.limit.ensures c.saturating_sub-dropped.ensures (c.kept.ensures t past)),
-        console.0,
-        subst (λ (x : State). IsConsole (is_told c.remark_of-remark.result) (remark_text c.remark_of-remark.result x) console.0) c.cpu-2.ensures console.1,
-        ap (λ (b : Bool). acknowledgement c.args.manners.now ++ console.0 ++ packet b text) c.is_answered.ensures,
-        c.goes_on.ensures),
+        (
+          moves,
+          c.obey-told.ensures,
+          c.manners_after.ensures,
+          ap (λ (x : State). text_of c.manners_after.result x told) c.cpu-3.ensures,
+          c.remark_of-remark.result,
+          (λ t past. remarked _ _ _ _ _ _ _ _ _ _ _ c.remark_of-remark.ensures c.cpu.ensures c.limit.ensures c.saturating_sub-dropped.ensures (c.kept.ensures t past)),
+          console.0,
+          subst (λ (x : State). IsConsole (is_told c.remark_of-remark.result) (remark_text c.remark_of-remark.result x) console.0) c.cpu-2.ensures console.1,
+          ap (λ (b : Bool). acknowledgement c.args.manners.now ++ console.0 ++ packet b text) c.is_answered.ensures,
+          c.goes_on.ensures,
+        ),
         c.keep_conditions.ensures,
       );
       held = c.append_answer.ensures [] c.clear.ensures;

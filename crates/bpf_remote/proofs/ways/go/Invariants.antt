@@ -1,4 +1,4 @@
-use Rattle.std.proofs.Common.{◌≡◌, ◌-◌}
+use Rattle.std.proofs.Common.{◌-◌}
 use Rattle.bpf_steps.specs.State.{depth}
 use Rattle.bpf_remote.specs.Ways.{wants_again}
 use Rattle.bpf_remote.proofs.Rounds.{Gone}
