@@ -1,5 +1,5 @@
 # --object: what a subcommand does of an object in one step is what it does of the words to which `link` links it, with the maps that `link` tells. (The objects
-# stand in crates/bpf_link_tests; the part `objects` holds refusals of `run --object` against those of `link`.)
+# stand in tests/program/objects; the part `objects` holds refusals of `run --object` against those of `link`.)
 
 for name in calls maps arrays typed text two data point programs; do
     object $name

@@ -132,14 +132,9 @@ listing() {
     printf '%b\n' "$2" | tr ';' '\n' > "$1"
 }
 
-# object NAME: the object NAME of that crate, in the file NAME.o.
+# object NAME: the object of tests/program/objects/NAME.txt, in the file NAME.o.
 object() {
-    constant=$(printf '%s' "$1" | tr a-z A-Z)
-    bytes "$1.o" $(awk -v constant="$constant" '
-        index($0, "pub const " constant ":") { inside = 1; next }
-        inside && /^"/ { exit }
-        inside { gsub(/[^0-9a-f]/, ""); gsub(/../, "& "); print }
-    ' "$top/crates/bpf_link_tests/src/objects.rt")
+    bytes "$1.o" $(sed '/^#/d; s/../& /g' "$parts/objects/$1.txt")
 }
 
 # told_maps: the option for the maps in what `link` told.

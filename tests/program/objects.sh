@@ -1,7 +1,137 @@
-# link: objects that clang made, the words that come of them, and what is refused. The objects stand in crates/bpf_link_tests.
+# link: objects that clang 14 made, the words that come of them, and what is refused. The objects stand in tests/program/objects, in hexadecimal
+# digits, each behind the C that it was made of by `clang -O2 -target bpf -fno-addrsig -fno-asynchronous-unwind-tables -c`.
 
 for name in calls maps arrays typed text two extern data point programs; do
     object $name
+done
+
+# changed NAME EDIT..: the object, in the file changed.o, with these edits, each PLACE=DIGITS.
+changed() {
+    cp "$1.o" changed.o
+    shift
+    for edit in "$@"; do
+        place=${edit%%=*} digits=${edit#*=} octal=''
+        while [ -n "$digits" ]; do
+            octal=$octal$(printf '\\0%o' "0x${digits%"${digits#??}"}") digits=${digits#??}
+        done
+        digits=${edit#*=}
+        { head -c "$place" changed.o; printf '%b' "$octal"; tail -c +$((place + ${#digits} / 2 + 1)) changed.o; } > changed
+        mv changed changed.o
+    done
+}
+
+# text_of FAULT: what is printed of it behind its number; that of E25 is the fault of the program.
+text_of() {
+    sed -n "s/^$1 //p" <<'FAULTS'
+E1 no ELF file
+E2 not of 64 bits
+E3 not little-endian
+E4 no relocatable object
+E5 not for BPF
+E6 malformed section table
+E8 no such code section
+E9 more than one code section
+E10 malformed code section
+E12 code section runs off its end
+E13 malformed symbol table
+E14 more than one section of maps
+E16 malformed relocation table
+E17 relocation at no slot, or out of order
+E18 relocation against no symbol
+E19 symbol is not defined in the object
+E20 unknown relocation
+E21 call of no function of the program
+E22 relocation of a call at no call
+E23 reference to data that is no map
+E24 relocation of a map at no empty wide load
+E27 data longer than 65536 bytes
+E28 malformed data section
+E29 address in data of what is no data
+E30 more than one program in the code section
+E31 no such function in the code section
+E50 map is a hash, and no array
+FAULTS
+}
+
+# has_fault FAULT: the last run wrote but one line, which tells this fault.
+has_fault() {
+    more=''
+    { read -r line; read -r more; } < found/err
+    [ "$(cat found/status)" = 2 ] && [ -z "$more" ] && ! [ -s found/out ] || return 1
+    case $line in
+        "refused $1: $(text_of "$1")"* | "refused $1 at slot "[0-9]*": $(text_of "$1")"*) ;;
+        *) return 1 ;;
+    esac
+}
+
+# has_words MAPS STUB WORD..: the last run wrote these words, and told the shapes of the maps, if it knows these, and where there is a stub how many calls it
+# answers. (How many maps the object has of its own is as many as shapes, but where the shapes are those of data.)
+has_words() {
+    shapes=${1%%+*} answered=0
+    case $1 in *+*) answered=${1#*+} ;; esac
+    {
+        case $shapes in *:*) echo "--maps ${shapes#*:}" ;; esac
+        [ -z "$2" ] || echo "calls answered by --stub: $answered"
+    } > wanted/told
+    case $shapes in
+        0:*) ;;
+        *:*) [ "$(echo "${shapes#*:}" | tr , '\n' | wc -l)" -eq "${shapes%%:*}" ] || return 1 ;;
+    esac
+    shift 2
+    grep -v '^map [0-9]*: ' found/err > found/told
+    [ "$(cat found/status)" = 0 ] && cmp -s wanted/told found/told && [ "$(od -An -v -tx1 found/out | tr -d ' \n')" = "$(printf '%s' "$@")" ]
+}
+
+# The table of links. (A row's words are without blanks, quotes and patterns.)
+while IFS='|' read -r name asked answer; do
+    case $name in '#'*) continue ;; esac
+    set -- $asked
+    asked=$1 section=${1%%:*} entry='' stub=''
+    shift
+    changed $name "$@"
+    case $asked in *:*) entry=${asked#*:} ;; esac
+    case $entry in *:*) stub=${entry#*:} entry=${entry%%:*} ;; esac
+    set --
+    [ "$section" = - ] || set -- "$@" --section "$section"
+    [ -z "$entry" ] || set -- "$@" --entry "$entry"
+    [ -z "$stub" ] || set -- "$@" --stub "$stub"
+    : > script
+    run link "$@" changed.o
+    count=$((count + 1))
+    set -- $answer
+    case $1 in
+        E*) has_fault "$1" ;;
+        *) maps=$1; shift; has_words "$maps" "$stub" "$@" ;;
+    esac || { complain "link of $name| $asked |$answer"; cat found/err; }
+done < "$parts/tables/links.txt"
+
+# Each shorter beginning of an object is refused: its table of sections lies at the end. Of the objects that differ from it in a byte some are linked, and the others
+# refused in a line. (The bytes are five characters each, as printf's %b reads them.)
+for name in calls maps arrays; do
+    before='' linked=0 cut=0 flipped=0
+    behind=$(od -An -v -to1 $name.o | tr -d '\n' | sed 's/ /\\0/g')
+    while [ -n "$behind" ]; do
+        byte=${behind%"${behind#?????}"} behind=${behind#?????}
+        printf '%b' "$before" > changed.o
+        "$program" link changed.o > found/out 2> found/err
+        status=$? line='' more=''
+        { read -r line; read -r more; } < found/err
+        wanted='refused E6: malformed section table'
+        [ "$cut" -ge 64 ] || wanted='refused E1: no ELF file'
+        cut=$((cut + 1)) count=$((count + 2))
+        [ "$status:$line:$more" = "2:$wanted:" ] && ! [ -s found/out ] || complain "link of the first $((cut - 1)) bytes of $name.o: $line"
+        printf '%b' "$before\\0$(printf '%03o' $((0377 - ${byte#?})))$behind" > changed.o
+        "$program" link changed.o > found/out 2> found/err
+        status=$? line='' more=''
+        { read -r line; read -r more; } < found/err
+        case $status:$line:$more in
+            0:*) linked=$((linked + 1)) ;;
+            2:'refused E'*:) flipped=$((flipped + 1)) ;;
+            *) complain "link of $name.o, where byte $((cut - 1)) is another: $line" ;;
+        esac
+        before=$before$byte
+    done
+    [ "$linked" -gt 0 ] && [ "$flipped" -gt 0 ] && [ $((linked + flipped)) -eq "$cut" ] || complain "objects that differ from $name.o in a byte"
 done
 
 # unlinked LINE ARGUMENT..: an object that `link` refuses by this line; so does `run --object`.

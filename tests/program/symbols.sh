@@ -1,4 +1,4 @@
-# bpfdb-symbols: which objects it takes, and which it refuses by name. The objects stand in crates/bpf_link_tests and examples/overrun.
+# bpfdb-symbols: which objects it takes, and which it refuses by name. The objects stand in tests/program/objects and examples/overrun.
 # What gdb makes of its files is for `gdb`. Large and damaged objects are those of tests/trials/objects.py.
 
 # convert ARGUMENT..: runs bpfdb-symbols. What is found: its status, output and standard error.
