@@ -1,4 +1,5 @@
-# What listings are assembled to, and how programs are listed, row by row: tables/listings.txt, long-listings.txt and canonical.txt.
+# What listings are assembled to, and how programs are listed, row by row: tables/listings.txt, long-listings.txt, bytes.txt and canonical.txt; and the texts of the table
+# of instructions (crates/bpf_testing), each to its word.
 tables=$parts/tables
 
 # table NAME COUNT: the rows of a table, of which there are so many, into the file `rows`: what stands before the arrow, and behind it in `wanted/rows`.
@@ -66,6 +67,37 @@ while IFS='~' read -r first lines last; do
     answer p | sed 's/^\([0-9a-f]\{16\}\).*\([0-9a-f]\{16\}\)$/\1..\2/'
 done < inputs > found/rows
 judge
+
+# Each mnemonic in each form: the text of an instruction in slot 0, which a label names, and its word; what follows is `exit`.
+sed -n 's/^\([^/|]*\) | \([0-9a-f]*\) | .*/\1 => \29500000000000000/p' "$top/crates/bpf_testing/src/instructions.rt" > rows
+sed 's/^.* => //' rows > wanted/rows
+sed 's/ => [^>]*$//' rows > inputs
+[ "$(wc -l < rows)" -eq 174 ] || complain 'instructions: not 174 rows'
+while IFS= read -r instruction; do
+    printf 'L0: %s\nexit' "$instruction" > p
+    answer p
+done < inputs > found/rows
+judge
+
+# Each of the 256 bytes at the places where its class matters.
+bytes_known=0
+while read -r from to fault listing; do
+    [ "$from" != '#' ] || continue
+    byte=$from
+    while [ "$byte" -le "$to" ]; do
+        printf '%b' "${listing%%\?*}\\0$(printf '%o' "$byte")${listing#*\?}" > p
+        "$program" asm p > found/out 2> found/err
+        status=$? line=''
+        read -r line < found/err
+        case $fault:$status:$line in
+            0:0: | [1-8]:2:"refused A$fault at line "[12]': '*) ;;
+            *) complain "$listing with the byte $byte: $line" ;;
+        esac
+        byte=$((byte + 1)) bytes_known=$((bytes_known + 1))
+    done
+done < "$tables/bytes.txt"
+count=$((count + bytes_known))
+[ "$bytes_known" -eq $((7 * 256)) ] || complain 'not each of the 256 bytes at each place'
 
 table canonical 3
 while IFS= read -r listing; do

@@ -1,7 +1,7 @@
 # link: objects that clang 14 made, the words that come of them, and what is refused. The objects stand in tests/program/objects, in hexadecimal
 # digits, each behind the C that it was made of by `clang -O2 -target bpf -fno-addrsig -fno-asynchronous-unwind-tables -c`.
 
-for name in calls maps arrays typed text two extern data point programs; do
+for name in calls maps arrays typed text two extern data point programs shapes fields; do
     object $name
 done
 
@@ -133,6 +133,72 @@ for name in calls maps arrays; do
     done
     [ "$linked" -gt 0 ] && [ "$flipped" -gt 0 ] && [ $((linked + flipped)) -eq "$cut" ] || complain "objects that differ from $name.o in a byte"
 done
+
+# The tables of BTF. The name of the map that shapes.o loads is at 1621, its section .BTF at 184, of 1,310 bytes; the name of the section of code of fields.o at
+# 985, its section .BTF.ext at 624. Each name has 8 bytes.
+
+# edited NAME PLACE TEXT START EDIT..: the object with the text for the name at that place, and these edits of the section that starts there, - for none.
+edited() {
+    edited=$1 named=$2 text=$(printf '%s' "$3" | od -An -v -tx1 | tr -d ' \n')0000000000000000 start=$4
+    shift 4
+    text=${text%"${text#????????????????}"}
+    for edit in "$@"; do
+        shift
+        [ "$edit" = - ] || set -- "$@" "$((${edit%%=*} + start))=${edit#*=}"
+    done
+    changed "$edited" "$named=$text" "$@"
+    : > script
+    run link changed.o
+    count=$((count + 1))
+    more=''
+    { read -r line; read -r more; } < found/err
+}
+while IFS='|' read -r name edits answer; do
+    case $name in '#'*) continue ;; esac
+    name=${name% } answer=${answer# }
+    edited shapes 1621 "$name" 184 $edits
+    case $(cat found/status):$line:$more in
+        "0:--maps $answer:map 0: $name") ;;
+        2:"refused ${answer%% *}: ${answer#* }": | 2:"refused ${answer%% *}: ${answer#* }: "*:) [ ! -s found/out ] ;;
+        *) false ;;
+    esac || { complain "a map of BTF: $name |$edits| $answer"; cat found/err; }
+done < "$parts/tables/map-types.txt"
+while IFS='|' read -r name edits answer; do
+    case $name in '#'*) continue ;; esac
+    name=${name% } answer=${answer# }
+    edited fields 985 "$name" 624 $edits
+    case $answer in
+        0@0) wanted=0:: ;;
+        E*) wanted="2:refused ${answer%% *}: ${answer#* }:" ;;
+        *) wanted="2:refused E36 at slot $((${answer#*@} / 8)): relocations of fields, ${answer%@*} in all: --as-compiled leaves them undone: $name:" ;;
+    esac
+    [ "$(cat found/status):$line:$more" = "$wanted" ] || { complain "relocations of fields: $name |$edits| $answer"; cat found/err; }
+done < "$parts/tables/field-relocations.txt"
+
+# Each shorter beginning of that section is refused: below 24 bytes it is none, and then its strings, which lie at the end, are cut off. (Its size is at 1872.) Of the
+# sections that differ from it in a byte some give the map a shape.
+before=$(od -An -v -to1 -N 184 shapes.o | tr -d '\n' | sed 's/ /\\0/g')
+behind=$(od -An -v -to1 -j 184 shapes.o | tr -d '\n' | sed 's/ /\\0/g')
+size=0 shaped=0
+while [ "$size" -lt 1310 ]; do
+    { head -c 1872 shapes.o; printf '%b' "\\0$(printf '%o' $((size % 256)))\\0$(printf '%o' $((size / 256)))"; tail -c +1875 shapes.o; } > changed.o
+    "$program" link changed.o > found/out 2> found/err
+    status=$? line='' more=''
+    { read -r line; read -r more; } < found/err
+    wanted='refused E42: malformed header of BTF'
+    [ "$size" -ge 24 ] || wanted='refused E40: no BTF in the section .BTF'
+    [ "$status:$line:$more" = "2:$wanted:" ] && ! [ -s found/out ] || complain "link where .BTF has $size bytes: $line"
+    byte=${behind%"${behind#?????}"} behind=${behind#?????}
+    printf '%b' "$before\\0$(printf '%03o' $((0377 - ${byte#?})))$behind" > changed.o
+    "$program" link changed.o > found/out 2> found/err
+    case $?:$(head -n 1 found/err) in
+        0:--maps*) shaped=$((shaped + 1)) ;;
+        2:'refused E'*) ;;
+        *) complain "link where byte $size of .BTF is another" ;;
+    esac
+    before=$before$byte size=$((size + 1)) count=$((count + 2))
+done
+[ "$shaped" -gt 0 ] && [ "$shaped" -lt 1310 ] || complain "sections of BTF that differ in a byte: $shaped give a shape"
 
 # unlinked LINE ARGUMENT..: an object that `link` refuses by this line; so does `run --object`.
 unlinked() {

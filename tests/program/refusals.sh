@@ -37,6 +37,30 @@ for maps in 256x256 1x4096 16x4096 008x0002 $sixteen; do
     result 'ok 2 instructions in 2 slots\n' check --maps $maps program
 done
 
+# The table of lists: the maps, or the fault. Of a map that there is the last cell can be set, and neither the one behind it nor one of another length.
+while IFS='|' read -r list answer; do
+    case $list in '#'*) continue ;; esac
+    list=${list% } answer=${answer# }
+    case $answer in
+        M1) refused "$m1" check --maps="$list" program ;;
+        M2) refused "$m2" check --maps="$list" program ;;
+        M3) refused "$m3" check --maps="$list" program ;;
+        M4) refused "$m4" check --maps="$list" program ;;
+        M5) refused "$m5" check --maps="$list" program ;;
+        *)
+            script='' replies='' map=0 none='refused Q14: no such cell or wrong length\n'
+            for shape in $answer; do
+                cell=$(printf "%0$((2 * ${shape%x*}))d" 0) entries=${shape#*x} other=00
+                [ "${shape%x*}" -eq 1 ] || other=${cell#00}
+                [ "$other" != 00 ] || other=0000
+                script="${script}set cell $map $((entries - 1)) $cell\nset cell $map $entries $cell\nset cell $map 0 $other\n" replies="${replies}ok\n$none$none"
+                map=$((map + 1))
+            done
+            session "maps of $list" "${script}set cell $map 0 00\n" "$replies$none" debug --maps "$list" program
+            ;;
+    esac
+done < "$parts/tables/map-lists.txt"
+
 # C: programs. Each line has the answer, and the bytes.
 while IFS='|' read -r answer hex; do
     bytes refused $hex

@@ -1,11 +1,9 @@
-//! Tests of the instruction set, of BTF, of listings and of the machine: what only their libraries
-//! can be asked.
+//! Tests of the instruction set, of listings and of the machine: what only their libraries can be
+//! asked.
 //!
 //! They stand in one crate, since what each of them stops at is proved once then.
 #![tactic(auto)]
 
-#[cfg(test)]
-mod btf;
 #[cfg(test)]
 mod isa;
 #[cfg(test)]

@@ -1,6 +1,5 @@
 //! Tests of listings: the assembler, the disassembler, and counted readers and writers.
 mod answers;
-mod bytes;
 mod faults;
 mod listings;
 mod passing;

@@ -1,77 +1,8 @@
-//! Lists of maps, and tables that maps are added to. Expected values are worked out from the
-//! definitions of the faults.
-use crate::stops::{check_text, stop_unless};
+//! Tables that maps are added to. Expected values are worked out from the definitions of the faults.
+//! (Lists of maps are rows of the built program, `tests/program/tables/map-lists.txt`.)
+use crate::stops::stop_unless;
 use bpf_isa::MapTable;
-use bpf_testing::parts_of;
-use std::alloc::{AllocError, Global};
 use std::process::Abort;
-
-/// A list, and its maps or the fault.
-const MAP_LISTS: &str = "\
-8x2 | 8x2
-256x256 | 256x256
-0008x00000000000000000002,1x4096 | 8x2 1x4096
-0x1 | M1
-257x4097 | M1
-99999999999x1 | M1
-4294967304x2 | M1
-8x2,0x0 | M1
-1x0 | M2
-1x4097 | M2
-1x4294967297 | M2
-256x257 | M3
-17x4096 | M3
-8x2,256x257,0x0 | M3
-1x1,1x1,1x1,1x1,1x1,1x1,1x1,1x1,1x1,1x1,1x1,1x1,1x1,1x1,1x1,1x1,1x1 | M4
- | M5
-8x2, | M5
-,8x2 | M5
-0x0,8 | M5
-8x | M5
-x2 | M5
-8x2x2 | M5
-8X2 | M5
-8x-2 | M5
-+8x2 | M5
-8 x2 | M5
-8x2;8x2 | M5
-ax2 | M5
-";
-
-/// The maps of a list with a blank between them, or the fault.
-fn parsed(alloc: Global, list: &str) -> Result<String, AllocError> {
-    let maps = match MapTable::parse(list.as_bytes()) {
-        Ok(maps) => maps,
-        Err(fault) => return format!(in alloc; "M{}", fault.number()),
-    };
-    let mut text = String::new(alloc);
-    for map in 0..maps.len() {
-        if let Some(shape) = maps.shape(map) {
-            let blank = if map == 0 { "" } else { " " };
-            text = format!(in alloc; "{text}{blank}{}x{}", shape.value_size, shape.entries)?;
-        }
-    }
-    Ok(text)
-}
-
-/// Stops unless a list is read as its row wants.
-fn check_list(rt: &impl Abort, alloc: Global, row: &str) {
-    let (list, want) = parts_of(row).expect(rt, "no answer");
-    let text = parsed(alloc, list).ok().expect(rt, "no memory");
-    check_text(rt, text.as_str(), want, row);
-}
-
-/// The same of each row.
-fn check_lists(rt: &impl Abort, alloc: Global, table: &str) {
-    for row in table.lines() {
-        check_list(rt, alloc, row);
-    }
-}
-
-#[test]
-fn map_lists(rt: HostRuntime) {
-    check_lists(&rt, rt.alloc(), MAP_LISTS);
-}
 
 /// The number of the fault with which a map isn't added, 0 for none.
 fn added(maps: &mut MapTable, value_size: u32, entries: u32) -> u8 {

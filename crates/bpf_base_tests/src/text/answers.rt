@@ -1,34 +1,9 @@
-//! What a listing is assembled to, and how an instruction is written.
+//! How an instruction is written.
 use bpf_isa::{Insn, decode};
-use bpf_text::{AsmFault, assemble, write_insn};
+use bpf_text::write_insn;
 use counted_io::Counted;
 use std::alloc::Global;
 use std::process::Abort;
-
-/// The answer to a listing, as the tables write it: the bytes in hexadecimal, - for no byte, or the
-/// fault's number and line.
-pub fn answer(rt: &impl Abort, alloc: Global, text: &str) -> String {
-    match assemble(alloc, text.as_bytes()) {
-        Ok(bytes) => digits_of(rt, alloc, &bytes),
-        Err(fault) => fault_of(rt, alloc, fault),
-    }
-}
-
-/// Bytes in hexadecimal, - for none.
-fn digits_of(rt: &impl Abort, alloc: Global, bytes: &[u8]) -> String {
-    if bytes.is_empty() {
-        return text_of(rt, alloc, "-");
-    }
-    hex::encode(alloc, bytes).ok().expect(rt, "no memory")
-}
-
-/// A fault's number and line.
-fn fault_of(rt: &impl Abort, alloc: Global, fault: AsmFault) -> String {
-    let (number, line) = (fault.number(), fault.line().unwrap_or(0));
-    format!(in alloc; "A{number} {line}")
-        .ok()
-        .expect(rt, "no memory")
-}
 
 /// A text of its own.
 pub fn text_of(rt: &impl Abort, alloc: Global, text: &str) -> String {

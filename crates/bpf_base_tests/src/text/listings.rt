@@ -1,44 +1,11 @@
-//! Instructions and their texts, both ways, and what a reader of a fault looks for.
-//! (`tests/program/tables/` holds listings.)
+//! The texts of instructions, and what a reader of a fault looks for. (What listings are assembled
+//! to is asked of the built program, `tests/program/listings.sh`.)
 use crate::stops::{before, check_bytes, check_text, parts, row};
-use crate::text::answers::{answer, lines_of, text_of, written};
+use crate::text::answers::{lines_of, text_of, written};
 use bpf_testing::{EDGES, INSTRUCTIONS};
 use bpf_text::{AsmFault, LineFault, assemble};
 use std::alloc::Global;
 use std::process::Abort;
-
-/// A label, the text of an instruction, and `exit` on a line of its own.
-fn labelled(rt: &impl Abort, alloc: Global, text: &str) -> String {
-    format!(in alloc; "L0: {text}\nexit")
-        .ok()
-        .expect(rt, "no memory")
-}
-
-/// The word in front of that of `exit`.
-fn first_word<'a>(rt: &impl Abort, words: &'a str) -> &'a str {
-    words.strip_suffix("9500000000000000").expect(rt, "no exit")
-}
-
-/// Stops unless the text of an instruction is assembled to the row's word; what follows is `exit`.
-fn check_assembled(rt: &impl Abort, alloc: Global, line: &str) {
-    let row = row(rt, line);
-    let found = answer(rt, alloc, labelled(rt, alloc, row.name).as_str());
-    check_text(rt, first_word(rt, found.as_str()), row.input, line);
-}
-
-/// The same of each row.
-fn check_all_assembled(rt: &impl Abort, alloc: Global, table: &str) {
-    for line in table.lines() {
-        check_assembled(rt, alloc, line);
-    }
-}
-
-// Each mnemonic in each form.
-#[test]
-fn assembles_each_instruction(rt: HostRuntime) {
-    check_all_assembled(&rt, rt.alloc(), INSTRUCTIONS);
-    check_all_assembled(&rt, rt.alloc(), EDGES);
-}
 
 /// Stops unless the word of a row is written as the row's text.
 fn check_written(rt: &impl Abort, alloc: Global, line: &str) {

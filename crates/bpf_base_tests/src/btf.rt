@@ -1,3 +1,0 @@
-//! Tests of BTF: sections that clang made, changed or not, and what is read of them.
-mod reading;
-mod sections;
