@@ -13,11 +13,13 @@ mod scripts;
 mod sessions;
 mod telling;
 
+use bpfdb_files::FileKind;
 use counted_io::{Counted, put, put_decimal};
 use scripts::Script;
 use std::io::Write;
 use std::process::ExitCode;
 use std::{env, io};
+use telling::{Lack, status};
 
 /// The status where the call was refused, or what came of it can't be written.
 pub const REFUSED: u8 = 2;
@@ -58,11 +60,14 @@ fn obey<W: Write, E: Write>(
     let Some(words) = words_of(rt) else {
         return NOT_REACHED;
     };
-    match words.first() {
-        Some(name) if name.as_str() == "session" => sessions::play(rt, &words, output, errors),
-        Some(name) => made(rt, name.as_str(), output, errors),
-        None => all_made(rt, output, errors),
+    if words.is_empty() {
+        return all_made(rt, output, errors);
     }
+    let made = match word(&words, 0) {
+        "session" => sessions::play_words(rt, &words, output),
+        name => made(rt, name, output),
+    };
+    status(errors, made)
 }
 
 /// The words of the command line behind the program's name; none where memory runs out.
@@ -74,6 +79,14 @@ fn words_of(rt: &HostRuntime) -> Option<Vec<String>> {
     Some(words)
 }
 
+/// One of the words; an empty one where there are fewer.
+pub fn word<'a>(words: &'a [String], at: usize) -> &'a str {
+    match words.get(at) {
+        Some(word) => word.as_str(),
+        None => "",
+    }
+}
+
 /// Makes each call. Answers the exit status: 0 where all of it was written.
 fn all_made<W: Write, E: Write>(
     rt: &HostRuntime,
@@ -81,7 +94,7 @@ fn all_made<W: Write, E: Write>(
     errors: &mut Counted<E>,
 ) -> u8 {
     for name in CALLS {
-        let status = made(rt, name, output, errors);
+        let status = status(errors, made(rt, name, output));
         let told = put(output, Ok(()), name.as_bytes());
         let told = put(output, told, b" ");
         let told = put_decimal(output, told, u64::from(status));
@@ -92,29 +105,24 @@ fn all_made<W: Write, E: Write>(
     0
 }
 
-/// Makes the call of this name. Answers its status.
-fn made<W: Write, E: Write>(
-    rt: &HostRuntime,
-    name: &str,
-    output: &mut Counted<W>,
-    errors: &mut Counted<E>,
-) -> u8 {
+/// Makes the call of this name.
+fn made<W: Write>(rt: &HostRuntime, name: &str, output: &mut Counted<W>) -> Result<(), Lack> {
     let alloc = rt.alloc();
     match name {
-        "check" => programs::check_words(alloc, output, errors),
-        "assemble" => programs::assemble_listing(alloc, output, errors),
-        "disassemble" => programs::disassemble_program(alloc, output, errors),
-        "link" => programs::link_object(rt, output, errors),
-        "memory" => programs::open_memory(alloc, output, errors),
-        "machine" => programs::open_machine(alloc, output, errors),
-        "list" => scripts::open_list(alloc, output, errors),
-        "ring" => scripts::open_ring(alloc, output, errors),
-        "answer" => scripts::run_script(alloc, Script::Answer, output, errors),
-        "loop" => scripts::run_script(alloc, Script::Loop, output, errors),
-        "edits" => scripts::run_script(alloc, Script::Edits, output, errors),
-        "program" => files::program(alloc, output, errors),
-        "context" => files::context(alloc, output, errors),
-        "source" => files::source(alloc, output, errors),
-        _ => NOT_REACHED,
+        "check" => programs::check_words(alloc, output),
+        "assemble" => programs::assemble_listing(alloc, output),
+        "disassemble" => programs::disassemble_program(alloc, output),
+        "link" => programs::link_object(rt, output),
+        "memory" => programs::open_memory(alloc, output),
+        "machine" => programs::open_machine(alloc, output),
+        "list" => scripts::open_list(alloc, output),
+        "ring" => scripts::open_ring(alloc, output),
+        "answer" => scripts::run_script(alloc, Script::Answer, output),
+        "loop" => scripts::run_script(alloc, Script::Loop, output),
+        "edits" => scripts::run_script(alloc, Script::Edits, output),
+        "program" => files::read(alloc, FileKind::Program, output),
+        "context" => files::read(alloc, FileKind::Context, output),
+        "source" => files::read(alloc, FileKind::Source, output),
+        _ => Err(Lack::NotReached),
     }
 }

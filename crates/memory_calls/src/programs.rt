@@ -1,8 +1,7 @@
 //! Programs: their words, listings and objects, and the machines that are opened on them.
 ghost use Rattle.std.specs.Prelude.{◌≤◌};
 
-use crate::NOT_REACHED;
-use crate::telling::{refuse, say, tell_memory};
+use crate::telling::{Lack, say};
 use bpf_isa::{MapTable, Program, check};
 use bpf_link::link;
 use bpf_machine::{Cpu, Memory};
@@ -29,55 +28,39 @@ fn program(alloc: Global) -> Option<Program> {
 }
 
 /// `check`: the bytes of the program.
-pub fn check_words<W: Write, E: Write>(
-    alloc: Global,
-    output: &mut Counted<W>,
-    errors: &mut Counted<E>,
-) -> u8 {
+pub fn check_words<W: Write>(alloc: Global, output: &mut Counted<W>) -> Result<(), Lack> {
     match check(alloc, WORDS, &MapTable::empty()) {
         Ok(program) => say(output, program.bytes()),
-        Err(fault) => refuse(errors, "C", fault.number(), fault.text()),
+        Err(fault) => Err(Lack::Refused("C", fault.number(), fault.text())),
     }
 }
 
 /// `assemble`: the words.
-pub fn assemble_listing<W: Write, E: Write>(
-    alloc: Global,
-    output: &mut Counted<W>,
-    errors: &mut Counted<E>,
-) -> u8 {
+pub fn assemble_listing<W: Write>(alloc: Global, output: &mut Counted<W>) -> Result<(), Lack> {
     match assemble(alloc, LISTING) {
         Ok(words) => say(output, &words),
-        Err(fault) => refuse(errors, "A", fault.number(), fault.text()),
+        Err(fault) => Err(Lack::Refused("A", fault.number(), fault.text())),
     }
 }
 
 /// `disassemble`: the canonical listing.
-pub fn disassemble_program<W: Write, E: Write>(
-    alloc: Global,
-    output: &mut Counted<W>,
-    errors: &mut Counted<E>,
-) -> u8 {
+pub fn disassemble_program<W: Write>(alloc: Global, output: &mut Counted<W>) -> Result<(), Lack> {
     let Some(program) = program(alloc) else {
-        return NOT_REACHED;
+        return Err(Lack::NotReached);
     };
     match disassemble(alloc, &program) {
         Ok(text) => say(output, &text),
-        Err(_) => tell_memory(errors),
+        Err(_) => Err(Lack::Memory),
     }
 }
 
 /// `link`: the words of the object on standard input.
-pub fn link_object<W: Write, E: Write>(
-    rt: &HostRuntime,
-    output: &mut Counted<W>,
-    errors: &mut Counted<E>,
-) -> u8 {
+pub fn link_object<W: Write>(rt: &HostRuntime, output: &mut Counted<W>) -> Result<(), Lack> {
     let mut object = [0u8; OBJECT_BYTES];
     let count = first_bytes(&mut rt.reader(), &mut object);
     match link(rt.alloc(), &object[..count], b"") {
         Ok(linked) => say(output, &linked.words),
-        Err(fault) => refuse(errors, "E", fault.number(), fault.text()),
+        Err(fault) => Err(Lack::Refused("E", fault.number(), fault.text())),
     }
 }
 
@@ -92,38 +75,30 @@ fn first_bytes<R: Read>(reader: &mut R, bytes: &mut [u8; OBJECT_BYTES]) -> usize
 }
 
 /// `Memory::open`: the context.
-pub fn open_memory<W: Write, E: Write>(
-    alloc: Global,
-    output: &mut Counted<W>,
-    errors: &mut Counted<E>,
-) -> u8 {
+pub fn open_memory<W: Write>(alloc: Global, output: &mut Counted<W>) -> Result<(), Lack> {
     let mut maps = MapTable::empty();
     if maps.add(8, 2).is_err() {
-        return NOT_REACHED;
+        return Err(Lack::NotReached);
     }
     match Memory::open(alloc, &maps, CONTEXT) {
         Ok(mut memory) => match memory.bytes_mut(0x1_0000_0000, 8) {
             Some(bytes) => say(output, bytes),
-            None => NOT_REACHED,
+            None => Err(Lack::NotReached),
         },
-        Err(fault) => refuse(errors, "O", fault.number(), fault.text()),
+        Err(fault) => Err(Lack::Refused("O", fault.number(), fault.text())),
     }
 }
 
 /// `Cpu::open`: the context.
-pub fn open_machine<W: Write, E: Write>(
-    alloc: Global,
-    output: &mut Counted<W>,
-    errors: &mut Counted<E>,
-) -> u8 {
+pub fn open_machine<W: Write>(alloc: Global, output: &mut Counted<W>) -> Result<(), Lack> {
     let Some(program) = program(alloc) else {
-        return NOT_REACHED;
+        return Err(Lack::NotReached);
     };
     match Cpu::open(alloc, program, CONTEXT) {
         Ok(cpu) => match cpu.peek(0x1_0000_0000, 8) {
             Some(bytes) => say(output, bytes),
-            None => NOT_REACHED,
+            None => Err(Lack::NotReached),
         },
-        Err(fault) => refuse(errors, "O", fault.number(), fault.text()),
+        Err(fault) => Err(Lack::Refused("O", fault.number(), fault.text())),
     }
 }

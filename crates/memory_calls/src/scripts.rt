@@ -1,11 +1,10 @@
 //! Journals, and scripts over a list of entries: each of its pushes takes memory.
-use crate::NOT_REACHED;
-use crate::sessions::list_session;
-use crate::telling::{refuse, say_number, tell_failure};
+use crate::sessions::{list_session, play};
+use crate::telling::{Lack, say_number};
 use bpf_isa::{MapTable, check};
 use bpf_journal::{Keeper, ListKeeper, RingKeeper};
 use bpf_machine::Cpu;
-use bpf_session::{Count, Session, run};
+use bpf_session::{Count, Session};
 use counted_io::Counted;
 use std::alloc::Global;
 use std::io::Write;
@@ -63,26 +62,18 @@ impl Script {
 }
 
 /// `ListKeeper::open`: the size.
-pub fn open_list<W: Write, E: Write>(
-    alloc: Global,
-    output: &mut Counted<W>,
-    errors: &mut Counted<E>,
-) -> u8 {
+pub fn open_list<W: Write>(alloc: Global, output: &mut Counted<W>) -> Result<(), Lack> {
     match ListKeeper::open(alloc, SIZE) {
         Ok(keeper) => say_number(output, keeper.capacity()),
-        Err(fault) => refuse(errors, "J", fault.number(), fault.text()),
+        Err(fault) => Err(Lack::Refused("J", fault.number(), fault.text())),
     }
 }
 
 /// `RingKeeper::open`: the size.
-pub fn open_ring<W: Write, E: Write>(
-    alloc: Global,
-    output: &mut Counted<W>,
-    errors: &mut Counted<E>,
-) -> u8 {
+pub fn open_ring<W: Write>(alloc: Global, output: &mut Counted<W>) -> Result<(), Lack> {
     match RingKeeper::open(alloc, SIZE) {
         Ok(keeper) => say_number(output, keeper.capacity()),
-        Err(fault) => refuse(errors, "J", fault.number(), fault.text()),
+        Err(fault) => Err(Lack::Refused("J", fault.number(), fault.text())),
     }
 }
 
@@ -104,17 +95,13 @@ fn session(alloc: Global, script: Script) -> Option<Session<ListKeeper>> {
 }
 
 /// `run` over a list: the replies.
-pub fn run_script<W: Write, E: Write>(
+pub fn run_script<W: Write>(
     alloc: Global,
     script: Script,
     output: &mut Counted<W>,
-    errors: &mut Counted<E>,
-) -> u8 {
+) -> Result<(), Lack> {
     let Some(mut session) = session(alloc, script) else {
-        return NOT_REACHED;
+        return Err(Lack::NotReached);
     };
-    match run(&mut session, &mut Counted::new(script.text()), output) {
-        Ok(()) => 0,
-        Err(_) => tell_failure(errors),
-    }
+    play(&mut session, script.text(), output)
 }

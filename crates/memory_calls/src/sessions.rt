@@ -4,13 +4,14 @@
 //! The words are WAY PROGRAM CONTEXT MAPS JOURNAL LIMIT, and STEPS that are taken before the
 //! session, if there are any. CONTEXT is `-` where there is none; MAPS is empty then. WAY is `list`
 //! or `ring`. It is `list-again` or `ring-again` where the session is closed after each command and
-//! opened again over what it gave, a ring's over a ring that was taken out and put back.
+//! opened again over what it gave, a ring's over a ring that was taken out and put back. It is
+//! `ring-bytes` where each empty line asks for the ring's bytes.
 ghost use Rattle.std.specs.Prelude.{◌≡◌, [], IfSome};
 ghost use Rattle.bpf_journal.specs.Histories.{HasHistory};
 ghost use Rattle.bpf_journal.specs.Tracks.{RingHolds, ring_room};
 
-use crate::NOT_REACHED;
-use crate::telling::tell_failure;
+use crate::telling::{Lack, say};
+use crate::word;
 use bpf_isa::{MapTable, Program, check};
 use bpf_journal::{Keeper, ListKeeper, RingKeeper};
 use bpf_machine::Cpu;
@@ -21,44 +22,41 @@ use std::alloc::Global;
 use std::fs;
 use std::io::{Read, Write};
 
-/// `session`: the replies.
-pub fn play<W: Write, E: Write>(
+/// What is played: in which way, over which keeper, and with what limit of steps.
+#[derive(Clone, Copy)]
+struct Way {
+    size: usize,
+    limit: Count,
+    again: bool,
+    bytes: bool,
+}
+
+/// `session`: the replies to the script that comes in.
+pub fn play_words<W: Write>(
     rt: &HostRuntime,
     words: &[String],
     output: &mut Counted<W>,
-    errors: &mut Counted<E>,
-) -> u8 {
-    match played(rt, words, output) {
-        Some(Ok(())) => 0,
-        Some(Err(_)) => tell_failure(errors),
-        None => NOT_REACHED,
+) -> Result<(), Lack> {
+    let name = word(words, 1);
+    let (keeper, way) = name.split_once('-').unwrap_or((name, ""));
+    let Some(way) = way_of(words, way) else {
+        return Err(Lack::NotReached);
+    };
+    match keeper {
+        "list" => play_list(rt, machine(rt, words), way, output),
+        "ring" => play_ring(rt, machine(rt, words), way, output),
+        _ => Err(Lack::NotReached),
     }
 }
 
-/// Plays the script that comes in; none where there is no such session.
-fn played<W: Write>(
-    rt: &HostRuntime,
-    words: &[String],
-    output: &mut Counted<W>,
-) -> Option<Result<(), RunFault>> {
-    let size = number(words, 5)? as usize;
-    let limit = Count::new(number(words, 6)?)?;
-    let cpu = machine(rt, words)?;
-    match word(words, 1) {
-        "list" => run_in(rt, list_session(rt.alloc(), cpu, size, limit), output),
-        "ring" => run_in(rt, ring_session(rt.alloc(), cpu, size, limit), output),
-        "list-again" => run_list_again(rt, cpu, size, limit, output),
-        "ring-again" => run_ring_again(rt, cpu, size, limit, output),
-        _ => None,
-    }
-}
-
-/// One of the words; an empty one where there are fewer.
-fn word<'a>(words: &'a [String], at: usize) -> &'a str {
-    match words.get(at) {
-        Some(word) => word.as_str(),
-        None => "",
-    }
+/// The way of a name, with the numbers of the words.
+fn way_of(words: &[String], name: &str) -> Option<Way> {
+    Some(Way {
+        size: number(words, 5)? as usize,
+        limit: Count::new(number(words, 6)?)?,
+        again: name == "again",
+        bytes: name == "bytes",
+    })
 }
 
 /// The number of one of the words.
@@ -161,136 +159,220 @@ fn ring_session(alloc: Global, cpu: Cpu, size: usize, limit: Count) -> Option<Se
     }
 }
 
-/// Plays the script in a session, if there is one.
-fn run_in<K: Keeper + Drop, W: Write>(
+/// Plays the script over a list.
+fn play_list<W: Write>(
     rt: &HostRuntime,
-    session: Option<Session<K>>,
+    cpu: Option<Cpu>,
+    way: Way,
     output: &mut Counted<W>,
-) -> Option<Result<(), RunFault>> {
-    let mut session = session?;
-    Some(run(&mut session, &mut Counted::new(rt.reader()), output))
+) -> Result<(), Lack> {
+    match cpu {
+        Some(cpu) => play_in(
+            rt,
+            list_session(rt.alloc(), cpu, way.size, way.limit),
+            way,
+            output,
+        ),
+        None => Err(Lack::NotReached),
+    }
 }
 
-/// The bytes of the whole script.
-fn script(rt: &HostRuntime) -> Option<Vec<u8>> {
-    bytes_of(rt.alloc(), rt.reader(), FileKind::Source)
+/// Plays the script over a ring.
+fn play_ring<W: Write>(
+    rt: &HostRuntime,
+    cpu: Option<Cpu>,
+    way: Way,
+    output: &mut Counted<W>,
+) -> Result<(), Lack> {
+    match cpu {
+        Some(cpu) => {
+            let session = ring_session(rt.alloc(), cpu, way.size, way.limit);
+            if way.bytes {
+                play_told(rt, session, output)
+            } else {
+                play_in(rt, session, way, output)
+            }
+        }
+        None => Err(Lack::NotReached),
+    }
+}
+
+/// Plays the script over a ring, whose bytes are told where the script asks for them.
+fn play_told<W: Write>(
+    rt: &HostRuntime,
+    session: Option<Session<RingKeeper>>,
+    output: &mut Counted<W>,
+) -> Result<(), Lack> {
+    let Some(mut session) = session else {
+        return Err(Lack::NotReached);
+    };
+    let bytes = bytes_of(rt.alloc(), rt.reader(), FileKind::Source);
+    match text_of(&bytes) {
+        Some(text) => tell_lines(rt.alloc(), &mut session, text, output),
+        None => Err(Lack::NotReached),
+    }
+}
+
+/// Plays lines over a ring, whose bytes an empty one asks for.
+fn tell_lines<W: Write>(
+    alloc: Global,
+    session: &mut Session<RingKeeper>,
+    text: &str,
+    output: &mut Counted<W>,
+) -> Result<(), Lack> {
+    for line in text.lines() {
+        tell_line(alloc, session, line, output)?;
+    }
+    Ok(())
+}
+
+/// Plays a line over a ring, or tells the ring's bytes.
+fn tell_line<W: Write>(
+    alloc: Global,
+    session: &mut Session<RingKeeper>,
+    line: &str,
+    output: &mut Counted<W>,
+) -> Result<(), Lack> {
+    if line.is_empty() {
+        tell_bytes(alloc, session.keeper(), output)
+    } else {
+        play(session, line.as_bytes(), output)
+    }
+}
+
+/// Plays the script in a session, if there is one.
+fn play_in<K: Anew, W: Write>(
+    rt: &HostRuntime,
+    session: Option<Session<K>>,
+    way: Way,
+    output: &mut Counted<W>,
+) -> Result<(), Lack> {
+    let Some(mut session) = session else {
+        return Err(Lack::NotReached);
+    };
+    if way.again {
+        return play_script(rt, session, way.limit, output);
+    }
+    played(run(&mut session, &mut Counted::new(rt.reader()), output))
+}
+
+/// How a run has ended.
+fn played(ran: Result<(), RunFault>) -> Result<(), Lack> {
+    match ran {
+        Ok(()) => Ok(()),
+        Err(_) => Err(Lack::Failed),
+    }
+}
+
+/// Plays a text in a session.
+pub fn play<K: Keeper, W: Write>(
+    session: &mut Session<K>,
+    text: &[u8],
+    output: &mut Counted<W>,
+) -> Result<(), Lack> {
+    played(run(session, &mut Counted::new(text), output))
+}
+
+/// Plays the lines of the script, each in a session of its own.
+fn play_script<K: Anew, W: Write>(
+    rt: &HostRuntime,
+    session: Session<K>,
+    limit: Count,
+    output: &mut Counted<W>,
+) -> Result<(), Lack> {
+    let bytes = bytes_of(rt.alloc(), rt.reader(), FileKind::Source);
+    match text_of(&bytes) {
+        Some(text) => play_lines(rt.alloc(), session, text, limit, output),
+        None => Err(Lack::NotReached),
+    }
+}
+
+/// The text of bytes, if there are some.
+fn text_of(bytes: &Option<Vec<u8>>) -> Option<&str> {
+    match bytes {
+        Some(bytes) => str::from_utf8(bytes).ok(),
+        None => None,
+    }
+}
+
+/// Plays lines, each in a session over the machine and the keeper of the one before.
+fn play_lines<K: Anew, W: Write>(
+    alloc: Global,
+    mut session: Session<K>,
+    text: &str,
+    limit: Count,
+    output: &mut Counted<W>,
+) -> Result<(), Lack> {
+    for line in text.lines() {
+        session = play_line(alloc, session, line, limit, output)?;
+    }
+    Ok(())
+}
+
+/// Plays a line, and answers the session behind it.
+fn play_line<K: Anew, W: Write>(
+    alloc: Global,
+    mut session: Session<K>,
+    line: &str,
+    limit: Count,
+    output: &mut Counted<W>,
+) -> Result<Session<K>, Lack> {
+    match play(&mut session, line.as_bytes(), output) {
+        Ok(()) => again(alloc, session, limit),
+        Err(lack) => Err(lack),
+    }
 }
 
 /// The session over the machine and the keeper of another one.
-fn again<K: Keeper + Drop>(alloc: Global, session: Session<K>, limit: Count) -> Option<Session<K>> {
+fn again<K: Anew>(alloc: Global, session: Session<K>, limit: Count) -> Result<Session<K>, Lack> {
     let (cpu, keeper) = session.close();
-    opened(alloc, cpu, keeper, limit)
+    let keeper = keeper.anew(&cpu);
+    opened(alloc, cpu, keeper, limit).ok_or(Lack::NotReached)
 }
 
-/// A keeper of the ring that another one gives up.
-fn put_back(cpu: &Cpu, keeper: RingKeeper) -> RingKeeper
-    requires { HasHistory ⟦<RingKeeper as Keeper>⟧.holds keeper cpu.now }
-    ensures { HasHistory ⟦<RingKeeper as Keeper>⟧.holds result cpu.now }
-{
-    let _cpu = cpu;
-    let ring = keeper.into_ring();
-    RingKeeper::from_ring(ring)
+/// A keeper that is taken apart and put together again, where it has parts.
+trait Anew: Keeper + Drop {
+    /// A keeper of the same moves.
+    fn anew(self, cpu: &Cpu) -> Self
+        requires { HasHistory Self.holds self cpu.now }
+        ensures { HasHistory Self.holds result cpu.now };
 }
 
-/// The session over the machine and the ring of another one.
-fn ring_again(
-    alloc: Global,
-    session: Session<RingKeeper>,
-    limit: Count,
-) -> Option<Session<RingKeeper>> {
-    let (cpu, keeper) = session.close();
-    let keeper = put_back(&cpu, keeper);
-    opened(alloc, cpu, keeper, limit)
-}
-
-/// Plays a line over a list: the session that follows, or the fault.
-fn play_in_list<W: Write>(
-    alloc: Global,
-    mut session: Session<ListKeeper>,
-    limit: Count,
-    line: &str,
-    output: &mut Counted<W>,
-) -> Option<Result<Session<ListKeeper>, RunFault>> {
-    match run(&mut session, &mut Counted::new(line.as_bytes()), output) {
-        Ok(()) => Some(Ok(again(alloc, session, limit)?)),
-        Err(fault) => Some(Err(fault)),
+impl Anew for ListKeeper {
+    fn anew(self, _cpu: &Cpu) -> ListKeeper {
+        self
     }
 }
 
-/// Plays a line over a ring: the session that follows, or the fault.
-fn play_in_ring<W: Write>(
-    alloc: Global,
-    mut session: Session<RingKeeper>,
-    limit: Count,
-    line: &str,
-    output: &mut Counted<W>,
-) -> Option<Result<Session<RingKeeper>, RunFault>> {
-    match run(&mut session, &mut Counted::new(line.as_bytes()), output) {
-        Ok(()) => Some(Ok(ring_again(alloc, session, limit)?)),
-        Err(fault) => Some(Err(fault)),
+impl Anew for RingKeeper {
+    fn anew(self, cpu: &Cpu) -> RingKeeper {
+        let _cpu = cpu;
+        let ring = self.into_ring();
+        RingKeeper::from_ring(ring)
     }
 }
 
-/// Plays lines over a list, each in a session of its own.
-fn play_lists<W: Write>(
+/// Writes the bytes of a ring in a line.
+fn tell_bytes<W: Write>(
     alloc: Global,
-    mut session: Session<ListKeeper>,
-    limit: Count,
-    text: &str,
+    ring: &RingKeeper,
     output: &mut Counted<W>,
-) -> Option<Result<(), RunFault>> {
-    for line in text.lines() {
-        match play_in_list(alloc, session, limit, line, output) {
-            Some(Ok(next)) => session = next,
-            Some(Err(fault)) => return Some(Err(fault)),
-            None => return None,
+) -> Result<(), Lack> {
+    match digits_of(alloc, ring) {
+        Some(digits) => say(output, digits.as_bytes()),
+        None => Err(Lack::Memory),
+    }
+}
+
+/// The bytes of a ring in hexadecimal, the oldest first, in a line.
+fn digits_of(alloc: Global, ring: &RingKeeper) -> Option<String> {
+    let mut bytes = Vec::new(alloc);
+    for index in 0..=ring.capacity() {
+        match ring.byte(index) {
+            Some(byte) => bytes.push(byte).ok()?,
+            None => break,
         }
     }
-    Some(Ok(()))
-}
-
-/// Plays lines over a ring, each in a session of its own.
-fn play_rings<W: Write>(
-    alloc: Global,
-    mut session: Session<RingKeeper>,
-    limit: Count,
-    text: &str,
-    output: &mut Counted<W>,
-) -> Option<Result<(), RunFault>> {
-    for line in text.lines() {
-        match play_in_ring(alloc, session, limit, line, output) {
-            Some(Ok(next)) => session = next,
-            Some(Err(fault)) => return Some(Err(fault)),
-            None => return None,
-        }
-    }
-    Some(Ok(()))
-}
-
-/// Plays the script over a list, each line in a session of its own.
-fn run_list_again<W: Write>(
-    rt: &HostRuntime,
-    cpu: Cpu,
-    size: usize,
-    limit: Count,
-    output: &mut Counted<W>,
-) -> Option<Result<(), RunFault>> {
-    let session = list_session(rt.alloc(), cpu, size, limit)?;
-    let bytes = script(rt)?;
-    let text = str::from_utf8(&bytes).ok()?;
-    play_lists(rt.alloc(), session, limit, text, output)
-}
-
-/// Plays the script over a ring, each line in a session of its own.
-fn run_ring_again<W: Write>(
-    rt: &HostRuntime,
-    cpu: Cpu,
-    size: usize,
-    limit: Count,
-    output: &mut Counted<W>,
-) -> Option<Result<(), RunFault>> {
-    let session = ring_session(rt.alloc(), cpu, size, limit)?;
-    let bytes = script(rt)?;
-    let text = str::from_utf8(&bytes).ok()?;
-    play_rings(rt.alloc(), session, limit, text, output)
+    let digits = hex::encode(alloc, &bytes).ok()?;
+    format!(in alloc; "bytes {digits}\n").ok()
 }

@@ -1,47 +1,61 @@
-//! What is written of a call: what came of it, or its refusal.
-use crate::REFUSED;
+//! What is written of a call: what came of it, or why nothing did.
+use crate::{NOT_REACHED, REFUSED};
 use counted_io::{Counted, WriteFault, put, put_decimal};
 use std::io::Write;
 
-/// The status of what was written.
-fn status_of(told: Result<(), WriteFault>, status: u8) -> u8 {
+/// Why nothing came of a call.
+#[derive(Clone, Copy)]
+pub enum Lack {
+    /// It wasn't reached.
+    NotReached,
+    /// A read or a write failed.
+    Failed,
+    /// Memory ran out, and the call has no number for that.
+    Memory,
+    /// It was refused: the letter, the number and the text.
+    Refused(&'static str, u8, &'static str),
+}
+
+/// What came of a write.
+fn written(told: Result<(), WriteFault>) -> Result<(), Lack> {
     match told {
-        Ok(()) => status,
-        Err(WriteFault) => REFUSED,
+        Ok(()) => Ok(()),
+        Err(WriteFault) => Err(Lack::Failed),
     }
 }
 
-/// Writes the bytes that came of a call. Answers the status.
-pub fn say<W: Write>(output: &mut Counted<W>, bytes: &[u8]) -> u8 {
-    let told = put(output, Ok(()), bytes);
-    status_of(told, 0)
+/// Writes the bytes that came of a call.
+pub fn say<W: Write>(output: &mut Counted<W>, bytes: &[u8]) -> Result<(), Lack> {
+    written(put(output, Ok(()), bytes))
 }
 
-/// Writes a number that came of a call. Answers the status.
-pub fn say_number<W: Write>(output: &mut Counted<W>, number: usize) -> u8 {
-    let told = put_decimal(output, Ok(()), number as u64);
-    status_of(told, 0)
+/// Writes a number that came of a call.
+pub fn say_number<W: Write>(output: &mut Counted<W>, number: usize) -> Result<(), Lack> {
+    written(put_decimal(output, Ok(()), number as u64))
 }
 
-/// Tells a refusal, by its letter with its number and its text. Answers the status.
-pub fn refuse<E: Write>(errors: &mut Counted<E>, letter: &str, number: u8, text: &str) -> u8 {
+/// Tells a refusal, by its letter with its number and its text.
+fn refuse<E: Write>(errors: &mut Counted<E>, letter: &str, number: u8, text: &str) {
     let told = put(errors, Ok(()), b"refused ");
     let told = put(errors, told, letter.as_bytes());
     let told = put_decimal(errors, told, u64::from(number));
     let told = put(errors, told, b": ");
     let told = put(errors, told, text.as_bytes());
-    let told = put(errors, told, b"\n");
-    status_of(told, REFUSED)
+    let _told = put(errors, told, b"\n");
 }
 
-/// Tells want of memory that has no number. Answers the status.
-pub fn tell_memory<E: Write>(errors: &mut Counted<E>) -> u8 {
-    let told = put(errors, Ok(()), b"out of memory\n");
-    status_of(told, REFUSED)
-}
-
-/// Tells that a read or a write failed. Answers the status.
-pub fn tell_failure<E: Write>(errors: &mut Counted<E>) -> u8 {
-    let told = put(errors, Ok(()), b"a read or a write failed\n");
-    status_of(told, REFUSED)
+/// The status of a call. Where nothing came of it, it is told why.
+pub fn status<E: Write>(errors: &mut Counted<E>, made: Result<(), Lack>) -> u8 {
+    let text: &[u8] = match made {
+        Ok(()) => return 0,
+        Err(Lack::NotReached) => return NOT_REACHED,
+        Err(Lack::Failed) => b"a read or a write failed\n",
+        Err(Lack::Memory) => b"out of memory\n",
+        Err(Lack::Refused(letter, number, text)) => {
+            refuse(errors, letter, number, text);
+            return REFUSED;
+        }
+    };
+    let _told = put(errors, Ok(()), text);
+    REFUSED
 }

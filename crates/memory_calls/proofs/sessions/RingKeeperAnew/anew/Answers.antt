@@ -1,6 +1,6 @@
 use Rattle.std.proofs.Common.{map, ◌∙◌}
 use Rattle.bpf_journal.specs.Histories.{kept_of}
-use Rattle.memory_calls.proofs.sessions.put_back.Goals as goal
+use Rattle.memory_calls.proofs.sessions.RingKeeperAnew.anew.Goals as goal
 
 pub returns : goal.returns
 returns c =
