@@ -1,10 +1,3 @@
-//! Tests of the journal: pushes that are refused, and a ring beside a list. What a program can be
-//! asked stands in `tests/program/journal.sh`.
-mod courses;
+//! Tests of the journal: pushes that are refused, and the laws. What a program can be asked stands in
+//! `tests/program/journal.sh`, and what a ring holds in `tests/program/rings.sh`.
 mod keepers;
-mod moves;
-mod play;
-mod rings;
-mod seen;
-mod texts;
-mod walks;

@@ -37,18 +37,6 @@ pub fn ring_for<K: Keeper>(rt: &impl Abort, alloc: Global, keeper: &K) -> RingKe
     ring(rt, alloc, keeper.capacity())
 }
 
-/// The oldest bytes of a ring, at most so many.
-pub fn oldest(rt: &impl Abort, alloc: Global, keeper: &RingKeeper, most: usize) -> Vec<u8> {
-    let mut bytes = Vec::new(alloc);
-    for index in 0..most {
-        match keeper.byte(index) {
-            Some(byte) => bytes.push(byte).ok().expect(rt, "no memory"),
-            None => return bytes,
-        }
-    }
-    bytes
-}
-
 /// An empty list that keeps so many entries at most, and takes so many pushes in all.
 pub fn narrow_list(rt: &impl Abort, alloc: Global, most: usize, left: usize) -> Narrow<ListKeeper>
     ensures { ⟦<Narrow<ListKeeper> as Keeper>⟧.holds result [] }

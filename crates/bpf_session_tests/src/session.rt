@@ -1,6 +1,5 @@
-//! Tests of sessions: keepers that refuse, the bytes of rings, readers and writers that fail.
+//! Tests of sessions: keepers that refuse, readers and writers that fail.
 //! Transcripts stand in `tests/program/transcripts/`.
 mod faults;
 mod keepers;
 mod play;
-mod rings;

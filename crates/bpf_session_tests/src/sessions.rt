@@ -29,6 +29,6 @@ pub fn narrow_session(
     most: usize,
     left: usize,
 ) -> Session<Narrow<ListKeeper>> {
-    let cpu = machine(rt, alloc, program, "none", &[]);
+    let cpu = machine(rt, alloc, program);
     session(rt, alloc, cpu, narrow_list(rt, alloc, most, left))
 }

@@ -43,12 +43,6 @@ pub fn kept(rt: &impl Abort, text: Result<String, AllocError>) -> String {
     text.ok().expect(rt, "no memory")
 }
 
-/// Puts a text behind another.
-pub fn add(rt: &impl Abort, text: &mut String, piece: &str) {
-    let is_kept = text.push_str(piece).is_ok();
-    stop_unless(rt, is_kept, "no memory");
-}
-
 /// Puts bytes behind others.
 pub fn put(rt: &impl Abort, bytes: &mut Vec<u8>, others: &[u8]) {
     let is_kept = bytes.extend_from_slice(others).is_ok();

@@ -1,9 +1,19 @@
 //! Pushes that a list refuses, moves through the bound of a machine, and the laws.
-use crate::journal::courses::course;
-use crate::keepers::list;
+use crate::keepers::{list, ring_for};
 use crate::machines::{ENDLESS, machine};
 use crate::stops::stop_unless;
 use bpf_journal::{Course, Keeper, ListKeeper, Move, Reversible, laws};
+use std::alloc::Global;
+use std::process::Abort;
+
+/// The course of a machine without end over an empty list. The moves that are taken back can be
+/// made again.
+fn endless(rt: &impl Abort, alloc: Global) -> Course<ListKeeper> {
+    let cpu = machine(rt, alloc, ENDLESS);
+    let keeper = list(rt, alloc, 16_777_216);
+    let redo = ring_for(rt, alloc, &keeper);
+    Course::open(cpu, keeper, redo)
+}
 
 /// Takes a step, and tells whether it is refused. None where a refused one changed something.
 fn is_refused(course: &mut Course<ListKeeper>) -> Option<bool> {
@@ -36,8 +46,7 @@ fn refused_steps(course: &mut Course<ListKeeper>) -> Option<u64> {
 // next is kept again.
 #[test]
 fn a_refused_push_changes_nothing(rt: HostRuntime) {
-    let cpu = machine(&rt, rt.alloc(), ENDLESS, "8x2", &[]);
-    let mut course = course(&rt, rt.alloc(), cpu, list(&rt, rt.alloc(), 16_777_216));
+    let mut course = endless(&rt, rt.alloc());
     let refused = refused_steps(&mut course);
     let wanted = Some(course.keeper().refusals());
     stop_unless(&rt, refused == wanted, "refused steps");
@@ -65,7 +74,7 @@ fn there_and_back<R: Reversible>(it: &mut R, change: &Move) -> bool {
 
 #[test]
 fn a_step_goes_back(rt: HostRuntime) {
-    let mut cpu = machine(&rt, rt.alloc(), ENDLESS, "8x2", &[]);
+    let mut cpu = machine(&rt, rt.alloc(), ENDLESS);
     let is_made = there_and_back(&mut cpu, &Move::Step);
     stop_unless(&rt, is_made, "no step");
     stop_unless(&rt, cpu.pc() == 0, "another pc");

@@ -38,7 +38,7 @@ fn check_fault(rt: &impl Abort, answer: Result<(), RunFault>, failures: u64, fau
 
 /// A session of the program that answers 42.
 fn answering(rt: &impl Abort, alloc: Global) -> Session<ListKeeper> {
-    let cpu = machine(rt, alloc, ANSWER, "none", &[]);
+    let cpu = machine(rt, alloc, ANSWER);
     session(rt, alloc, cpu, list(rt, alloc, 65_536))
 }
 
