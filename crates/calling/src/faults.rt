@@ -3,6 +3,7 @@ use bpf_isa::{LoadFault, MapTable, check};
 use bpf_machine::{Cpu, OpenFault};
 use bpf_text::{AsmFault, assemble};
 use std::alloc::Global;
+use std::process::Abort;
 use thiserror::Error;
 
 /// Why there is no machine for a listing.
@@ -23,6 +24,14 @@ fn machine_for(alloc: Global, listing: &[u8], context: &[u8]) -> Result<Cpu, Mac
     Ok(Cpu::open(alloc, program, context)?)
 }
 
+/// What is printed of the fault of a listing, with a context of so many bytes.
+fn printed(rt: &impl Abort, alloc: Global, listing: &[u8], length: usize) -> String {
+    let context = vec![in alloc; 0; length].expect(rt, "no memory");
+    let fault = machine_for(alloc, listing, &context).err();
+    let fault = fault.expect(rt, "not refused");
+    fault.to_string(alloc).expect(rt, "no memory")
+}
+
 #[test]
 fn a_fault_is_passed_on(rt: HostRuntime) {
     let rows: [(&[u8], usize, &str); 3] = [
@@ -35,10 +44,7 @@ fn a_fault_is_passed_on(rt: HostRuntime) {
         (b"exit\n", 65_537, "refused O1: context too long"),
     ];
     for (listing, length, line) in rows {
-        let context = vec![in rt.alloc(); 0; length].expect(&rt, "no memory");
-        let fault = machine_for(rt.alloc(), listing, &context).err();
-        let fault = fault.expect(&rt, "not refused");
-        let printed = fault.to_string(rt.alloc()).expect(&rt, "no memory");
-        assert_eq!(&rt; printed.as_str(), line);
+        let printed = printed(&rt, rt.alloc(), listing, length);
+        assert!(&rt; printed.as_str() == line);
     }
 }
