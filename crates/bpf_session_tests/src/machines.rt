@@ -14,9 +14,7 @@ pub const ANSWER: &str = "b70000002a0000009500000000000000";
 /// A machine with a program in hexadecimal digits, without maps and with an empty context.
 pub fn machine(rt: &impl Abort, alloc: Global, program: &str) -> Cpu {
     let program = checked(rt, alloc, &bytes(rt, alloc, program));
-    Cpu::open(alloc, program, &[])
-        .ok()
-        .expect(rt, "not opened")
+    Cpu::open(alloc, program, &[]).ok().expect(rt, "not opened")
 }
 
 /// The program of bytes that are checked.

@@ -42,17 +42,22 @@ fn answering(rt: &impl Abort, alloc: Global) -> Session<ListKeeper> {
     session(rt, alloc, cpu, list(rt, alloc, 65_536))
 }
 
+/// What is printed of two lines where the eleventh read of a byte fails.
+fn printed_before(rt: &impl Abort, alloc: Global, session: &mut Session<ListKeeper>) -> Vec<u8> {
+    let mut printed = Vec::new(alloc);
+    let script = b"stepi\ninfo regs\n".as_slice();
+    let mut reader = Counted::new(Paced::failing(script, 1, 11));
+    let answer = run(session, &mut reader, &mut Counted::new(&mut printed));
+    check_fault(rt, answer, reader.failures(), "read");
+    printed
+}
+
 // A reader fails before the second line is whole: the reply to the first one stands, and no other
 // byte.
 #[test]
 fn a_read_fails_in_a_line(rt: HostRuntime) {
     let mut session = answering(&rt, rt.alloc());
-    let mut printed = Vec::new(rt.alloc());
-    let script = b"stepi\ninfo regs\n".as_slice();
-    let mut reader = Counted::new(Paced::failing(script, 1, 11));
-    let mut writer = Counted::new(&mut printed);
-    let answer = run(&mut session, &mut reader, &mut writer);
-    check_fault(&rt, answer, reader.failures(), "read");
+    let printed = printed_before(&rt, rt.alloc(), &mut session);
     check_bytes(&rt, &printed, first(&rt, 28), "a read that fails");
 }
 
@@ -62,17 +67,22 @@ fn check_state(rt: &impl Abort, cpu: &Cpu) {
     stop_unless(rt, register(rt, cpu, 0) == 42, "another r0");
 }
 
+/// What a writer takes of three replies, which takes 10 bytes and no more.
+fn taken(rt: &impl Abort, alloc: Global, session: &mut Session<ListKeeper>) -> Vec<u8> {
+    let mut reader = Counted::new(b"stepi\ninfo regs\nreverse-stepi\n".as_slice());
+    let mut writer = Counted::new(Paced::refusing(Vec::new(alloc), 1, 11));
+    let answer = run(session, &mut reader, &mut writer);
+    check_fault(rt, answer, writer.failures(), "write");
+    writer.into_inner().into_inner()
+}
+
 // A writer that takes 10 bytes and no more: the session stands behind the line whose reply wasn't
 // written.
 #[test]
 fn a_session_stands_behind_the_last_line(rt: HostRuntime) {
     let mut session = answering(&rt, rt.alloc());
-    let mut printed = Vec::new(rt.alloc());
-    let mut reader = Counted::new(b"stepi\ninfo regs\nreverse-stepi\n".as_slice());
-    let mut writer = Counted::new(Paced::refusing(&mut printed, 1, 11));
-    let answer = run(&mut session, &mut reader, &mut writer);
-    check_fault(&rt, answer, writer.failures(), "write");
-    check_bytes(&rt, &printed, b"1 forward;", "a writer that takes 10 bytes");
+    let taken = taken(&rt, rt.alloc(), &mut session);
+    check_bytes(&rt, &taken, b"1 forward;", "a writer that takes 10 bytes");
     check_state(&rt, session.cpu());
 }
 
