@@ -33,14 +33,18 @@ fn session(rt: &impl Abort, alloc: Global) -> Session<RingKeeper> {
 }
 
 /// What is answered to packets.
-fn answers(rt: &impl Abort, alloc: Global, packets: &[u8]) -> Vec<u8> {
+fn answers(
+    rt: &impl Abort,
+    alloc: Global,
+    session: &mut Session<RingKeeper>,
+    packets: &[u8],
+) -> Vec<u8> {
     let mut wanted = Wanted::new(alloc).expect(rt, "no memory");
-    let mut session = session(rt, alloc);
     let mut answers = Vec::new(alloc);
     let ended = serve(
         alloc,
         Layout::X86,
-        &mut session,
+        session,
         &mut wanted,
         &mut Counted::new(packets),
         &mut Counted::new(&mut answers),
@@ -51,6 +55,7 @@ fn answers(rt: &impl Abort, alloc: Global, packets: &[u8]) -> Vec<u8> {
 
 #[test]
 fn a_step_is_served(rt: HostRuntime) {
-    let answers = answers(&rt, rt.alloc(), b"$s#73");
+    let mut session = session(&rt, rt.alloc());
+    let answers = answers(&rt, rt.alloc(), &mut session, b"$s#73");
     assert!(&rt; answers.as_slice().starts_with(b"+$T05"));
 }

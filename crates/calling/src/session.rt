@@ -32,11 +32,15 @@ fn session(rt: &impl Abort, alloc: Global) -> Session<RingKeeper> {
 }
 
 /// What is replied to a script.
-fn replies(rt: &impl Abort, alloc: Global, script: &[u8]) -> Vec<u8> {
-    let mut session = session(rt, alloc);
+fn replies(
+    rt: &impl Abort,
+    alloc: Global,
+    session: &mut Session<RingKeeper>,
+    script: &[u8],
+) -> Vec<u8> {
     let mut replies = Vec::new(alloc);
     let ended = run(
-        &mut session,
+        session,
         &mut Counted::new(script),
         &mut Counted::new(&mut replies),
     );
@@ -46,7 +50,8 @@ fn replies(rt: &impl Abort, alloc: Global, script: &[u8]) -> Vec<u8> {
 
 #[test]
 fn a_script_is_run(rt: HostRuntime) {
-    let replies = replies(&rt, rt.alloc(), b"stepi 2\nreverse-stepi\n");
+    let mut session = session(&rt, rt.alloc());
+    let replies = replies(&rt, rt.alloc(), &mut session, b"stepi 2\nreverse-stepi\n");
     assert!(&rt;
         replies.as_slice()
             == b"2 forward; done; at 2: exit\n1 back; done; at 1: add r0, 2\n".as_slice()
