@@ -219,10 +219,10 @@ ROWS
         done
         mkdir bin typed shown installed-here
         ln -s "$program" bin/bpfdb
-        ln -s "$top/share/bpfdb-events" "$top/share/bpfdb-context" "$top/share/bpfdb-shell" bin
+        ln -s "$top/share/bpfdb-events" "$top/share/bpfdb-context" "$top/share/bpfdb-shell" "$top/share/bpfdb-turns" bin
         built clang "$top/share/bpfdb-linux.c" installed-here/bpfdb-linux.o
         awk '
-            /^## / { inside = /^## (An event that is wrong|An installed tool)$/ }
+            /^## / { inside = /^## (An event that is wrong|Two programs in turn|An installed tool)$/ }
             /^```/ { block = !block; next }
             inside && block && /^\$ / { n++; print substr($0, 3) > ("shown/command-" n); printf "" > ("shown/text-" n); next }
             inside && block { print > ("shown/text-" n) }
@@ -264,5 +264,14 @@ ROWS
             "$program" link --as-compiled --section "$section" --entry "$entry" --with library.o "installed/$object" > words 2> told &&
                 "$program" check $(grep '^--maps ' told) words > told 2>&1 || complain "$object, $entry: $(cat told)"
         done < programs
+        # All programs of an object in turn, each at a place of its own.
+        awk '{ names[$1] = names[$1] " " $3 "@" 8 * n[$1]++ } END { for (object in n) if (n[object] > 1 && n[object] <= 16) print object names[object] }' programs > several
+        while read -r object names; do
+            count=$((count + 1))
+            # (names without blanks)
+            "$top/share/bpfdb-turns" "installed/$object" $names > turns.o 2> told &&
+                "$program" link --as-compiled --entry turns --with library.o turns.o > words 2> told &&
+                "$program" check $(grep '^--maps ' told) words > told 2>&1 || complain "$object, in turn: $(cat told)"
+        done < several
     fi
 fi
