@@ -35,8 +35,7 @@ fn called_in(functions: &[Option<u16>], slots: &[u8], p: usize) -> Option<u16>
 
 /// Code with a call in a slot, where there is a function.
 fn with_call(own: usize, mut slots: Vec<u8>, p: usize, to: Option<u16>) -> Vec<u8>
-    requires inside { p < own }
-    requires small { own ≤ most_slots }
+    requires inside { (p < own) × (own ≤ most_slots) }
     requires room { 8 * p + 8 ≤ length slots.items }
     ensures value { result.items ≡ with_call own slots.items p to }
     ensures length { length result.items ≡ length slots.items }

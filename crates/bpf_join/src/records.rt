@@ -48,8 +48,7 @@ fn with_place(place: u64, mut places: Vec<u64>) -> Result<Vec<u64>, LinkFault>
 
 /// Places with that of the map that a symbol names, if it names one.
 fn with_map_of(plan: &Plan<'_>, i: usize, places: Vec<u64>) -> Result<Vec<u64>, LinkFault>
-    requires inside { i < length plan.now.symbols }
-    requires short { length places.items ≤ 1024 }
+    requires inside { (i < length plan.now.symbols) × (length places.items ≤ 1024) }
     ensures ok { IfOk result (λ new. with_map_of plan.now i places.items ≡ Ok new.items) }
     ensures short { IfOk result (λ new. length new.items ≤ 1024) }
     ensures err { IfErr result (MemoryOr (with_map_of plan.now i places.items)) }

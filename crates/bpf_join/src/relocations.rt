@@ -53,8 +53,7 @@ fn with_one(
     relocation: &RelocationEntry,
     bytes: Vec<u8>,
 ) -> Result<Vec<u8>, LinkFault>
-    requires small { first ≤ most_slots }
-    requires short { slots_in part.now ≤ most_slots }
+    requires small { (first ≤ most_slots) × (slots_in part.now ≤ most_slots) }
     requires few { count + before < 4294967296 }
     ensures ok { IfOk result (λ new. new.items
         ≡ bytes.items ++ moved part.now first count before relocation.now) }
@@ -77,8 +76,7 @@ fn with_moved(
     before: u32,
     bytes: Vec<u8>,
 ) -> Result<Vec<u8>, LinkFault>
-    requires small { first ≤ most_slots }
-    requires short { slots_in part.now ≤ most_slots }
+    requires small { (first ≤ most_slots) × (slots_in part.now ≤ most_slots) }
     requires few { count + before < 4294967296 }
     ensures ok { IfOk result (λ new. new.items ≡ bytes.items ++ all_moved part.now first count before) }
     ensures err { IfErr result (λ fault. fault ≡ Memory) }

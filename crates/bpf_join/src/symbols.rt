@@ -74,8 +74,7 @@ fn with_own(
     raw: &[u8],
     bytes: Vec<u8>,
 ) -> Result<Vec<u8>, LinkFault>
-    requires few { length first.now.object.sections ≤ 65535 }
-    requires short { length places.now ≤ 1024 }
+    requires few { (length first.now.object.sections ≤ 65535) × (length places.now ≤ 1024) }
     requires size { length raw.now ≡ 24 }
     ensures ok { IfOk result (λ new. new.items
         ≡ bytes.items ++ own_symbol first.now second.now places.now records more raw.now) }

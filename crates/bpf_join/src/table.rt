@@ -195,8 +195,7 @@ fn with_second(second: &Plan<'_>, places: &Places, bytes: Vec<u8>) -> Result<Vec
 /// The section of the relocations of the code.
 fn relocations_header(first: &Plan<'_>, table: usize, places: &Places) -> SectionHeader
     requires table { table < length first.now.object.sections }
-    requires few { length first.now.object.sections ≤ 65535 }
-    requires code { first.now.parts.code.section ≤ 65535 }
+    requires few { (length first.now.object.sections ≤ 65535) × (first.now.parts.code.section ≤ 65535) }
     requires ordered { InOrder places.now }
     ensures { result ≡ relocations_header first.now table places.now }
 {
@@ -235,8 +234,8 @@ pub fn with_headers(
     places: &Places,
     bytes: Vec<u8>,
 ) -> Result<Vec<u8>, LinkFault>
-    requires table { table < length first.now.object.sections }
-    requires few { (length first.now.object.sections ≤ 65535) × (first.now.parts.code.section ≤ 65535) }
+    requires few { (table < length first.now.object.sections) × (length first.now.object.sections ≤ 65535)
+        × (first.now.parts.code.section ≤ 65535) }
     requires ordered { InOrder places.now }
     ensures ok { IfOk result (λ new. new.items ≡ bytes.items ++ headers first.now second.now table places.now) }
     ensures err { IfErr result (λ fault. fault ≡ Memory) }
