@@ -1,7 +1,7 @@
 //! The command line, as `clap` is told of it.
 ghost use Rattle.std.specs.Prelude.{◌≡◌, IfOk, false, fold};
 ghost use Rattle.clap.specs.Words.{app_of, new_app, rule_of, with_subcommand};
-ghost use Rattle.bpfdb_cli.specs.CommandLine.{bare_app, command_app, file_rule, journal_rule_with};
+ghost use Rattle.bpfdb_cli.specs.CommandLine.{bare_app, command_app, file_rule, journal_rule_with, lines_rule, registers_rule, section_rule, steps_rule};
 ghost use Rattle.bpfdb_cli.specs.Subcommands.{count_rule_of, entry_app, flag_rule, option_rule, text_rule, with_entry};
 
 use crate::help;
@@ -65,11 +65,7 @@ fn argument_of<'a>(alloc: Global, option: CliOption) -> Arg<'a>
         CliOption::Maps => text_option(alloc, "maps", "VxN,VxN", help::MAPS, help::MAPS_LONG),
         CliOption::Journal => journal_option(alloc, "65536"),
         CliOption::GdbJournal => journal_option(alloc, "4194304"),
-        CliOption::Steps => {
-            count_option(alloc, "steps", "N", help::STEPS, help::STEPS_LONG).default_value(
-                "1000000",
-            )
-        }
+        CliOption::Steps => steps_option(alloc),
         CliOption::From => {
             count_option(alloc, "from", "K", help::FROM, help::FROM_LONG).default_value("1")
         }
@@ -78,21 +74,8 @@ fn argument_of<'a>(alloc: Global, option: CliOption) -> Arg<'a>
         CliOption::Profile => flag(alloc, "profile", help::PROFILE),
         CliOption::Listing => flag(alloc, "listing", help::LISTING),
         CliOption::Object => flag(alloc, "object", help::OBJECT),
-        CliOption::Registers => text_option(
-            alloc,
-            "registers",
-            "NAME",
-            help::REGISTERS,
-            help::REGISTERS_LONG,
-        )
-        .default_value("x86"),
-        CliOption::Section => text_option(
-            alloc,
-            "section",
-            "NAME",
-            help::SECTION,
-            help::SECTION_LONG,
-        ),
+        CliOption::Registers => registers_option(alloc),
+        CliOption::Section => section_option(alloc),
         CliOption::Entry => text_option(alloc, "entry", "NAME", help::ENTRY, help::ENTRY_LONG),
         CliOption::Stub => text_option(alloc, "stub", "NUMBER=VALUE", help::STUB, help::STUB_LONG),
         CliOption::Script => {
@@ -101,13 +84,7 @@ fn argument_of<'a>(alloc: Global, option: CliOption) -> Arg<'a>
         CliOption::AsCompiled => flag(alloc, "as-compiled", help::AS_COMPILED),
         CliOption::With => text_option(alloc, "with", "OBJECT", help::WITH, help::WITH_LONG),
         CliOption::Joined => flag(alloc, "joined", help::JOINED),
-        CliOption::Lines => count_option(
-            alloc,
-            "lines",
-            "N",
-            help::LINES_MOST,
-            help::LINES_MOST_LONG,
-        ).default_value("1000"),
+        CliOption::Lines => lines_option(alloc),
         CliOption::Addresses => flag(alloc, "addresses", help::ADDRESSES),
         CliOption::Alone => flag(alloc, "alone", help::ALONE),
         CliOption::Only => text_option(alloc, "only", "NAME", help::ONLY, help::ONLY_LONG),
@@ -122,6 +99,41 @@ fn argument_of<'a>(alloc: Global, option: CliOption) -> Arg<'a>
             .value_name("WHAT")
             .help(help::GOAL),
     }
+}
+
+/// `--steps N`.
+fn steps_option<'a>(alloc: Global) -> Arg<'a>
+    ensures value { rule_of result ≡ steps_rule }
+    ensures local { result.global ≡ false }
+{
+    count_option(alloc, "steps", "N", help::STEPS, help::STEPS_LONG).default_value("1000000")
+}
+
+/// `--lines N`.
+fn lines_option<'a>(alloc: Global) -> Arg<'a>
+    ensures value { rule_of result ≡ lines_rule }
+    ensures local { result.global ≡ false }
+{
+    let (text, long_text) = (help::LINES_MOST, help::LINES_MOST_LONG);
+    count_option(alloc, "lines", "N", text, long_text).default_value("1000")
+}
+
+/// `--registers NAME`.
+fn registers_option<'a>(alloc: Global) -> Arg<'a>
+    ensures value { rule_of result ≡ registers_rule }
+    ensures local { result.global ≡ false }
+{
+    let (text, long_text) = (help::REGISTERS, help::REGISTERS_LONG);
+    text_option(alloc, "registers", "NAME", text, long_text).default_value("x86")
+}
+
+/// `--section NAME`.
+fn section_option<'a>(alloc: Global) -> Arg<'a>
+    ensures value { rule_of result ≡ section_rule }
+    ensures local { result.global ≡ false }
+{
+    let (text, long_text) = (help::SECTION, help::SECTION_LONG);
+    text_option(alloc, "section", "NAME", text, long_text)
 }
 
 /// `--journal J`, with a default.
