@@ -51,7 +51,20 @@ for compiler in $compilers; do
     # What is wanting, and what is wrong with either object.
     refused 'refused E25 at slot 0: unknown helper 8 (bpf_get_smp_processor_id): --with OBJECT or --stub 8=VALUE answers it: unanswered, slot 0' \
         link --with functions.o --section unanswered program.o
-    refused 'refused E8: no such code section: .text, time, text, trace, extern, cells, kind, unanswered' link --with functions.o --section none program.o
+    # All helpers of the kernel that nothing answers, each once: the first that is called, and the others by their numbers. What is answered isn't among them, by a
+    # function (5) or a stub; one that has no name stands there if it is the first.
+    way='--with OBJECT or --stub'
+    refused "refused E25 at slot 0: unknown helper 14 (bpf_get_current_pid_tgid), 5 (bpf_ktime_get_ns), 130 (bpf_ringbuf_output), 211 (bpf_cgrp_storage_delete): $way 14=VALUE answers it: several, slot 0" \
+        link --section several program.o
+    refused "refused E25 at slot 0: unknown helper 14 (bpf_get_current_pid_tgid), 130 (bpf_ringbuf_output), 211 (bpf_cgrp_storage_delete): $way 14=VALUE answers it: several, slot 0" \
+        link --with functions.o --section several program.o
+    "$program" link --section several --stub 14=0,5=0 program.o > words 2> told
+    count=$((count + 1))
+    grep -q "^refused E25 at slot [0-9]*: unknown helper 130 (bpf_ringbuf_output), 211 (bpf_cgrp_storage_delete): $way 130=VALUE answers it: several, slot [0-9]*$" told || complain "helpers behind stubs: $(cat told)"
+    "$program" link --section several --stub 14=0,5=0,130=0,211=0 program.o > words 2> told
+    count=$((count + 1))
+    grep -q '^refused E25 at slot [0-9]*: unknown helper 1000: --stub 1000=VALUE answers it: several, slot [0-9]*$' told || complain "a helper without a name: $(cat told)"
+    refused 'refused E8: no such code section: .text, time, text, trace, extern, cells, kind, unanswered, several' link --with functions.o --section none program.o
     printf 'none' > none.o
     refused 'refused E1: no ELF file' link --with functions.o none.o
     refused 'refused E1: no ELF file (--with)' link --with none.o --section time program.o

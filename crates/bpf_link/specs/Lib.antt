@@ -12,6 +12,7 @@ pub mod Patches
 pub mod Images
 pub mod Setup
 pub mod Stubs
+pub mod Missing
 pub mod StubLists
 pub mod MapTypes
 pub mod Links

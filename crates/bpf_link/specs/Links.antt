@@ -14,6 +14,7 @@ use Rattle.bpf_link.specs.declared.parts.Side.{Side}
 use Rattle.bpf_link.specs.declared.parts.Side.TheVariants.{Code, Text}
 use Rattle.bpf_link.specs.declared.plan.Plan.{Plan}
 use Rattle.bpf_link.specs.declared.patch.Patch.{Patch}
+use Rattle.bpf_link.specs.Missing.{others_in}
 use Rattle.bpf_link.specs.Objects.{provided, opened, section_at}
 use Rattle.bpf_link.specs.Parts.{Sides, first_of, part_of, slots_in}
 use Rattle.bpf_link.specs.Tables.{relocation_at, symbol_at}
@@ -147,8 +148,13 @@ plain_maps (suc n) = plain_maps n ++ record { value_size = 1; entries = 1 } ∷ 
 abbrev pub least_maps : ℕ → List MapShape → List MapShape
 least_maps own shapes = plain_maps own ++ shapes
 
--- What is told of words that the checker refuses: from where their slot comes; of a call of a helper that there isn't the helper's number, too.
+-- What is told of a slot that calls a helper which there isn't: the helper's number, from where the slot comes, and which others there aren't.
+abbrev pub helper_fault : Plan → List ℕ → ℕ → LinkFault
+helper_fault plan words slot =
+    let helper = u32_at words (8 * slot + 4) in Helper slot helper (source_of plan words slot) (others_in words helper)
+
+-- What is told of words that the checker refuses: from where their slot comes.
 abbrev pub told_of : Plan → List ℕ → LoadFault → LinkFault
-told_of plan words (At slot UnknownHelper) = Helper slot (u32_at words (8 * slot + 4)) (source_of plan words slot)
+told_of plan words (At slot UnknownHelper) = helper_fault plan words slot
 told_of plan words (At slot fault) = Program (At slot fault) (source_of plan words slot)
 told_of plan words refusal = Program refusal None

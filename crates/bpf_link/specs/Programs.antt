@@ -46,6 +46,12 @@ pub record IsProgram (plan : Plan) (slot : ℕ) (reach : List Bool) (stubs : Lis
   pub own : HasOwnMaps plan program
   pub possible : AllShapes program.data_maps.items
 
+-- A program with the shapes and the names of its maps.
+pub record IsShaped (plan : Plan) (made : Made) (program : Linked) : Type 0 where
+  pub same : linked_of program ≡ made
+  pub shapes : HasShapes plan program.shapes.items
+  pub names : HasNames plan program.names.items
+
 -- A program that is made of a plan. The checker accepts its words, for maps that have at least one byte.
 pub record IsMade (plan : Plan) (slot : ℕ) (reach : List Bool) (stubs : List Stub) (program : Linked) : Type 0 where
   pub ok : program_of slot reach stubs plan ≡ Ok (linked_of program)

@@ -1,7 +1,9 @@
 //! Faults: why no program is made of an object.
 ghost use Rattle.std.specs.Prelude.{◌≡◌};
+ghost use Rattle.bpf_btf.specs.Faults.{btf_fault};
 ghost use Rattle.bpf_isa.specs.declared.fault.LoadFault.{LoadFault};
 
+use crate::missing::ALL_HELPERS;
 use crate::sources::Source;
 use bpf_btf::BtfFault;
 use bpf_isa::{LoadFault, PieceFault};
@@ -96,11 +98,13 @@ pub enum LinkFault {
     /// The code section has no function of the name that is asked for, or it begins at no slot of it.
     NoEntry,
     /// The words at this slot, which comes from this one of the object, call the helper of this
-    /// number, which the machine doesn't have.
+    /// number, which the machine doesn't have. Of each number of the kernel's list it is said whether
+    /// the words call that one, too, and the machine doesn't have it.
     Helper {
         slot: usize,
         helper: u32,
         source: Option<Source>,
+        others: [bool; ALL_HELPERS],
     },
     /// A text is no list of stubs.
     StubList,
@@ -132,6 +136,14 @@ pub enum LinkFault {
         at: usize,
         fault: BtfFault,
     },
+}
+
+/// The number and the text of a fault of BTF.
+fn btf_row(fault: BtfFault) -> (u8, &'static str)
+    ensures number { result.0 ≡ (btf_fault fault).0 }
+    ensures text { result.1.now ≡ (btf_fault fault).1 }
+{
+    (fault.number(), fault.text())
 }
 
 impl RelocationFault {
@@ -182,7 +194,7 @@ impl LinkFault {
             LinkFault::Symbol(_) => (18, "relocation against no symbol"),
             LinkFault::Relocation { fault, .. } => fault.row(),
             LinkFault::Program { fault, .. } => (25, fault.text()),
-            LinkFault::Memory => (BtfFault::Memory.number(), BtfFault::Memory.text()),
+            LinkFault::Memory => btf_row(BtfFault::Memory),
             LinkFault::LongData => (27, "data longer than 65536 bytes"),
             LinkFault::DataSection => (28, "malformed data section"),
             LinkFault::Pointer { .. } => (29, "address in data of what is no data"),
@@ -197,10 +209,7 @@ impl LinkFault {
             LinkFault::ManyRecords => (37, "more than 1024 maps"),
             LinkFault::ManyWanted => (38, "more than 256 undefined symbols"),
             LinkFault::Pointers => (39, "addresses in the data of an object of functions"),
-            LinkFault::Types(fault) | LinkFault::Map { fault, .. } => (
-                fault.number(),
-                fault.text(),
-            ),
+            LinkFault::Types(fault) | LinkFault::Map { fault, .. } => btf_row(fault),
         }
     }
 

@@ -13,6 +13,7 @@ mod layout;
 mod linker;
 mod map_names;
 mod map_types;
+mod missing;
 mod names;
 mod object;
 mod parts;
@@ -44,6 +45,7 @@ pub use linker::{LinkOptions, Linked, link, link_with, planned};
 pub use map_types::{
     are_in_maps, name_from, name_place, section_bytes, symbol_of, told_of_types, types_in,
 };
+pub use missing::ALL_HELPERS;
 pub use names::{fault_names, short_at};
 pub use object::Object;
 pub use parts::{Part, Parts, Side};

@@ -1,18 +1,16 @@
 //! The linker: from an object to the words of a program.
-ghost use Rattle.std.specs.Prelude.{◌≡◌, ◌≤◌, ◌<◌, ◌+◌, List, [], length, false, IfOk, IfErr, Ok};
+ghost use Rattle.std.specs.Prelude.{◌≡◌, ◌≤◌, ◌<◌, ◌+◌, ◌*◌, List, [], length, false, IfOk, IfErr, Ok};
 ghost use Rattle.bpf_isa.specs.Checker.{IsRefused, most_slots};
 ghost use Rattle.bpf_isa.specs.declared.maps.MapShape.{MapShape};
 ghost use Rattle.bpf_isa.specs.Maps.{IsShape, most_maps};
 ghost use Rattle.bpf_link.specs.Data.{AllBelow, HasMaps, numbered};
-ghost use Rattle.bpf_link.specs.MapNames.{HasNames};
-ghost use Rattle.bpf_link.specs.Links.{AllShapes, MemoryOr, planned, program_of, program_words, plain_maps, least_maps, data_shape, data_shapes, told_of};
+ghost use Rattle.bpf_link.specs.Links.{AllShapes, MemoryOr, planned, program_of, program_words, plain_maps, least_maps, data_shape, data_shapes, helper_fault, told_of};
 ghost use Rattle.bpf_link.specs.declared.fault.LinkFault.TheVariants.{Memory};
-ghost use Rattle.bpf_link.specs.Programs.{HasOwnMaps, IsLinked, IsLinkRefusal, IsLinkedAs, IsMade, IsProgram, linked_of, made_of};
+ghost use Rattle.bpf_link.specs.Programs.{HasOwnMaps, IsLinked, IsLinkRefusal, IsLinkedAs, IsMade, IsProgram, IsShaped, made_of};
 ghost use Rattle.bpf_link.specs.Parts.{slots_in};
 ghost use Rattle.bpf_link.specs.Pruned.{flow_of};
 ghost use Rattle.bpf_link.specs.Reach.{IsReach};
 ghost use Rattle.bpf_link.specs.Refusals.{IsLinkFault, IsPlanFault, IsShapeFault};
-ghost use Rattle.bpf_link.specs.Shapes.{HasShapes};
 
 use crate::data_sections::data_of;
 use crate::entry::entry_of;
@@ -20,6 +18,7 @@ use crate::fault::LinkFault;
 use crate::field_relocations::fields_as_compiled;
 use crate::fields::u32_at;
 use crate::map_names::map_names;
+use crate::missing::others_in;
 use crate::object::open;
 use crate::placed::Placed;
 use crate::plan::{Plan, plan_of};
@@ -279,9 +278,7 @@ fn program_of(
 /// A program with the shapes of its maps, and no relocations of fields yet.
 fn with_shapes(alloc: Global, plan: &Plan<'_>, program: Program) -> Result<Linked, LinkFault>
     requires { HasOwnMaps plan.now program }
-    ensures same { IfOk result (λ linked. linked_of linked ≡ made_of program) }
-    ensures shapes { IfOk result (λ linked. HasShapes plan.now linked.shapes.items) }
-    ensures names { IfOk result (λ linked. HasNames plan.now linked.names.items) }
+    ensures ok { IfOk result (IsShaped plan.now (made_of program)) }
     ensures err { IfErr result (IsShapeFault plan.now) }
 {
     let own = program.maps.as_slice();
@@ -413,6 +410,20 @@ fn link_words(alloc: Global, object: &[u8], options: &LinkOptions<'_>) -> Result
     }
 }
 
+/// What is told of words whose slot calls a helper that there isn't.
+fn helper_fault(plan: &Plan<'_>, words: &[u8], slot: usize) -> LinkFault
+    requires { 8 * slot + 8 ≤ length words.now }
+    ensures { result ≡ helper_fault plan.now words.now slot }
+{
+    let helper = u32_at(words, 8 * slot + 4);
+    LinkFault::Helper {
+        slot,
+        helper,
+        source: source_of(plan, words, slot),
+        others: others_in(words, helper),
+    }
+}
+
 /// What is told of words that the checker refuses.
 fn told_of(plan: &Plan<'_>, words: &[u8], fault: LoadFault) -> LinkFault
     requires { (maps : List MapShape) × IsRefused words.now maps fault }
@@ -422,11 +433,7 @@ fn told_of(plan: &Plan<'_>, words: &[u8], fault: LoadFault) -> LinkFault
         LoadFault::At {
             slot,
             fault: PieceFault::UnknownHelper,
-        } => LinkFault::Helper {
-            slot,
-            helper: u32_at(words, 8 * slot + 4),
-            source: source_of(plan, words, slot),
-        },
+        } => helper_fault(plan, words, slot),
         LoadFault::At { slot, .. } => LinkFault::Program {
             fault,
             source: source_of(plan, words, slot),

@@ -1,7 +1,8 @@
 -- Why a job isn't done, as a line on standard error. bpfdb's own choice.
-use Rattle.std.specs.Prelude.{ℕ, List, [], ◌∷◌, ◌++◌, Option, Some, None, codes, decimal}
+use Rattle.std.specs.Prelude.{ℕ, Bool, false, List, [], ◌∷◌, ◌++◌, Option, Some, None, codes, decimal, get_or, length, if◌then◌else◌}
 use Rattle.bpf_link.specs.Faults.{link_fault}
 use Rattle.bpf_link.specs.Helpers.{helper_name}
+use Rattle.bpf_link.specs.Names.{built}
 use Rattle.bpf_link.specs.declared.fault.LinkFault.{LinkFault}
 use Rattle.bpf_link.specs.declared.fault.LinkFault.TheVariants as linking
 use Rattle.bpf_link.specs.declared.sources.Source.{Source}
@@ -23,16 +24,34 @@ use Rattle.bpfdb_faults.specs.declared.refusal.JobRefusal.TheVariants.{Maps, Lis
 abbrev pub refused_line : List ℕ → ℕ → Option ℕ → List ℕ → List ℕ
 refused_line family number line text = text_of_refusal family number (codes " at line ") line text ++ codes "\n"
 
--- What stands behind the text of an object's fault: of a call of a helper that there isn't its number, its name in the kernel, if it has one, and the
--- option that answers it.
-abbrev pub helper_text : ℕ → List ℕ → List ℕ
-helper_text helper [] = codes " " ++ decimal helper ++ codes ": --stub " ++ decimal helper ++ codes "=VALUE answers it"
-helper_text helper (byte ∷ bytes) =
-    codes " " ++ decimal helper ++ codes " (bpf_" ++ (byte ∷ bytes) ++ codes "): --with OBJECT or --stub " ++ decimal helper ++ codes "=VALUE answers it"
+-- A helper: its number, and its name in the kernel, if it has one.
+abbrev pub label_text : ℕ → List ℕ → List ℕ
+label_text helper [] = decimal helper
+label_text helper (byte ∷ bytes) = decimal helper ++ codes " (bpf_" ++ (byte ∷ bytes) ++ codes ")"
+
+-- The options that answer it: functions are found by names.
+abbrev pub answer_text : ℕ → List ℕ → List ℕ
+answer_text helper [] = codes ": --stub " ++ decimal helper ++ codes "=VALUE answers it"
+answer_text helper (byte ∷ bytes) = codes ": --with OBJECT or --stub " ++ decimal helper ++ codes "=VALUE answers it"
+
+-- Those that there aren't, besides the first one, by their numbers.
+abbrev pub other_text : Bool → ℕ → List ℕ
+other_text is_other helper = if is_other then codes ", " ++ label_text helper (helper_name helper) else []
+
+abbrev pub with_other : List Bool → ℕ → List ℕ → List ℕ
+with_other others helper text = text ++ other_text (get_or others helper false) helper
+
+abbrev pub others_text : List Bool → List ℕ
+others_text others = built (with_other others) (length others)
+
+-- What stands behind the text of an object's fault: of a call of a helper that there isn't this helper, all others that there aren't, and what answers it.
+abbrev pub helpers_text : ℕ → List Bool → List ℕ
+helpers_text helper others =
+    codes " " ++ label_text helper (helper_name helper) ++ others_text others ++ answer_text helper (helper_name helper)
 
 -- Of relocations of fields it is how many there are, and the option that leaves them; else the option that chooses a section or a function.
 abbrev pub more_of : LinkFault → List ℕ
-more_of (linking.Helper slot helper source) = helper_text helper (helper_name helper)
+more_of (linking.Helper slot helper source others) = helpers_text helper others
 more_of (linking.Fields count slot at) = codes ", " ++ decimal count ++ codes " in all: --as-compiled leaves them undone"
 more_of linking.ManySections = codes ": --section NAME chooses one"
 more_of linking.ManyPrograms = codes ": --entry NAME chooses one"
@@ -43,7 +62,7 @@ abbrev pub slot_of_words : LinkFault → Option ℕ
 slot_of_words (linking.Symbol slot) = Some slot
 slot_of_words (linking.Relocation fault slot at) = Some slot
 slot_of_words (linking.Program fault source) = slot_of fault
-slot_of_words (linking.Helper slot helper source) = Some slot
+slot_of_words (linking.Helper slot helper source others) = Some slot
 slot_of_words (linking.Fields count slot at) = Some slot
 slot_of_words fault = None
 
@@ -59,7 +78,7 @@ source_text None = []
 
 abbrev pub origin_text : LinkFault → List ℕ
 origin_text (linking.Program fault source) = source_text source
-origin_text (linking.Helper slot helper source) = source_text source
+origin_text (linking.Helper slot helper source others) = source_text source
 origin_text fault = []
 
 abbrev pub object_text : LinkFault → List ℕ → List ℕ

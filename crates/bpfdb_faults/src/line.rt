@@ -1,9 +1,9 @@
 //! The line of a fault.
-ghost use Rattle.std.specs.Prelude.{◌≡◌, ◌++◌, codes};
+ghost use Rattle.std.specs.Prelude.{◌≡◌, ◌≤◌, ◌++◌, codes, length};
 ghost use Rattle.counted_io.specs.Writing.{WritesAfter};
 ghost use Rattle.bpf_link.specs.Helpers.{helper_name};
 ghost use Rattle.bpf_suite.specs.Refusals.{refusal_text};
-ghost use Rattle.bpfdb_faults.specs.Faults.{helper_text, line_of, more_of, name_text, object_text, origin_text, refusal_line, refused_line, slot_of_words, source_text};
+ghost use Rattle.bpfdb_faults.specs.Faults.{answer_text, helpers_text, label_text, line_of, more_of, name_text, object_text, origin_text, other_text, others_text, refusal_line, refused_line, slot_of_words, source_text};
 
 use crate::fault::JobFault;
 use crate::refusal::JobRefusal;
@@ -202,7 +202,7 @@ fn put_more<E: Write>(
     ensures { WritesAfter E.contents errors.old so_far errors.new result (more_of fault.now) }
 {
     match fault {
-        LinkFault::Helper { helper, .. } => put_helper(errors, so_far, *helper),
+        LinkFault::Helper { helper, others, .. } => put_helpers(errors, so_far, *helper, others),
         LinkFault::Fields { count, .. } => {
             let pieces = [
                 Piece::Text(b", "),
@@ -217,22 +217,45 @@ fn put_more<E: Write>(
     }
 }
 
-/// Writes the number of a helper, its name in the kernel, and the option that answers it.
-fn put_helper<E: Write>(
+/// Writes the number of a helper, and its name in the kernel, if it has one.
+fn put_label<E: Write>(
     errors: &mut Counted<E>,
     so_far: Result<(), WriteFault>,
     helper: u32,
 ) -> Result<(), WriteFault>
     ensures { WritesAfter E.contents errors.old so_far errors.new result
-        (helper_text helper (helper_name helper)) }
+        (label_text helper (helper_name helper)) }
+{
+    let number = u64::from(helper);
+    let name = helper_name(helper);
+    match name {
+        [] => put_all(errors, so_far, &[Piece::Decimal(number)]),
+        _ => {
+            let pieces = [
+                Piece::Decimal(number),
+                Piece::Text(b" (bpf_"),
+                Piece::Text(name),
+                Piece::Text(b")"),
+            ];
+            put_all(errors, so_far, &pieces)
+        }
+    }
+}
+
+/// Writes the options that answer a helper.
+fn put_answer<E: Write>(
+    errors: &mut Counted<E>,
+    so_far: Result<(), WriteFault>,
+    helper: u32,
+) -> Result<(), WriteFault>
+    ensures { WritesAfter E.contents errors.old so_far errors.new result
+        (answer_text helper (helper_name helper)) }
 {
     let number = u64::from(helper);
     let name = helper_name(helper);
     match name {
         [] => {
             let pieces = [
-                Piece::Text(b" "),
-                Piece::Decimal(number),
                 Piece::Text(b": --stub "),
                 Piece::Decimal(number),
                 Piece::Text(b"=VALUE answers it"),
@@ -241,17 +264,63 @@ fn put_helper<E: Write>(
         }
         _ => {
             let pieces = [
-                Piece::Text(b" "),
-                Piece::Decimal(number),
-                Piece::Text(b" (bpf_"),
-                Piece::Text(name),
-                Piece::Text(b"): --with OBJECT or --stub "),
+                Piece::Text(b": --with OBJECT or --stub "),
                 Piece::Decimal(number),
                 Piece::Text(b"=VALUE answers it"),
             ];
             put_all(errors, so_far, &pieces)
         }
     }
+}
+
+/// Writes one of the other helpers, if it is one.
+fn put_other<E: Write>(
+    errors: &mut Counted<E>,
+    so_far: Result<(), WriteFault>,
+    is_other: bool,
+    helper: u32,
+) -> Result<(), WriteFault>
+    ensures { WritesAfter E.contents errors.old so_far errors.new result
+        (other_text is_other helper) }
+{
+    if !is_other {
+        return put(errors, so_far, b"");
+    }
+    let begun = put(errors, so_far, b", ");
+    put_label(errors, begun, helper)
+}
+
+/// Writes the other helpers.
+fn put_others<E: Write>(
+    errors: &mut Counted<E>,
+    so_far: Result<(), WriteFault>,
+    others: &[bool],
+) -> Result<(), WriteFault>
+    requires { length others.now ≤ 212 }
+    ensures { WritesAfter E.contents errors.old so_far errors.new result (others_text others.now) }
+{
+    let mut told = so_far;
+    for helper in 0..others.len() {
+        told = put_other(errors, told, others[helper], helper as u32);
+    }
+    told
+}
+
+/// Writes the helpers that there aren't, the first one and the others, and what answers the first.
+fn put_helpers<E: Write>(
+    errors: &mut Counted<E>,
+    so_far: Result<(), WriteFault>,
+    helper: u32,
+    others: &[bool],
+) -> Result<(), WriteFault>
+    requires { length others.now ≤ 212 }
+    ensures { WritesAfter E.contents errors.old so_far errors.new result
+        (helpers_text helper others.now) }
+{
+    let begun = put(errors, so_far, b" ");
+    let named = put_label(errors, begun, helper);
+    let listed = put_others(errors, named, others);
+    put_answer(errors, listed, helper)
 }
 
 /// The slot of an object's fault, where the words that are linked have one, or a relocation.

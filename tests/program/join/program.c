@@ -57,3 +57,10 @@ SEC("kind") u64 of_kind(void *context)
 }
 
 SEC("unanswered") u64 missing(void *context) { return bpf_get_smp_processor_id(); }
+
+/* the kernel's helpers 14, 5, 130 and 5 again, one without a name, and 211, the last one with a name */
+#define HELPER(number) ((u64 (*)(void))(long)(number))()
+SEC("several") u64 unknown(void *context)
+{
+    return HELPER(14) + HELPER(5) + HELPER(130) + HELPER(5) + HELPER(1000) + HELPER(211);
+}
