@@ -1,12 +1,10 @@
 -- What a job of `whynot` prints where it asks, and why it is refused.
-use Rattle.std.proofs.Common.{◌≡◌, ◌==◌, ◌⊎◌, inl, inr, ◌∙◌, ℕ, Bool, List, Ok, Err, ap, subst, sym, length}
+use Rattle.std.proofs.Common.{◌≡◌, ◌==◌, inl, inr, ◌∙◌, ℕ, Bool, List, Ok, Err, ap, subst, sym, length}
 use Rattle.bpf_journal.specs.Histories.{Record}
 use Rattle.bpf_journal.specs.Timelines.{Moment}
 use Rattle.bpf_ring.specs.declared.fault.JournalFault.TheVariants.{OutOfMemory}
 use Rattle.bpf_ring.specs.declared.keeper.RingKeeper.{RingKeeper}
-use Rattle.bpf_isa.specs.Programs.{Checked}
 use Rattle.bpf_steps.specs.State.{State}
-use Rattle.bpf_origin.specs.declared.question.Question.{Question}
 use Rattle.bpf_whynot.specs.Answers.{Query, why_not}
 use Rattle.bpf_whynot.specs.Asked.{goals_in}
 use Rattle.bpf_whynot.specs.Reach.{TellsReach}

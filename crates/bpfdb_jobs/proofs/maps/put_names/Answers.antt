@@ -1,4 +1,4 @@
-use Rattle.std.proofs.Common.{◌≡◌, ap, sym, subst, length, add-one, arith}
+use Rattle.std.proofs.Common.{◌≡◌, ap, sym, length, add-one, arith}
 use Rattle.counted_io.proofs.Appending.{WritesAfter-WritesAfter, WritesAfter-text}
 use Rattle.bpf_link.specs.Names.{built}
 use Rattle.bpfdb_replies.proofs.Telling.{WritesAfter-nothing}
