@@ -5,3 +5,4 @@ pub mod Steps
 pub mod Branching
 pub mod Counting
 pub mod TheRuns
+pub mod Telling

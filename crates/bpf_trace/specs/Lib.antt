@@ -5,3 +5,4 @@ pub mod Laws
 pub mod Branches
 pub mod Texts
 pub mod Lines
+pub mod Tellings

@@ -13,3 +13,8 @@ steps_of (suc limit) x = if has_ended x.status then [] else x ∷ steps_of limit
 -- A state that such a run comes by.
 abbrev pub IsOnTheWay : ℕ → State → State → Type 0
 IsOnTheWay limit x y = (n : ℕ) × (n ≤ limit) × Steps x y n
+
+-- So many steps were taken, of at most so many.
+pub record Takes (most : ℕ) (x y : State) (n : ℕ) : Type 0 where
+  pub steps : Steps x y n
+  pub within : n ≤ most

@@ -14,5 +14,4 @@ mod trace;
 
 pub use ending::put_limit;
 pub use profile::{Profile, put_profile};
-pub use texts::Texts;
-pub use trace::{Shown, write_trace};
+pub use trace::{Shown, TraceFault, write_trace};

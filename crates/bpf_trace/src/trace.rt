@@ -1,10 +1,10 @@
 //! The trace of a run.
-ghost use Rattle.std.specs.Prelude.{◌≡◌, ◌≤◌, ◌<◌, ◌+◌, ◌-◌, ◌^◌, OnOk, false};
+ghost use Rattle.std.specs.Prelude.{◌≡◌, ◌<◌, ◌+◌, ◌-◌, ◌^◌, OnOk, false};
 ghost use Rattle.bpf_entries.specs.Status.{has_ended};
 ghost use Rattle.bpf_steps.specs.Next.{next};
-ghost use Rattle.bpf_steps.specs.Runs.{Steps};
 ghost use Rattle.bpf_session.specs.Plain.{plain_end};
-ghost use Rattle.bpf_trace.specs.Runs.{IsOnTheWay, steps_of};
+ghost use Rattle.bpf_trace.specs.Runs.{IsOnTheWay, Takes, steps_of};
+ghost use Rattle.bpf_trace.specs.Tellings.{Tells};
 ghost use Rattle.bpf_trace.specs.Texts.{texts_of};
 ghost use Rattle.bpf_trace.specs.Traces.{line_of, lines_from, trace_text};
 ghost use Rattle.counted_io.specs.Writing.{WritesAfter};
@@ -16,6 +16,7 @@ use crate::step::put_step;
 use crate::texts::Texts;
 use bpf_machine::Cpu;
 use counted_io::{Counted, WriteFault};
+use std::alloc::Global;
 use std::io::Write;
 
 /// Which steps of a run are shown.
@@ -47,15 +48,46 @@ pub struct Taken {
     pub steps: u64,
 }
 
+/// Why a run isn't told to its end.
+#[derive(Clone, Copy)]
+pub enum TraceFault {
+    /// Memory ran out, before the first step.
+    Memory,
+    /// A write failed.
+    Write,
+}
+
 /// Runs a machine to its end, or to a limit of steps, and writes a line of each step that is shown:
-/// its number, its instruction by the texts of the program, and each place that it wrote, with the
-/// value there after it; or of the conditional jumps among them, each with the registers that it
-/// compared and which way it went. The last line says where the machine stands: how it ended, or that
-/// the limit is reached.
+/// its number, its instruction, and each place that it wrote, with the value there after it; or of the
+/// conditional jumps among them, each with the registers that it compared and which way it went. The
+/// last line says where the machine stands: how it ended, or that the limit is reached.
 ///
-/// Steps before the first that is shown, and those behind the last, cost no more than in a run
-/// without history. A write that fails ends it early, with the machine at some state of the run.
+/// All memory, for the texts of the program's instructions, is taken before the first step. Steps
+/// before the first that is shown, and those behind the last, cost no more than in a run without
+/// history. A write that fails ends it early, with the machine at some state of the run.
 pub fn write_trace<W: Write>(
+    alloc: Global,
+    cpu: &mut Cpu,
+    limit: u64,
+    shown: Shown,
+    writer: &mut Counted<W>,
+) -> Result<(), TraceFault>
+    ensures text { Tells W.contents writer.old writer.new result (trace_text limit shown cpu.old) }
+    ensures next { OnOk result (cpu.new ≡ plain_end limit cpu.old) }
+    ensures way { IsOnTheWay limit cpu.old cpu.new }
+{
+    let texts = match Texts::of(alloc, cpu.program()) {
+        Ok(texts) => texts,
+        Err(_) => return Err(TraceFault::Memory),
+    };
+    match put_trace(cpu, limit, shown, &texts, writer, Ok(())) {
+        Ok(()) => Ok(()),
+        Err(WriteFault) => Err(TraceFault::Write),
+    }
+}
+
+/// Runs a machine, and writes its trace by the texts of its program.
+fn put_trace<W: Write>(
     cpu: &mut Cpu,
     limit: u64,
     shown: Shown,
@@ -102,8 +134,7 @@ fn put_steps<W: Write>(
     requires texts { texts.now ≡ texts_of cpu.old.program }
     ensures text { WritesAfter W.contents writer.old so_far writer.new result.written
         (lines_from only_branches (passed + 1) (steps_of most cpu.old)) }
-    ensures steps { Steps cpu.old cpu.new result.steps }
-    ensures within { result.steps ≤ most }
+    ensures taken { Takes most cpu.old cpu.new result.steps }
 {
     let mut line = Line::new();
     let mut told = so_far;

@@ -1,6 +1,6 @@
 -- The exit status of a plan.
 use Rattle.std.proofs.Common.{ℕ, ◌≡◌, ◌≢◌, ◌∙◌, Bool, true, false, List, Option, subst}
-use Rattle.counted_io.specs.Counted.{Tally}
+use Rattle.bpfdb_faults.specs.Streams.{Stream}
 use Rattle.bpfdb_cli.specs.declared.plans.Plan.{Plan}
 use Rattle.bpfdb_jobs.specs.Objects.{links_first}
 use Rattle.bpfdb_jobs.specs.Statuses.{EndsAs, EndsWith}
@@ -11,17 +11,17 @@ use Rattle.bpfdb_options.specs.declared.subcommand.Subcommand.TheVariants.{Debug
 use Rattle.bpfdb.specs.Done.{DoesPlan, Done, EndsPlanWith, Unread}
 
 -- It is that of the plan's job, unless it is 2.
-pub ends_plan_with : {R W E : Type 0} (bytes_at : List ℕ → Option (List ℕ)) (remaining : R → Option (List ℕ)) (contents : W → Option (List ℕ))
-    (lines : E → Option (List ℕ)) (at_terminal : Bool) (plan : Plan) (reader reader' : Tally R) (writer writer' : Tally W) (errors errors' : Tally E) (status : ℕ)
-    → DoesPlan bytes_at remaining contents lines at_terminal plan reader reader' writer writer' errors errors' status → status ≢ 2 → EndsPlanWith plan status
-ends_plan_with bytes_at remaining contents lines at_terminal plan r r' w w' e e' status (Unread fault why same kept told two) other = absurd (other two)
-ends_plan_with bytes_at remaining contents lines at_terminal plan r r' w w' e e' status (Done of_file of_path of_other job are is does) other = record {
+pub ends_plan_with : {R W E : Type 0} (reader : Stream R) (writer : Stream W) (errors : Stream E) (bytes_at : List ℕ → Option (List ℕ))
+    (at_terminal : Bool) (plan : Plan) (status : ℕ) → DoesPlan bytes_at at_terminal plan reader writer errors status → status ≢ 2
+    → EndsPlanWith plan status
+ends_plan_with reader writer errors bytes_at at_terminal plan status (Unread fault why same kept told two) other = absurd (other two)
+ends_plan_with reader writer errors bytes_at at_terminal plan status (Done of_file of_path of_other job are is does) other = record {
   of_file = of_file;
   of_path = of_path;
   of_other = of_other;
   job = job;
   is = is;
-  ends = ends_with remaining contents lines job.subcommand job r r' w w' e does.told status does.does other;
+  ends = ends_with reader writer (record errors { new = does.told }) job.subcommand job status does.does other;
 }
 
 -- Of a job of `debug` it is 0 then.

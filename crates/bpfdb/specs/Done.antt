@@ -2,7 +2,7 @@
 use Rattle.std.specs.Prelude.{ℕ, ◌≡◌, Bool, List, Option, Some}
 use Rattle.bpfdb_cli.specs.declared.plans.Plan.{Plan}
 use Rattle.bpfdb_jobs.specs.Done.{DoesJob}
-use Rattle.bpfdb_faults.specs.Streams.{Gets, Loses, Told}
+use Rattle.bpfdb_faults.specs.Streams.{Gets, Loses, Stream, Told}
 use Rattle.bpfdb_faults.specs.Faults.{line_of}
 use Rattle.bpfdb_jobs.specs.Hints.{AddsHint}
 use Rattle.bpfdb_jobs.specs.Statuses.{EndsWith}
@@ -14,22 +14,20 @@ use Rattle.bpfdb.specs.Jobs.{IsJobOf}
 use Rattle.counted_io.specs.Counted.{Tally}
 
 -- A job is done, and its hint follows on standard error where that is a terminal.
-pub record DoesHinted {R W E : Type 0} (remaining : R → Option (List ℕ)) (contents : W → Option (List ℕ)) (lines : E → Option (List ℕ))
-    (at_terminal : Bool) (job : Job) (reader reader' : Tally R) (writer writer' : Tally W) (errors errors' : Tally E) (status : ℕ) : Type 0 where
+pub record DoesHinted {R W E : Type 0} (at_terminal : Bool) (job : Job) (reader : Stream R) (writer : Stream W) (errors : Stream E) (status : ℕ)
+    : Type 0 where
   pub told : Tally E
-  pub does : DoesJob remaining contents lines job.subcommand job reader reader' writer writer' errors told status
-  pub adds : AddsHint lines at_terminal job status told errors'
+  pub does : DoesJob job.subcommand job reader writer (record errors { new = told }) status
+  pub adds : AddsHint at_terminal job status (record errors { old = told })
 
 -- Its files can't be read, which is told, and nothing else happens; or they are, and its job is done.
-pub data DoesPlan {R W E : Type 0} (bytes_at : List ℕ → Option (List ℕ)) (remaining : R → Option (List ℕ)) (contents : W → Option (List ℕ))
-    (lines : E → Option (List ℕ)) (at_terminal : Bool) (plan : Plan) (reader reader' : Tally R) (writer writer' : Tally W)
-    (errors errors' : Tally E) (status : ℕ) : Type 0 where
-  Unread : (fault : JobFault) → IsUnread bytes_at plan fault → reader' ≡ reader → writer' ≡ writer → Told lines errors errors' (line_of fault)
-      → status ≡ 2 → DoesPlan bytes_at remaining contents lines at_terminal plan reader reader' writer writer' errors errors' status
+pub data DoesPlan {R W E : Type 0} (bytes_at : List ℕ → Option (List ℕ)) (at_terminal : Bool) (plan : Plan) (reader : Stream R) (writer : Stream W)
+    (errors : Stream E) (status : ℕ) : Type 0 where
+  Unread : (fault : JobFault) → IsUnread bytes_at plan fault → reader.new ≡ reader.old → writer.new ≡ writer.old → Told errors (line_of fault)
+      → status ≡ 2 → DoesPlan bytes_at at_terminal plan reader writer errors status
   Done : (of_file of_path of_other : List ℕ) → (job : Job) → AreRead bytes_at plan of_file of_path of_other
-      → IsJobOf plan of_file of_path of_other job
-      → DoesHinted remaining contents lines at_terminal job reader reader' writer writer' errors errors' status
-      → DoesPlan bytes_at remaining contents lines at_terminal plan reader reader' writer writer' errors errors' status
+      → IsJobOf plan of_file of_path of_other job → DoesHinted at_terminal job reader writer errors status
+      → DoesPlan bytes_at at_terminal plan reader writer errors status
 
 -- A status other than 2 is that of its job, over some bytes of its files.
 pub record EndsPlanWith (plan : Plan) (status : ℕ) : Type 0 where
@@ -41,11 +39,7 @@ pub record EndsPlanWith (plan : Plan) (status : ℕ) : Type 0 where
   pub ends : EndsWith job.subcommand job status
 
 -- A text was written as help; or a beginning of it; or memory ran out, and nothing was written.
-pub data Helps {W E : Type 0} (contents : W → Option (List ℕ)) (lines : E → Option (List ℕ)) (writer writer' : Tally W)
-    (errors errors' : Tally E) (status : ℕ) : Type 0 where
-  Shown : (text : List ℕ) → Gets contents writer writer' (Some text) → errors' ≡ errors → status ≡ 0
-      → Helps contents lines writer writer' errors errors' status
-  Lost : (text : List ℕ) → Loses contents writer writer' (Some text) → Told lines errors errors' (line_of Output) → status ≡ 2
-      → Helps contents lines writer writer' errors errors' status
-  Exhausted : writer' ≡ writer → Told lines errors errors' (line_of Memory) → status ≡ 2
-      → Helps contents lines writer writer' errors errors' status
+pub data Helps {W E : Type 0} (writer : Stream W) (errors : Stream E) (status : ℕ) : Type 0 where
+  Shown : (text : List ℕ) → Gets writer (Some text) → errors.new ≡ errors.old → status ≡ 0 → Helps writer errors status
+  Lost : (text : List ℕ) → Loses writer (Some text) → Told errors (line_of Output) → status ≡ 2 → Helps writer errors status
+  Exhausted : writer.new ≡ writer.old → Told errors (line_of Memory) → status ≡ 2 → Helps writer errors status

@@ -5,6 +5,7 @@ ghost use Rattle.bpfdb.specs.Jobs.{IsJobOf};
 ghost use Rattle.bpfdb_jobs.specs.declared.job.Job.{Job};
 ghost use Rattle.bpfdb_limits.specs.Limits.{IsLimit};
 ghost use Rattle.counted_io.specs.Writing.{Writes};
+ghost use Rattle.bpfdb_faults.specs.Streams.{stream};
 
 use crate::files::{kind_of, read_given, read_named};
 use crate::job::job_of;
@@ -30,8 +31,9 @@ pub fn do_plan<F: Opener, R: Read, W: Write, E: Write>(
     errors: &mut Counted<E>,
 ) -> u8
     requires limit { IsLimit plan.now.options.limit }
-    ensures does { DoesPlan (F.bytes_at files.now) R.remaining W.contents E.contents at_terminal
-        plan.now reader.old reader.new writer.old writer.new errors.old errors.new result }
+    ensures does { DoesPlan (F.bytes_at files.now) at_terminal plan.now
+        (stream R.remaining reader.old reader.new) (stream W.contents writer.old writer.new)
+        (stream E.contents errors.old errors.new) result }
     ensures status { result ≤ 2 }
 {
     let file = match read_named(alloc, files, plan.file, kind_of(plan)) {
@@ -74,8 +76,8 @@ fn do_read<R: Read, W: Write, E: Write>(
 ) -> u8
     requires limit { IsLimit plan.now.options.limit }
     ensures does { (job : Job) × IsJobOf plan.now file.now context.now other.now job
-        × DoesHinted R.remaining W.contents E.contents at_terminal job reader.old reader.new
-        writer.old writer.new errors.old errors.new result }
+        × DoesHinted at_terminal job (stream R.remaining reader.old reader.new)
+        (stream W.contents writer.old writer.new) (stream E.contents errors.old errors.new) result }
     ensures status { result ≤ 2 }
 {
     let job = job_of(plan, file, context, other);
@@ -92,7 +94,8 @@ pub fn show_help<W: Write, E: Write>(
     writer: &mut Counted<W>,
     errors: &mut Counted<E>,
 ) -> u8
-    ensures helps { Helps W.contents E.contents writer.old writer.new errors.old errors.new result }
+    ensures helps { Helps (stream W.contents writer.old writer.new)
+        (stream E.contents errors.old errors.new) result }
     ensures status { result ≤ 2 }
 {
     let Ok(text) = format!(in alloc; "{text}") else {

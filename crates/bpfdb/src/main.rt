@@ -27,7 +27,7 @@ use input::is_closed;
 use opening::{BuiltIn, FIRST_PLAN, SystemFiles};
 use prompt::{FIRST_GREETING, GREETING, Prompting};
 use std::io;
-use std::io::{BufReader, BufWriter, IsTerminal, Stderr};
+use std::io::{BufReader, BufWriter, IsTerminal, Read, Stderr, Write};
 use std::process::ExitCode;
 use words::{shown_words, texts_of, words_of};
 
@@ -144,19 +144,10 @@ fn do_over_streams<F: Opener>(
         return give_up(errors, &JobFault::Memory);
     };
     let mut writer = Counted::new(output);
-    let at_terminal = rt.stderr().is_terminal();
     let mut input = Retrying::new(rt.reader());
     if is_closed(rt, &mut input) {
         let mut reader = Counted::new(b"".as_slice());
-        return do_plan(
-            rt.alloc(),
-            files,
-            plan,
-            at_terminal,
-            &mut reader,
-            &mut writer,
-            errors,
-        );
+        return do_over(rt, files, plan, &mut reader, &mut writer, errors);
     }
     if is_typed(rt, plan) {
         let input = Prompting::new(input, Retrying::new(rt.stderr()), greeting);
@@ -164,29 +155,31 @@ fn do_over_streams<F: Opener>(
             return give_up(errors, &JobFault::Memory);
         };
         let mut reader = Counted::new(input);
-        return do_plan(
-            rt.alloc(),
-            files,
-            plan,
-            at_terminal,
-            &mut reader,
-            &mut writer,
-            errors,
-        );
+        return do_over(rt, files, plan, &mut reader, &mut writer, errors);
     }
     let Ok(input) = BufReader::new(rt.alloc(), input) else {
         return give_up(errors, &JobFault::Memory);
     };
     let mut reader = Counted::new(input);
-    do_plan(
-        rt.alloc(),
-        files,
-        plan,
-        at_terminal,
-        &mut reader,
-        &mut writer,
-        errors,
-    )
+    do_over(rt, files, plan, &mut reader, &mut writer, errors)
+}
+
+/// Does a plan over a reader and a writer. What is said at a terminal alone is said where standard
+/// error is one.
+fn do_over<F: Opener, R: Read, W: Write>(
+    rt: &HostRuntime,
+    files: &F,
+    plan: &Plan<'_>,
+    reader: &mut Counted<R>,
+    writer: &mut Counted<W>,
+    errors: &mut Errors,
+) -> u8
+    requires limit { IsLimit plan.now.options.limit }
+    ensures value { result ≢ 2 → EndsPlanWith plan.now result }
+    ensures status { result ≤ 2 }
+{
+    let at_terminal = rt.stderr().is_terminal();
+    do_plan(rt.alloc(), files, plan, at_terminal, reader, writer, errors)
 }
 
 /// Whether commands are typed: the plan reads them, and standard input is a terminal.

@@ -2,7 +2,7 @@
 ghost use Rattle.std.specs.Prelude.{◌≡◌, ◌≤◌, ◌++◌, OnErr, OnOk, [], codes};
 ghost use Rattle.counted_io.specs.Writing.{Writes, WritesAfter};
 ghost use Rattle.bpfdb_replies.specs.Texts.{place};
-ghost use Rattle.bpfdb_faults.specs.Streams.{Told};
+ghost use Rattle.bpfdb_faults.specs.Streams.{Told, stream};
 ghost use Rattle.bpfdb_faults.specs.Faults.{line_of};
 ghost use Rattle.shown_text.specs.Shown.{shown_lines};
 ghost use Rattle.bpfdb_faults.specs.declared.fault.JobFault.TheVariants.{Output};
@@ -61,7 +61,7 @@ pub fn tell_place<E: Write>(errors: &mut Counted<E>, cpu: &Cpu) -> Result<(), Wr
 /// status, 2, whether the line could be written or not.
 pub fn give_up<E: Write>(errors: &mut Counted<E>, fault: &JobFault<'_>) -> u8
     ensures value { result ≡ 2 }
-    ensures told { Told E.contents errors.old errors.new (line_of fault.now) }
+    ensures told { Told (stream E.contents errors.old errors.new) (line_of fault.now) }
 {
     match tell(errors, fault) {
         Ok(()) => 2,
@@ -74,7 +74,7 @@ pub fn give_up<E: Write>(errors: &mut Counted<E>, fault: &JobFault<'_>) -> u8
 /// 2, whether the text could be written or not.
 pub fn tell_usage<E: Write>(errors: &mut Counted<E>, text: &str) -> u8
     ensures value { result ≡ 2 }
-    ensures told { Told E.contents errors.old errors.new (shown_lines text.now) }
+    ensures told { Told (stream E.contents errors.old errors.new) (shown_lines text.now) }
 {
     match tell_text(errors, text) {
         Ok(()) => 2,
@@ -92,10 +92,9 @@ fn tell_text<E: Write>(errors: &mut Counted<E>, text: &str) -> Result<(), WriteF
 
 /// The exit status after an output that was written, or not.
 pub fn ended<E: Write>(written: Result<(), WriteFault>, errors: &mut Counted<E>) -> u8
-    ensures ok { OnOk written (result ≡ 0) }
-    ensures same { OnOk written (errors.new ≡ errors.old) }
-    ensures err { OnErr written (result ≡ 2) }
-    ensures told { OnErr written (Told E.contents errors.old errors.new (line_of Output)) }
+    ensures ok { OnOk written ((errors.new ≡ errors.old) × (result ≡ 0)) }
+    ensures err { OnErr written (Told (stream E.contents errors.old errors.new) (line_of Output)
+        × (result ≡ 2)) }
     ensures status { result ≤ 2 }
 {
     match written {

@@ -1,5 +1,5 @@
 -- How jobs end that print.
-use Rattle.std.proofs.Common.{ℕ, ◌≡◌, ◌≢◌, List, Option, Some, Result, Ok, Err, refl, ap, ◌∙◌}
+use Rattle.std.proofs.Common.{ℕ, ◌≡◌, ◌≢◌, List, Some, Result, Ok, Err, refl, ap, ◌∙◌}
 use Rattle.std.specs.Prelude.{OnOk, OnErr}
 use Rattle.bpf_entries.specs.declared.status.Status.{Status}
 use Rattle.bpf_entries.specs.declared.status.Status.TheVariants as status
@@ -8,9 +8,8 @@ use Rattle.bpf_steps.specs.State.{State, initial}
 use Rattle.bpf_session.specs.Plain.{ending_of, plain_end}
 use Rattle.bpf_session.specs.declared.plain.Ending.{Ending}
 use Rattle.bpf_session.specs.declared.plain.Ending.TheVariants.{Exited}
-use Rattle.counted_io.specs.Counted.{Tally}
 use Rattle.counted_io.specs.Writing.{Writes}
-use Rattle.bpfdb_faults.specs.Streams.{Gets, Loses, Told}
+use Rattle.bpfdb_faults.specs.Streams.{Gets, Loses, Stream, Told}
 use Rattle.bpfdb_jobs.specs.Endings.{EndsPrinted, ErrLost, OutLost, Printed}
 use Rattle.bpfdb_faults.specs.Faults.{line_of}
 use Rattle.bpfdb_jobs.specs.Jobs.{Opens, Print, Prints, printed, run_print}
@@ -19,36 +18,31 @@ use Rattle.bpfdb_jobs.specs.declared.job.Job.{Job}
 use Rattle.bpfdb_options.specs.declared.subcommand.Subcommand.{Subcommand}
 use Rattle.bpfdb_options.specs.declared.subcommand.Subcommand.TheVariants.{Run}
 
--- a result was written, or a beginning of it
-pub out-printed : {W E A F : Type 0} (contents : W → Option (List ℕ)) (lines : E → Option (List ℕ)) (subcommand : Subcommand) (job : Job) (out : List ℕ)
-    (writer writer' : Tally W) (errors errors' : Tally E) (r : Result A F) (status : ℕ)
-    → Prints subcommand job (printed out) → Writes contents writer writer' r out
-    → OnOk r (status ≡ 0) → OnOk r (errors' ≡ errors) → OnErr r (status ≡ 2) → OnErr r (Told lines errors errors' (line_of Output))
-    → EndsPrinted contents lines subcommand job writer writer' errors errors' status
-out-printed contents lines subcommand job out writer writer' errors errors' (Ok v) status prints w zero same two told =
-    Printed (printed out) prints (w.ok, w.same) same zero
-out-printed contents lines subcommand job out writer writer' errors errors' (Err e) status prints w zero same two told =
-    OutLost (printed out) prints (w.err, w.fault) told two
+module _ {W E A F : Type 0} {writer : Stream W} {errors : Stream E} (subcommand : Subcommand) (job : Job) where
+  -- a result was written, or a beginning of it
+  pub out-printed : (out : List ℕ) (r : Result A F) (status : ℕ) → Prints subcommand job (printed out)
+      → Writes writer.bytes writer.old writer.new r out → OnOk r ((errors.new ≡ errors.old) × (status ≡ 0))
+      → OnErr r (Told errors (line_of Output) × (status ≡ 2)) → EndsPrinted subcommand job writer errors status
+  out-printed out (Ok v) status prints w ok err = Printed (printed out) prints (w.ok, w.same) ok.0 ok.1
+  out-printed out (Err e) status prints w ok err = OutLost (printed out) prints (w.err, w.fault) err.0 err.1
 
--- what goes to standard error was told, or a beginning of it
-pub err-printed : {W E A F : Type 0} (contents : W → Option (List ℕ)) (lines : E → Option (List ℕ)) (subcommand : Subcommand) (job : Job) (a : Print)
-    (writer writer' : Tally W) (errors errors' : Tally E) (r : Result A F) (status : ℕ)
-    → Prints subcommand job a → Gets contents writer writer' a.out → OnOk r (Gets lines errors errors' a.err) → OnErr r (Loses lines errors errors' a.err)
-    → OnOk r (status ≡ a.status) → OnErr r (status ≡ 2)
-    → EndsPrinted contents lines subcommand job writer writer' errors errors' status
-err-printed contents lines subcommand job a writer writer' errors errors' (Ok v) status prints out err lost ends two = Printed a prints out err ends
-err-printed contents lines subcommand job a writer writer' errors errors' (Err e) status prints out err lost ends two = ErrLost a prints out lost two
+  -- what goes to standard error was told, or a beginning of it
+  pub err-printed : (a : Print) (r : Result A F) (status : ℕ) → Prints subcommand job a → Gets writer a.out
+      → OnOk r (Gets errors a.err) → OnErr r (Loses errors a.err) → OnOk r (status ≡ a.status) → OnErr r (status ≡ 2)
+      → EndsPrinted subcommand job writer errors status
+  err-printed a (Ok v) status prints out err lost ends two = Printed a prints out err ends
+  err-printed a (Err e) status prints out err lost ends two = ErrLost a prints out lost two
 
 -- a line that was written, or a beginning of it
-pub line-got : {E A F : Type 0} (lines : E → Option (List ℕ)) (old new : Tally E) (r : Result A F) (line : List ℕ) → Writes lines old new r line
-    → OnOk r (Gets lines old new (Some line))
-line-got lines old new (Ok v) line w = (w.ok, w.same)
-line-got lines old new (Err e) line w = tt
+pub line-got : {E A F : Type 0} {errors : Stream E} (r : Result A F) (line : List ℕ) → Writes errors.bytes errors.old errors.new r line
+    → OnOk r (Gets errors (Some line))
+line-got (Ok v) line w = (w.ok, w.same)
+line-got (Err e) line w = tt
 
-pub line-lost : {E A F : Type 0} (lines : E → Option (List ℕ)) (old new : Tally E) (r : Result A F) (line : List ℕ) → Writes lines old new r line
-    → OnErr r (Loses lines old new (Some line))
-line-lost lines old new (Ok v) line w = tt
-line-lost lines old new (Err e) line w = (w.err, w.fault)
+pub line-lost : {E A F : Type 0} {errors : Stream E} (r : Result A F) (line : List ℕ) → Writes errors.bytes errors.old errors.new r line
+    → OnErr r (Loses errors (Some line))
+line-lost (Ok v) line w = tt
+line-lost (Err e) line w = (w.err, w.fault)
 
 -- a run that stops hasn't exited
 pub not-exited : (ending : Ending) (s : Status) → ending ≡ ending_of s → ending ≢ Exited → s ≢ status.Exited

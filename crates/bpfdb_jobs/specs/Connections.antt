@@ -1,5 +1,5 @@
 -- What serving gdb leaves: a session of the job was served, to the connection's end or until a read or a write failed.
-use Rattle.std.specs.Prelude.{ℕ, List, Option}
+use Rattle.std.specs.Prelude.{ℕ}
 use Rattle.bpf_isa.specs.Programs.{Checked}
 use Rattle.bpf_journal.specs.Tracks.{RingHolds, ring_room}
 use Rattle.bpf_ring.specs.declared.keeper.RingKeeper.{RingKeeper}
@@ -9,7 +9,7 @@ use Rattle.bpf_remote.specs.declared.layout.Layout.TheVariants as layout
 use Rattle.bpf_session.specs.Runs.{HasStanding}
 use Rattle.bpf_session.specs.Sessions.{SessionValue}
 use Rattle.bpf_session.specs.declared.fault.RunFault.{RunFault}
-use Rattle.counted_io.specs.Counted.{Tally}
+use Rattle.bpfdb_faults.specs.Streams.{Stream}
 use Rattle.bpfdb_jobs.specs.Jobs.{start_of}
 use Rattle.bpfdb_jobs.specs.declared.job.Job.{Job}
 use Rattle.bpfdb_options.specs.declared.registers.Registers.{Registers}
@@ -30,29 +30,28 @@ abbrev pub Begins : Job → Checked → SessionValue RingKeeper → Type 0
 Begins job code session = HasStanding RingHolds ring_refusals ring_room session (start_of job code)
 
 -- What was known of the streams and of the session before it was served and after it.
-abbrev pub ends : {R W : Type 0} → Job → SessionValue RingKeeper → SessionValue RingKeeper → Tally R → Tally R → Tally W → Tally W
-    → Ends RingKeeper R W
-ends job from to reader reader' writer writer' = record {
+abbrev pub ends : {R W : Type 0} → Job → SessionValue RingKeeper → SessionValue RingKeeper → Stream R → Stream W → Ends RingKeeper R W
+ends job from to reader writer = record {
   gdb = layout_of job.options.registers;
   from = from;
   to = to;
-  reader = reader;
-  reader' = reader';
-  writer = writer;
-  writer' = writer';
+  reader = reader.old;
+  reader' = reader.new;
+  writer = writer.old;
+  writer' = writer.new;
 }
 
-module _ {R W : Type 0} (remaining : R → Option (List ℕ)) (contents : W → Option (List ℕ)) (job : Job) (reader reader' : Tally R) (writer writer' : Tally W) where
+module _ {R W : Type 0} (job : Job) (reader : Stream R) (writer : Stream W) where
   -- It was served to the connection's end.
   pub record ServesConnection (code : Checked) : Type 0 where
     pub from : SessionValue RingKeeper
     pub to : SessionValue RingKeeper
     pub begins : Begins job code from
-    pub serves : Serves RingHolds ring_refusals ring_room remaining contents (ends job from to reader reader' writer writer')
+    pub serves : Serves RingHolds ring_refusals ring_room reader.bytes writer.bytes (ends job from to reader writer)
 
   -- It was served until a read or a write failed.
   pub record BreaksConnection (code : Checked) (why : RunFault) : Type 0 where
     pub from : SessionValue RingKeeper
     pub to : SessionValue RingKeeper
     pub begins : Begins job code from
-    pub breaks : Breaks RingHolds ring_refusals ring_room remaining contents why (ends job from to reader reader' writer writer')
+    pub breaks : Breaks RingHolds ring_refusals ring_room reader.bytes writer.bytes why (ends job from to reader writer)

@@ -1,12 +1,11 @@
 -- How a job ends, as it stands on reader, writer and standard error.
-use Rattle.std.specs.Prelude.{◌≡◌, ℕ, List, Option, ⊤}
+use Rattle.std.specs.Prelude.{◌≡◌, ℕ, List, ⊤}
 use Rattle.bpf_isa.specs.Programs.{Checked}
 use Rattle.bpf_session.specs.Runs.{FailsBy}
 use Rattle.bpf_session.specs.declared.fault.RunFault.{RunFault}
 use Rattle.bpf_session.specs.declared.fault.RunFault.TheVariants as run
-use Rattle.counted_io.specs.Counted.{Tally}
 use Rattle.bpfdb_faults.specs.Faults.{input_line, line_of, output_line, session_line}
-use Rattle.bpfdb_faults.specs.Streams.{Gets, Loses, Spared, Told}
+use Rattle.bpfdb_faults.specs.Streams.{Gets, Loses, Spared, Stream, Told}
 use Rattle.bpfdb_jobs.specs.Jobs.{OpensSession, Print, Prints}
 use Rattle.bpfdb_jobs.specs.Refusals.{Refuses, RefusesAs}
 use Rattle.bpfdb_faults.specs.declared.fault.JobFault.TheVariants as fault
@@ -23,21 +22,17 @@ MayExhaust subcommand = ⊥
 
 -- How a job ends that prints: all was printed; or it was refused; or memory ran out, before anything was written; or standard output failed,
 -- which got a beginning; or standard error failed while it was told what follows the output.
-pub data EndsPrinted {W E : Type 0} (contents : W → Option (List ℕ)) (lines : E → Option (List ℕ)) (subcommand : Subcommand) (job : Job)
-    (writer writer' : Tally W) (errors errors' : Tally E) (status : ℕ) : Type 0 where
-  Printed : (a : Print) → Prints subcommand job a → Gets contents writer writer' a.out → Gets lines errors errors' a.err → status ≡ a.status
-      → EndsPrinted contents lines subcommand job writer writer' errors errors' status
-  Refused : (refusal : JobRefusal) → RefusesAs subcommand job refusal → writer' ≡ writer
-      → Told lines errors errors' (line_of (fault.Refused refusal)) → status ≡ 2
-      → EndsPrinted contents lines subcommand job writer writer' errors errors' status
-  Exhausted : (a : Print) → Prints subcommand job a → MayExhaust subcommand → writer' ≡ writer
-      → Told lines errors errors' (line_of fault.Memory) → status ≡ 2
-      → EndsPrinted contents lines subcommand job writer writer' errors errors' status
-  OutLost : (a : Print) → Prints subcommand job a → Loses contents writer writer' a.out
-      → Told lines errors errors' (line_of fault.Output) → status ≡ 2
-      → EndsPrinted contents lines subcommand job writer writer' errors errors' status
-  ErrLost : (a : Print) → Prints subcommand job a → Gets contents writer writer' a.out → Loses lines errors errors' a.err → status ≡ 2
-      → EndsPrinted contents lines subcommand job writer writer' errors errors' status
+pub data EndsPrinted {W E : Type 0} (subcommand : Subcommand) (job : Job) (writer : Stream W) (errors : Stream E) (status : ℕ) : Type 0 where
+  Printed : (a : Print) → Prints subcommand job a → Gets writer a.out → Gets errors a.err → status ≡ a.status
+      → EndsPrinted subcommand job writer errors status
+  Refused : (refusal : JobRefusal) → RefusesAs subcommand job refusal → writer.new ≡ writer.old → Told errors (line_of (fault.Refused refusal))
+      → status ≡ 2 → EndsPrinted subcommand job writer errors status
+  Exhausted : (a : Print) → Prints subcommand job a → MayExhaust subcommand → writer.new ≡ writer.old → Told errors (line_of fault.Memory)
+      → status ≡ 2 → EndsPrinted subcommand job writer errors status
+  OutLost : (a : Print) → Prints subcommand job a → Loses writer a.out → Told errors (line_of fault.Output) → status ≡ 2
+      → EndsPrinted subcommand job writer errors status
+  ErrLost : (a : Print) → Prints subcommand job a → Gets writer a.out → Loses errors a.err → status ≡ 2
+      → EndsPrinted subcommand job writer errors status
 
 -- The line of a session that is broken off.
 abbrev pub broken_line : RunFault → List ℕ
@@ -46,14 +41,12 @@ broken_line run.Write = output_line
 
 -- How a job ends that opens a session: it was served to its end; or it was refused, and nothing was read and written; or it was served until
 -- a read or a write failed.
-pub data EndsSession {R W E : Type 0} (lines : E → Option (List ℕ)) (job : Job) (Serves : Checked → Type 0)
-    (Breaks : Checked → RunFault → Type 0) (reader reader' : Tally R) (writer writer' : Tally W) (errors errors' : Tally E) (status : ℕ)
-    : Type 0 where
-  Served : (code : Checked) → OpensSession job code → Serves code → Spared reader reader' → Spared writer writer' → errors' ≡ errors
-      → status ≡ 0 → EndsSession lines job Serves Breaks reader reader' writer writer' errors errors' status
-  Refused : (refusal : JobRefusal) → Refuses job refusal → reader' ≡ reader → writer' ≡ writer
-      → Told lines errors errors' (session_line refusal) → status ≡ 2
-      → EndsSession lines job Serves Breaks reader reader' writer writer' errors errors' status
-  Broken : (code : Checked) → (why : RunFault) → OpensSession job code → Breaks code why → FailsBy why reader reader' writer writer'
-      → Told lines errors errors' (broken_line why) → status ≡ 2
-      → EndsSession lines job Serves Breaks reader reader' writer writer' errors errors' status
+pub data EndsSession {R W E : Type 0} (job : Job) (Serves : Checked → Type 0) (Breaks : Checked → RunFault → Type 0)
+    (reader : Stream R) (writer : Stream W) (errors : Stream E) (status : ℕ) : Type 0 where
+  Served : (code : Checked) → OpensSession job code → Serves code → Spared reader → Spared writer → errors.new ≡ errors.old → status ≡ 0
+      → EndsSession job Serves Breaks reader writer errors status
+  Refused : (refusal : JobRefusal) → Refuses job refusal → reader.new ≡ reader.old → writer.new ≡ writer.old → Told errors (session_line refusal)
+      → status ≡ 2 → EndsSession job Serves Breaks reader writer errors status
+  Broken : (code : Checked) → (why : RunFault) → OpensSession job code → Breaks code why
+      → FailsBy why reader.old reader.new writer.old writer.new → Told errors (broken_line why) → status ≡ 2
+      → EndsSession job Serves Breaks reader writer errors status

@@ -11,10 +11,9 @@ use Rattle.bpf_isa.specs.declared.fault.WordFault.TheVariants.{UnknownInstructio
 use Rattle.bpf_text.specs.LineTable.{IsLineTable}
 use Rattle.bpf_text.specs.Listing.{IsFaultOf}
 use Rattle.bpf_text.specs.declared.fault.AsmFault.{AsmFault}
-use Rattle.counted_io.specs.Counted.{Tally}
 use Rattle.counted_io.specs.Lines.{lines}
 use Rattle.counted_io.specs.Numerals.{as_u64, natural}
-use Rattle.bpfdb_faults.specs.Streams.{Told}
+use Rattle.bpfdb_faults.specs.Streams.{Stream, Told}
 use Rattle.shown_text.specs.Shown.{shown}
 use Rattle.bpfdb_jobs.specs.Jobs.{IsProgramOf}
 use Rattle.bpfdb_jobs.specs.Looks.{is_object, is_text}
@@ -80,13 +79,12 @@ hint_line name hint.Object = shown name ++ codes " looks like an object: bpfdb l
 hint_line name hint.Listing = shown name ++ codes " looks like a listing: --listing\n"
 hint_line name (hint.Line slot line) = place_line name slot line
 
-abbrev pub AddsLine : {E : Type 0} → (E → Option (List ℕ)) → List ℕ → Tally E → Tally E → Option Hint → Type 0
-AddsLine lines name errors errors' None = errors' ≡ errors
-AddsLine lines name errors errors' (Some hint) = Told lines errors errors' (hint_line name hint)
+abbrev pub AddsLine : {E : Type 0} → List ℕ → Stream E → Option Hint → Type 0
+AddsLine name errors None = errors.new ≡ errors.old
+AddsLine name errors (Some hint) = Told errors (hint_line name hint)
 
 -- What follows a job on standard error: where that is a terminal, and the status is 2, its hint, as far as it can be written; else nothing.
-pub data AddsHint {E : Type 0} (lines : E → Option (List ℕ)) (at_terminal : Bool) (job : Job) (status : ℕ) (errors errors' : Tally E)
-    : Type 0 where
-  Silent : (at_terminal && status == 2) ≡ false → errors' ≡ errors → AddsHint lines at_terminal job status errors errors'
-  Hinted : (hint : Option Hint) → (at_terminal && status == 2) ≡ true → IsHintOf job hint → AddsLine lines job.name.now errors errors' hint
-      → AddsHint lines at_terminal job status errors errors'
+pub data AddsHint {E : Type 0} (at_terminal : Bool) (job : Job) (status : ℕ) (errors : Stream E) : Type 0 where
+  Silent : (at_terminal && status == 2) ≡ false → errors.new ≡ errors.old → AddsHint at_terminal job status errors
+  Hinted : (hint : Option Hint) → (at_terminal && status == 2) ≡ true → IsHintOf job hint → AddsLine job.name.now errors hint
+      → AddsHint at_terminal job status errors

@@ -1,9 +1,9 @@
 -- What `debug` comes to: what its script prints in a debugger that keeps whole states, with each move kept in the journal's room.
-use Rattle.std.specs.Prelude.{ℕ, ◌≡◌, List, Option, Some}
+use Rattle.std.specs.Prelude.{ℕ, ◌≡◌, List, Some}
 use Rattle.bpf_isa.specs.Programs.{Checked}
 use Rattle.bpf_session.specs.Runs.{BreaksOff, Exchange, Leaves, Standing, Wrote, whole_walk}
 use Rattle.bpf_session.specs.declared.fault.RunFault.{RunFault}
-use Rattle.counted_io.specs.Counted.{Tally}
+use Rattle.bpfdb_faults.specs.Streams.{Stream}
 use Rattle.bpfdb_jobs.specs.Jobs.{start_of}
 use Rattle.bpfdb_jobs.specs.declared.job.Job.{Job}
 
@@ -16,8 +16,6 @@ abbrev pub RepliesUntil : Job → Checked → RunFault → Exchange → Type 0
 RepliesUntil job code why x = (to : Standing) × (to.refusals ≡ 0) × BreaksOff why (start_of job code) to x
 
 -- Over a reader and a writer that tell their bytes.
-abbrev pub Exchanges : {R W : Type 0} → (R → Option (List ℕ)) → (W → Option (List ℕ)) → Tally R → Tally R → Tally W → Tally W
-    → (Exchange → Type 0) → Type 0
-Exchanges remaining contents reader reader' writer writer' P = (script told : List ℕ) → remaining reader.inner ≡ Some script
-    → contents writer.inner ≡ Some told
-    → P (record { script = script; told = told; after = contents writer'.inner; left = remaining reader'.inner })
+abbrev pub Exchanges : {R W : Type 0} → Stream R → Stream W → (Exchange → Type 0) → Type 0
+Exchanges reader writer P = (script told : List ℕ) → reader.bytes reader.old.inner ≡ Some script → writer.bytes writer.old.inner ≡ Some told
+    → P (record { script = script; told = told; after = writer.bytes writer.new.inner; left = reader.bytes reader.new.inner })

@@ -5,8 +5,7 @@ use Rattle.bpf_suite.specs.Shown.{IsWordsFault, options_text, script_text}
 use Rattle.bpf_suite.specs.Tests.{context, has_listing, program}
 use Rattle.bpf_suite.specs.declared.section.Section.{Section}
 use Rattle.bpf_suite.specs.declared.shown.WordsFault.TheVariants as words
-use Rattle.counted_io.specs.Counted.{Tally}
-use Rattle.bpfdb_faults.specs.Streams.{Gets, Loses, Told}
+use Rattle.bpfdb_faults.specs.Streams.{Gets, Loses, Stream, Told}
 use Rattle.bpfdb_faults.specs.Faults.{line_of}
 use Rattle.bpfdb_jobs.specs.Refusals.{RefusesTests}
 use Rattle.bpfdb_jobs.specs.Suites.{AreTestsOf, EndsTests}
@@ -40,19 +39,16 @@ RefusesShown job part refusal = RefusesTests job refusal
 
 -- How a job of `test` ends that shows a part: it was shown; or it was refused, or memory ran out before, and nothing was written; or standard
 -- output failed, which got a beginning.
-pub data EndsShown {W E : Type 0} (contents : W → Option (List ℕ)) (lines : E → Option (List ℕ)) (part : TestPart) (job : Job)
-    (writer writer' : Tally W) (errors errors' : Tally E) (status : ℕ) : Type 0 where
-  Shown : (test : List Section) (bytes : List ℕ) → AreTestsOf job (test ∷ []) → Shows part test bytes → Gets contents writer writer' (Some bytes)
-      → errors' ≡ errors → status ≡ 0 → EndsShown contents lines part job writer writer' errors errors' status
-  Refused : (refusal : JobRefusal) → RefusesShown job part refusal → writer' ≡ writer → Told lines errors errors' (line_of (fault.Refused refusal))
-      → status ≡ 2 → EndsShown contents lines part job writer writer' errors errors' status
-  Exhausted : writer' ≡ writer → Told lines errors errors' (line_of fault.Memory) → status ≡ 2
-      → EndsShown contents lines part job writer writer' errors errors' status
-  Lost : (test : List Section) (bytes : List ℕ) → AreTestsOf job (test ∷ []) → Shows part test bytes → Loses contents writer writer' (Some bytes)
-      → Told lines errors errors' (line_of fault.Output) → status ≡ 2 → EndsShown contents lines part job writer writer' errors errors' status
+pub data EndsShown {W E : Type 0} (part : TestPart) (job : Job) (writer : Stream W) (errors : Stream E) (status : ℕ) : Type 0 where
+  Shown : (test : List Section) (bytes : List ℕ) → AreTestsOf job (test ∷ []) → Shows part test bytes → Gets writer (Some bytes)
+      → errors.new ≡ errors.old → status ≡ 0 → EndsShown part job writer errors status
+  Refused : (refusal : JobRefusal) → RefusesShown job part refusal → writer.new ≡ writer.old → Told errors (line_of (fault.Refused refusal))
+      → status ≡ 2 → EndsShown part job writer errors status
+  Exhausted : writer.new ≡ writer.old → Told errors (line_of fault.Memory) → status ≡ 2 → EndsShown part job writer errors status
+  Lost : (test : List Section) (bytes : List ℕ) → AreTestsOf job (test ∷ []) → Shows part test bytes → Loses writer (Some bytes)
+      → Told errors (line_of fault.Output) → status ≡ 2 → EndsShown part job writer errors status
 
 -- How a job of `test` ends, by the part that is to be shown, if there is one.
-abbrev pub EndsTest : {W E : Type 0} → (W → Option (List ℕ)) → (E → Option (List ℕ)) → Option TestPart → Job → Tally W → Tally W → Tally E → Tally E
-    → ℕ → Type 0
-EndsTest contents lines None job = EndsTests contents lines job
-EndsTest contents lines (Some part) job = EndsShown contents lines part job
+abbrev pub EndsTest : {W E : Type 0} → Option TestPart → Job → Stream W → Stream E → ℕ → Type 0
+EndsTest None job writer errors status = EndsTests job writer errors status
+EndsTest (Some part) job writer errors status = EndsShown part job writer errors status

@@ -11,8 +11,7 @@ use Rattle.bpf_suite.specs.declared.report.SuiteFault.TheVariants as suite
 use Rattle.bpf_suite.specs.Tests.{chosen}
 use Rattle.bpf_suite.specs.declared.section.Section.{Section}
 use Rattle.std.specs.Borrow.{Bor}
-use Rattle.counted_io.specs.Counted.{Tally}
-use Rattle.bpfdb_faults.specs.Streams.{Gets, Told}
+use Rattle.bpfdb_faults.specs.Streams.{Gets, Stream, Told}
 use Rattle.bpfdb_faults.specs.Faults.{line_of}
 use Rattle.bpfdb_jobs.specs.Refusals.{RefusesTests}
 use Rattle.bpfdb_faults.specs.declared.fault.JobFault.{JobFault}
@@ -51,16 +50,13 @@ fault_of_suite suite.Write = fault.Output
 
 -- How a job of `test` ends: its tests were run, and reported on; or its file was refused, or the name that is asked for, or memory ran out before,
 -- and nothing was written; or memory ran out at a test, or standard output failed, and what stands are the plan and the reports on the tests before, or a beginning of them.
-pub data EndsTests {W E : Type 0} (contents : W → Option (List ℕ)) (lines : E → Option (List ℕ)) (job : Job) (writer writer' : Tally W)
-    (errors errors' : Tally E) (status : ℕ) : Type 0 where
+pub data EndsTests {W E : Type 0} (job : Job) (writer : Stream W) (errors : Stream E) (status : ℕ) : Type 0 where
   Reported : (asked : List (List Section)) (outcomes : List Outcome) → AreTestsOf job asked → AreOutcomes asked outcomes
-      → Gets contents writer writer' (Some (report job.name.now asked outcomes)) → errors' ≡ errors → status ≡ status_of (all_pass asked outcomes)
-      → EndsTests contents lines job writer writer' errors errors' status
-  Refused : (refusal : JobRefusal) → RefusesTests job refusal → writer' ≡ writer → Told lines errors errors' (line_of (fault.Refused refusal))
-      → status ≡ 2 → EndsTests contents lines job writer writer' errors errors' status
-  Exhausted : writer' ≡ writer → Told lines errors errors' (line_of fault.Memory) → status ≡ 2
-      → EndsTests contents lines job writer writer' errors errors' status
+      → Gets writer (Some (report job.name.now asked outcomes)) → errors.new ≡ errors.old → status ≡ status_of (all_pass asked outcomes)
+      → EndsTests job writer errors status
+  Refused : (refusal : JobRefusal) → RefusesTests job refusal → writer.new ≡ writer.old → Told errors (line_of (fault.Refused refusal))
+      → status ≡ 2 → EndsTests job writer errors status
+  Exhausted : writer.new ≡ writer.old → Told errors (line_of fault.Memory) → status ≡ 2 → EndsTests job writer errors status
   BrokenOff : (why : SuiteFault) (asked : List (List Section)) → AreTestsOf job asked
-      → BreaksOff contents why writer writer' (plan (length asked)) job.name.now 1 asked
-      → Told lines errors errors' (line_of (fault_of_suite why)) → status ≡ 2
-      → EndsTests contents lines job writer writer' errors errors' status
+      → BreaksOff writer.bytes why writer.old writer.new (plan (length asked)) job.name.now 1 asked
+      → Told errors (line_of (fault_of_suite why)) → status ≡ 2 → EndsTests job writer errors status

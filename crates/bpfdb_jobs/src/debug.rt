@@ -2,11 +2,13 @@
 ghost use Rattle.std.specs.Prelude.{◌≤◌};
 ghost use Rattle.bpfdb_jobs.specs.Done.{Debugs};
 ghost use Rattle.bpfdb_limits.specs.Limits.{IsLimit};
+ghost use Rattle.bpfdb_faults.specs.Streams.{stream};
 
+use crate::ending::session_ended;
 use crate::job::Job;
 use crate::opening::session_of;
 use bpf_session::laws::nothing_refused_nothing_missing;
-use bpf_session::{RunFault, run};
+use bpf_session::run;
 use bpfdb_faults::{JobFault, give_up};
 use counted_io::Counted;
 use std::alloc::Global;
@@ -27,8 +29,8 @@ pub fn debug_job<R: Read, W: Write, E: Write>(
     errors: &mut Counted<E>,
 ) -> u8
     requires limit { IsLimit job.now.options.limit }
-    ensures does { Debugs R.remaining W.contents E.contents job.now reader.old reader.new
-        writer.old writer.new errors.old errors.new result }
+    ensures does { Debugs job.now (stream R.remaining reader.old reader.new)
+        (stream W.contents writer.old writer.new) (stream E.contents errors.old errors.new) result }
     ensures status { result ≤ 2 }
 {
     let mut session = match session_of(alloc, job) {
@@ -36,9 +38,6 @@ pub fn debug_job<R: Read, W: Write, E: Write>(
         Err(refusal) => return give_up(errors, &JobFault::Refused(refusal)),
     };
     nothing_refused_nothing_missing();
-    match run(&mut session, reader, writer) {
-        Ok(()) => 0,
-        Err(RunFault::Read) => give_up(errors, &JobFault::Input),
-        Err(RunFault::Write) => give_up(errors, &JobFault::Output),
-    }
+    let served = run(&mut session, reader, writer);
+    session_ended(served, errors)
 }

@@ -2,6 +2,7 @@
 ghost use Rattle.std.specs.Prelude.{◌≤◌};
 ghost use Rattle.bpfdb_jobs.specs.Done.{DoesJob, DoesPlain};
 ghost use Rattle.bpfdb_limits.specs.Limits.{IsLimit};
+ghost use Rattle.bpfdb_faults.specs.Streams.{stream};
 
 use crate::check::check_job;
 use crate::debug::debug_job;
@@ -36,8 +37,8 @@ pub fn tool<R: Read, W: Write, E: Write>(
     errors: &mut Counted<E>,
 ) -> u8
     requires limit { IsLimit job.now.options.limit }
-    ensures does { DoesJob R.remaining W.contents E.contents job.now.subcommand job.now
-        reader.old reader.new writer.old writer.new errors.old errors.new result }
+    ensures does { DoesJob job.now.subcommand job.now (stream R.remaining reader.old reader.new)
+        (stream W.contents writer.old writer.new) (stream E.contents errors.old errors.new) result }
     ensures status { result ≤ 2 }
 {
     if links_first(job) {
@@ -56,8 +57,8 @@ pub fn plain_tool<R: Read, W: Write, E: Write>(
     errors: &mut Counted<E>,
 ) -> u8
     requires limit { IsLimit job.now.options.limit }
-    ensures does { DoesPlain R.remaining W.contents E.contents job.now.subcommand job.now
-        reader.old reader.new writer.old writer.new errors.old errors.new result }
+    ensures does { DoesPlain job.now.subcommand job.now (stream R.remaining reader.old reader.new)
+        (stream W.contents writer.old writer.new) (stream E.contents errors.old errors.new) result }
     ensures status { result ≤ 2 }
 {
     match job.subcommand {

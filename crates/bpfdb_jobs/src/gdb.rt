@@ -3,11 +3,12 @@ ghost use Rattle.std.specs.Prelude.{◌≡◌, ◌≤◌};
 ghost use Rattle.bpfdb_jobs.specs.Connections.{layout_of};
 ghost use Rattle.bpfdb_jobs.specs.Done.{ServesGdb};
 ghost use Rattle.bpfdb_limits.specs.Limits.{IsLimit};
+ghost use Rattle.bpfdb_faults.specs.Streams.{stream};
 
+use crate::ending::session_ended;
 use crate::job::Job;
 use crate::opening::{session_of, wanted_of};
 use bpf_remote::{Layout, serve};
-use bpf_session::RunFault;
 use bpfdb_faults::{JobFault, give_up};
 use bpfdb_options::Registers;
 use counted_io::Counted;
@@ -26,8 +27,8 @@ pub fn gdb_job<R: Read, W: Write, E: Write>(
     errors: &mut Counted<E>,
 ) -> u8
     requires limit { IsLimit job.now.options.limit }
-    ensures does { ServesGdb R.remaining W.contents E.contents job.now reader.old reader.new
-        writer.old writer.new errors.old errors.new result }
+    ensures does { ServesGdb job.now (stream R.remaining reader.old reader.new)
+        (stream W.contents writer.old writer.new) (stream E.contents errors.old errors.new) result }
     ensures status { result ≤ 2 }
 {
     let mut session = match session_of(alloc, job) {
@@ -38,18 +39,9 @@ pub fn gdb_job<R: Read, W: Write, E: Write>(
         Ok(wanted) => wanted,
         Err(refusal) => return give_up(errors, &JobFault::Refused(refusal)),
     };
-    match serve(
-        alloc,
-        layout_of(job.options.registers),
-        &mut session,
-        &mut wanted,
-        reader,
-        writer,
-    ) {
-        Ok(()) => 0,
-        Err(RunFault::Read) => give_up(errors, &JobFault::Input),
-        Err(RunFault::Write) => give_up(errors, &JobFault::Output),
-    }
+    let gdb = layout_of(job.options.registers);
+    let served = serve(alloc, gdb, &mut session, &mut wanted, reader, writer);
+    session_ended(served, errors)
 }
 
 /// The machine that gdb is told of.

@@ -3,7 +3,7 @@
 ghost use Rattle.std.specs.Prelude.{◌≡◌, option_map, true};
 ghost use Rattle.counted_io.specs.Lines.{lines};
 ghost use Rattle.counted_io.specs.Writing.{Writes};
-ghost use Rattle.bpfdb_faults.specs.Streams.{Told};
+ghost use Rattle.bpfdb_faults.specs.Streams.{Told, stream};
 ghost use Rattle.bpfdb_jobs.specs.Hints.{AddsHint, AddsLine, IsHintOf, hint_line, is_of_file, line_at, look_after, look_of, place_after};
 ghost use Rattle.bpfdb_jobs.specs.Objects.{is_check};
 ghost use Rattle.bpfdb_jobs.specs.Refusals.{RefusesProgram};
@@ -42,7 +42,7 @@ pub fn add_hint<E: Write>(
     status: u8,
     errors: &mut Counted<E>,
 )
-    ensures { AddsHint E.contents at_terminal job.now status errors.old errors.new }
+    ensures { AddsHint at_terminal job.now status (stream E.contents errors.old errors.new) }
 {
     if at_terminal && status == 2 {
         let hint = hint_of(alloc, job);
@@ -150,7 +150,7 @@ fn place_of(slot: usize, table: &[u8]) -> Option<Hint>
 
 /// Writes the line of a hint, if there is one. What of it can't be written is left out.
 fn tell_hint<E: Write>(errors: &mut Counted<E>, name: &str, hint: Option<Hint>)
-    ensures { AddsLine E.contents name.now errors.old errors.new hint }
+    ensures { AddsLine name.now (stream E.contents errors.old errors.new) hint }
 {
     match hint {
         Some(hint) => try_hint(errors, name, &hint),
@@ -160,7 +160,7 @@ fn tell_hint<E: Write>(errors: &mut Counted<E>, name: &str, hint: Option<Hint>)
 
 /// Writes the line of a hint, as far as it can be written.
 fn try_hint<E: Write>(errors: &mut Counted<E>, name: &str, hint: &Hint)
-    ensures { Told E.contents errors.old errors.new (hint_line name.now hint.now) }
+    ensures { Told (stream E.contents errors.old errors.new) (hint_line name.now hint.now) }
 {
     match flush_hint(errors, name, hint) {
         Ok(()) => {}

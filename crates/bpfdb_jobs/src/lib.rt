@@ -4,6 +4,7 @@
 mod check;
 mod debug;
 mod dispatch;
+mod ending;
 mod gdb;
 mod hint;
 mod job;

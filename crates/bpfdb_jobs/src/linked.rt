@@ -4,6 +4,7 @@ ghost use Rattle.bpfdb_jobs.specs.Done.{DoesLinked, DoesPlain};
 ghost use Rattle.bpfdb_jobs.specs.Objects.{IsOver, LinksTo, RefusesLinking, is_check, links_first};
 ghost use Rattle.bpfdb_jobs.specs.declared.job.Job.{Job as Over};
 ghost use Rattle.bpfdb_limits.specs.Limits.{IsLimit};
+ghost use Rattle.bpfdb_faults.specs.Streams.{stream};
 
 use crate::dispatch::plain_tool;
 use crate::job::Job;
@@ -48,8 +49,8 @@ pub fn linked_tool<R: Read, W: Write, E: Write>(
     errors: &mut Counted<E>,
 ) -> u8
     requires limit { IsLimit job.now.options.limit }
-    ensures does { DoesLinked R.remaining W.contents E.contents job.now.subcommand job.now
-        reader.old reader.new writer.old writer.new errors.old errors.new result }
+    ensures does { DoesLinked job.now.subcommand job.now (stream R.remaining reader.old reader.new)
+        (stream W.contents writer.old writer.new) (stream E.contents errors.old errors.new) result }
     ensures status { result ≤ 2 }
 {
     match linked_file(alloc, job) {
@@ -74,8 +75,8 @@ fn do_over<R: Read, W: Write, E: Write>(
 ) -> u8
     requires limit { IsLimit job.now.options.limit }
     ensures does { (over : Over) × IsOver job.now words.now shapes.now over
-        × DoesPlain R.remaining W.contents E.contents job.now.subcommand over
-        reader.old reader.new writer.old writer.new errors.old errors.new result }
+        × DoesPlain job.now.subcommand over (stream R.remaining reader.old reader.new)
+        (stream W.contents writer.old writer.new) (stream E.contents errors.old errors.new) result }
     ensures status { result ≤ 2 }
 {
     let over = job_over(job, words, shapes);

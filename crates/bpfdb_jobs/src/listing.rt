@@ -2,6 +2,7 @@
 ghost use Rattle.std.specs.Prelude.{◌≤◌};
 ghost use Rattle.bpfdb_jobs.specs.Endings.{EndsPrinted};
 ghost use Rattle.bpfdb_options.specs.declared.subcommand.Subcommand.TheVariants.{Asm, Disasm, Lines};
+ghost use Rattle.bpfdb_faults.specs.Streams.{stream};
 
 use crate::job::Job;
 use crate::opening::program_of;
@@ -18,8 +19,8 @@ pub fn asm_job<W: Write, E: Write>(
     writer: &mut Counted<W>,
     errors: &mut Counted<E>,
 ) -> u8
-    ensures does { EndsPrinted W.contents E.contents Asm job.now writer.old writer.new errors.old
-        errors.new result }
+    ensures does { EndsPrinted Asm job.now (stream W.contents writer.old writer.new)
+        (stream E.contents errors.old errors.new) result }
     ensures status { result ≤ 2 }
 {
     match assemble(alloc, job.file) {
@@ -38,8 +39,8 @@ pub fn lines_job<W: Write, E: Write>(
     writer: &mut Counted<W>,
     errors: &mut Counted<E>,
 ) -> u8
-    ensures does { EndsPrinted W.contents E.contents Lines job.now writer.old writer.new errors.old
-        errors.new result }
+    ensures does { EndsPrinted Lines job.now (stream W.contents writer.old writer.new)
+        (stream E.contents errors.old errors.new) result }
     ensures status { result ≤ 2 }
 {
     match line_table(alloc, job.file) {
@@ -58,8 +59,8 @@ pub fn disasm_job<W: Write, E: Write>(
     writer: &mut Counted<W>,
     errors: &mut Counted<E>,
 ) -> u8
-    ensures does { EndsPrinted W.contents E.contents Disasm job.now writer.old writer.new errors.old
-        errors.new result }
+    ensures does { EndsPrinted Disasm job.now (stream W.contents writer.old writer.new)
+        (stream E.contents errors.old errors.new) result }
     ensures status { result ≤ 2 }
 {
     let program = match program_of(alloc, job) {

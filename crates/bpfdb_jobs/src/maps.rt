@@ -1,7 +1,7 @@
 //! The lines that tell of an object that was linked.
 ghost use Rattle.std.specs.Prelude.{◌++◌, OnErr, OnOk, flat_map, codes};
 ghost use Rattle.counted_io.specs.Writing.{Writes, WritesAfter};
-ghost use Rattle.bpfdb_faults.specs.Streams.{Gets, Loses};
+ghost use Rattle.bpfdb_faults.specs.Streams.{Gets, Loses, stream};
 ghost use Rattle.bpfdb_jobs.specs.MapLines.{count_line, linked_text, linked_told, maps_line, name_line, name_lines, names_behind, shape_text};
 
 use bpf_isa::MapShape;
@@ -22,9 +22,9 @@ pub fn tell_linked<E: Write>(
     answered: Option<u64>,
     fields: Option<u64>,
 ) -> Result<(), WriteFault>
-    ensures ok { OnOk result (Gets E.contents errors.old errors.new
+    ensures ok { OnOk result (Gets (stream E.contents errors.old errors.new)
         (linked_told object.now shapes.now places.now answered fields)) }
-    ensures err { OnErr result (Loses E.contents errors.old errors.new
+    ensures err { OnErr result (Loses (stream E.contents errors.old errors.new)
         (linked_told object.now shapes.now places.now answered fields)) }
 {
     if shapes.is_empty() && (answered.is_none() && fields.is_none()) {

@@ -4,10 +4,10 @@ ghost use Rattle.std.specs.Borrow.{Bor};
 ghost use Rattle.bpf_join.specs.Joined.{IsJoinFault};
 ghost use Rattle.bpf_link.specs.Names.{fault_names};
 ghost use Rattle.bpf_link.specs.Programs.{IsLinkRefusal, IsLinkedAs};
-ghost use Rattle.bpfdb_faults.specs.Streams.{Told};
+ghost use Rattle.bpfdb_faults.specs.Streams.{Told, stream};
 ghost use Rattle.bpfdb_jobs.specs.Endings.{EndsPrinted};
 ghost use Rattle.bpfdb_faults.specs.Faults.{line_of};
-ghost use Rattle.bpfdb_jobs.specs.Jobs.{IsObjectOf, answered_if, entry_of, fields_if, or_count, section_of, stubs_of};
+ghost use Rattle.bpfdb_jobs.specs.Jobs.{IsLinkedTo, IsObjectOf, answered_if, entry_of, fields_if, or_count, section_of, stubs_of};
 ghost use Rattle.bpfdb_jobs.specs.Refusals.{RefusesObject};
 ghost use Rattle.bpfdb_faults.specs.declared.refusal.JobRefusal.{JobRefusal as WhyRefused};
 ghost use Rattle.bpfdb_options.specs.declared.subcommand.Subcommand.TheVariants.{Link};
@@ -33,8 +33,8 @@ pub fn link_job<W: Write, E: Write>(
     writer: &mut Counted<W>,
     errors: &mut Counted<E>,
 ) -> u8
-    ensures does { EndsPrinted W.contents E.contents Link job.now writer.old writer.new errors.old
-        errors.new result }
+    ensures does { EndsPrinted Link job.now (stream W.contents writer.old writer.new)
+        (stream E.contents errors.old errors.new) result }
     ensures status { result ≤ 2 }
 {
     let stubs = match stubs_of(job) {
@@ -80,38 +80,35 @@ fn put_object<W: Write, E: Write>(
 ) -> u8
     requires object { IsObjectOf job.now object.now counted }
     requires stubs { stubs_of job.now ≡ Ok stubs.now }
-    ensures does { EndsPrinted W.contents E.contents Link job.now writer.old writer.new errors.old
-        errors.new result }
+    ensures does { EndsPrinted Link job.now (stream W.contents writer.old writer.new)
+        (stream E.contents errors.old errors.new) result }
     ensures status { result ≤ 2 }
 {
     if job.options.is_joined {
         let written = write_out(writer, object);
         return ended(written, errors);
     }
-    put_program(alloc, job, object, counted, stubs, writer, errors)
+    match linked_from(alloc, job, object, stubs) {
+        Ok(linked) => put_program(job, object, counted, &linked, writer, errors),
+        Err(fault) => refuse(job, object, errors, fault),
+    }
 }
 
-/// Writes the program of the object that is linked, and what is told of it.
+/// Writes the program to which the object is linked, and what is told of it.
 fn put_program<W: Write, E: Write>(
-    alloc: Global,
     job: &Job<'_>,
     object: &[u8],
     counted: Option<u32>,
-    stubs: &[Stub],
+    linked: &Linked,
     writer: &mut Counted<W>,
     errors: &mut Counted<E>,
 ) -> u8
-    requires object { IsObjectOf job.now object.now counted }
-    requires stubs { stubs_of job.now ≡ Ok stubs.now }
     requires words { job.now.options.is_joined ≡ false }
-    ensures does { EndsPrinted W.contents E.contents Link job.now writer.old writer.new errors.old
-        errors.new result }
+    requires linked { IsLinkedTo job.now object.now counted linked.now }
+    ensures does { EndsPrinted Link job.now (stream W.contents writer.old writer.new)
+        (stream E.contents errors.old errors.new) result }
     ensures status { result ≤ 2 }
 {
-    let linked = match linked_from(alloc, job, object, stubs) {
-        Ok(linked) => linked,
-        Err(fault) => return refuse(job, object, errors, fault),
-    };
     let answered = answered_if(job, linked.answered);
     let fields = fields_if(job, or_count(counted, linked.fields));
     match write_out(writer, linked.words.as_slice()) {
@@ -150,7 +147,8 @@ pub fn refuse<E: Write>(
     ensures value { result ≡ 2 }
     ensures told { (name : Bor (List ℕ))
         × (name.now ≡ fault_names object.now (section_of job.now) fault)
-        × Told E.contents errors.old errors.new (line_of (JobFault.Refused (JobRefusal.Object fault name))) }
+        × Told (stream E.contents errors.old errors.new)
+        (line_of (JobFault.Refused (JobRefusal.Object fault name))) }
 {
     let names = fault_names(object, section_of(job), &fault);
     let name = names.as_slice();
@@ -169,7 +167,7 @@ fn refuse_join<E: Write>(
         job.now.options.as_compiled fault }
     ensures value { result ≡ 2 }
     ensures told { (refusal : WhyRefused) × RefusesObject job.now refusal
-        × Told E.contents errors.old errors.new (line_of (JobFault.Refused refusal)) }
+        × Told (stream E.contents errors.old errors.new) (line_of (JobFault.Refused refusal)) }
 {
     match fault {
         JoinFault::First(fault) => refuse(job, job.file, errors, fault),
@@ -182,7 +180,7 @@ fn refuse_functions<E: Write>(functions: &[u8], errors: &mut Counted<E>, fault: 
     ensures value { result ≡ 2 }
     ensures told { (name : Bor (List ℕ))
         × (name.now ≡ fault_names functions.now (codes ".text") fault)
-        × Told E.contents errors.old errors.new
+        × Told (stream E.contents errors.old errors.new)
         (line_of (JobFault.Refused (JobRefusal.Functions fault name))) }
 {
     let names = fault_names(functions, b".text", &fault);

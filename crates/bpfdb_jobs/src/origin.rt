@@ -10,6 +10,7 @@ ghost use Rattle.bpfdb_jobs.specs.Origins.{Asks, RefusesWhat, found_text, status
 ghost use Rattle.bpfdb_jobs.specs.Refusals.{RefusesArrival};
 ghost use Rattle.bpfdb_limits.specs.Limits.{IsLimit};
 ghost use Rattle.bpfdb_options.specs.declared.subcommand.Subcommand.TheVariants.{Origin};
+ghost use Rattle.bpfdb_faults.specs.Streams.{stream};
 
 use crate::job::Job;
 use crate::opening::{session_of, timeline_of, wanted_of};
@@ -45,8 +46,8 @@ pub fn origin_job<W: Write, E: Write>(
     errors: &mut Counted<E>,
 ) -> u8
     requires limit { IsLimit job.now.options.limit }
-    ensures does { EndsPrinted W.contents E.contents Origin job.now writer.old writer.new errors.old
-        errors.new result }
+    ensures does { EndsPrinted Origin job.now (stream W.contents writer.old writer.new)
+        (stream E.contents errors.old errors.new) result }
     ensures status { result ≤ 2 }
 {
     match arrive(alloc, job) {
@@ -125,8 +126,8 @@ fn ask<W: Write, E: Write>(
     errors: &mut Counted<E>,
 ) -> u8
     requires { HasArrived job.now arrived.old.timeline arrived.old.moves }
-    ensures does { EndsPrinted W.contents E.contents Origin job.now writer.old writer.new errors.old
-        errors.new result }
+    ensures does { EndsPrinted Origin job.now (stream W.contents writer.old writer.new)
+        (stream E.contents errors.old errors.new) result }
     ensures status { result ≤ 2 }
 {
     let parts = match parts_of(job, arrived.timeline.cpu()) {

@@ -2,6 +2,7 @@
 ghost use Rattle.std.specs.Prelude.{◌≤◌};
 ghost use Rattle.bpfdb_jobs.specs.Endings.{EndsPrinted};
 ghost use Rattle.bpfdb_options.specs.declared.subcommand.Subcommand.TheVariants.{Run};
+ghost use Rattle.bpfdb_faults.specs.Streams.{stream};
 
 use crate::job::Job;
 use crate::opening::machine_of;
@@ -19,8 +20,8 @@ pub fn run_job<W: Write, E: Write>(
     writer: &mut Counted<W>,
     errors: &mut Counted<E>,
 ) -> u8
-    ensures does { EndsPrinted W.contents E.contents Run job.now writer.old writer.new errors.old
-        errors.new result }
+    ensures does { EndsPrinted Run job.now (stream W.contents writer.old writer.new)
+        (stream E.contents errors.old errors.new) result }
     ensures status { result ≤ 2 }
 {
     let mut cpu = match machine_of(alloc, job) {

@@ -4,6 +4,7 @@ ghost use Rattle.bpf_suite.specs.Shown.{IsWordsFault};
 ghost use Rattle.bpfdb_jobs.specs.Shown.{EndsShown, HidesPart, Shows};
 ghost use Rattle.bpfdb_jobs.specs.Suites.{AreTestsOf};
 ghost use Rattle.bpfdb_options.specs.declared.test_part.TestPart.TheVariants.{Program};
+ghost use Rattle.bpfdb_faults.specs.Streams.{stream};
 
 use crate::job::Job;
 use crate::suite::{asked_tests, refuse};
@@ -22,8 +23,8 @@ pub fn show_job<W: Write, E: Write>(
     writer: &mut Counted<W>,
     errors: &mut Counted<E>,
 ) -> u8
-    ensures does { EndsShown W.contents E.contents part job.now writer.old writer.new errors.old
-        errors.new result }
+    ensures does { EndsShown part job.now (stream W.contents writer.old writer.new)
+        (stream E.contents errors.old errors.new) result }
     ensures status { result ≤ 2 }
 {
     let suite = match Suite::read(alloc, job.file) {
@@ -66,8 +67,8 @@ fn show_test<W: Write, E: Write>(
     errors: &mut Counted<E>,
 ) -> u8
     requires { AreTestsOf job.now (test.now ∷ []) }
-    ensures does { EndsShown W.contents E.contents part job.now writer.old writer.new errors.old
-        errors.new result }
+    ensures does { EndsShown part job.now (stream W.contents writer.old writer.new)
+        (stream E.contents errors.old errors.new) result }
     ensures status { result ≤ 2 }
 {
     match bytes_of(alloc, part, test) {

@@ -2,7 +2,7 @@
 ghost use Rattle.std.specs.Prelude.{◌≡◌, ◌≤◌, IfErr, IfOk, List, length};
 ghost use Rattle.bpf_suite.specs.Outcomes.{Outcome};
 ghost use Rattle.bpf_suite.specs.Reports.{AreOutcomes, BreaksOff, all_pass, plan};
-ghost use Rattle.bpfdb_faults.specs.Streams.{Told};
+ghost use Rattle.bpfdb_faults.specs.Streams.{Told, stream};
 ghost use Rattle.bpfdb_faults.specs.Faults.{line_of};
 ghost use Rattle.bpfdb_jobs.specs.Refusals.{LacksName};
 ghost use Rattle.bpfdb_jobs.specs.Shown.{EndsTest};
@@ -24,8 +24,8 @@ pub fn test_job<W: Write, E: Write>(
     writer: &mut Counted<W>,
     errors: &mut Counted<E>,
 ) -> u8
-    ensures does { EndsTest W.contents E.contents job.now.options.show job.now writer.old
-        writer.new errors.old errors.new result }
+    ensures does { EndsTest job.now.options.show job.now (stream W.contents writer.old writer.new)
+        (stream E.contents errors.old errors.new) result }
     ensures status { result ≤ 2 }
 {
     match job.options.show {
@@ -41,8 +41,8 @@ fn report_job<W: Write, E: Write>(
     writer: &mut Counted<W>,
     errors: &mut Counted<E>,
 ) -> u8
-    ensures does { EndsTests W.contents E.contents job.now writer.old writer.new errors.old
-        errors.new result }
+    ensures does { EndsTests job.now (stream W.contents writer.old writer.new)
+        (stream E.contents errors.old errors.new) result }
     ensures status { result ≤ 2 }
 {
     let suite = match Suite::read(alloc, job.file) {
@@ -95,7 +95,7 @@ fn fault_of_suite<'a>(why: SuiteFault) -> JobFault<'a>
 /// Tells why no test is run of a file. Answers the exit status, 2.
 pub fn refuse<E: Write>(errors: &mut Counted<E>, fault: FileFault) -> u8
     ensures value { result ≡ 2 }
-    ensures told { Told E.contents errors.old errors.new (line_of (fault_of_file fault)) }
+    ensures told { Told (stream E.contents errors.old errors.new) (line_of (fault_of_file fault)) }
 {
     match fault {
         FileFault::Line(fault, line) => {

@@ -2,31 +2,23 @@
 ghost use Rattle.std.specs.Prelude.{◌≡◌, ◌≤◌, IfErr, OnErr, OnOk};
 ghost use Rattle.bpf_session.specs.Plain.{plain_end};
 ghost use Rattle.bpf_trace.specs.Profiles.{profile_text};
+ghost use Rattle.bpf_trace.specs.Tellings.{Tells};
 ghost use Rattle.bpf_trace.specs.Traces.{trace_text};
-ghost use Rattle.bpfdb_faults.specs.Streams.{Told};
+ghost use Rattle.bpfdb_faults.specs.Streams.{Told, stream};
 ghost use Rattle.bpfdb_jobs.specs.Endings.{EndsPrinted};
 ghost use Rattle.bpfdb_faults.specs.Faults.{line_of};
 ghost use Rattle.bpfdb_jobs.specs.Jobs.{shown_of, status_of_end, trace_out};
-ghost use Rattle.bpfdb_jobs.specs.Tellings.{Tells, fault_of_told};
+ghost use Rattle.bpfdb_jobs.specs.Tellings.{fault_of_told};
 ghost use Rattle.bpfdb_options.specs.declared.subcommand.Subcommand.TheVariants.{Trace};
 
 use crate::job::Job;
 use crate::opening::machine_of;
 use bpf_machine::{Cpu, Status};
-use bpf_trace::{Profile, Shown, Texts, put_profile, write_trace};
+use bpf_trace::{Profile, Shown, TraceFault, put_profile, write_trace};
 use bpfdb_faults::{JobFault, give_up};
 use counted_io::{Counted, WriteFault};
 use std::alloc::Global;
 use std::io::Write;
-
-/// Why a run isn't told to its end.
-#[derive(Clone, Copy)]
-pub enum TellFault {
-    /// Memory ran out, before the first step.
-    Memory,
-    /// A write failed.
-    Write,
-}
 
 /// Runs the program to its end or to the limit, and tells each step that is shown, or with
 /// `--profile` how often each instruction ran, and where it ended.
@@ -36,8 +28,8 @@ pub fn trace_job<W: Write, E: Write>(
     writer: &mut Counted<W>,
     errors: &mut Counted<E>,
 ) -> u8
-    ensures does { EndsPrinted W.contents E.contents Trace job.now writer.old writer.new errors.old
-        errors.new result }
+    ensures does { EndsPrinted Trace job.now (stream W.contents writer.old writer.new)
+        (stream E.contents errors.old errors.new) result }
     ensures status { result ≤ 2 }
 {
     let mut cpu = match machine_of(alloc, job) {
@@ -49,18 +41,16 @@ pub fn trace_job<W: Write, E: Write>(
 }
 
 /// The exit status of a run that was told, or not: that of `run` where its machine stands.
-fn end_of<E: Write>(told: Result<(), TellFault>, cpu: &Cpu, errors: &mut Counted<E>) -> u8
-    ensures ok { OnOk told (result ≡ status_of_end cpu.now.status) }
-    ensures same { OnOk told (errors.new ≡ errors.old) }
-    ensures err { OnErr told (result ≡ 2) }
-    ensures why { IfErr told (λ why. Told E.contents errors.old errors.new
-        (line_of (fault_of_told why))) }
+fn end_of<E: Write>(told: Result<(), TraceFault>, cpu: &Cpu, errors: &mut Counted<E>) -> u8
+    ensures ok { OnOk told ((errors.new ≡ errors.old) × (result ≡ status_of_end cpu.now.status)) }
+    ensures err { IfErr told (λ why. Told (stream E.contents errors.old errors.new)
+        (line_of (fault_of_told why)) × (result ≡ 2)) }
     ensures status { result ≤ 2 }
 {
     match told {
         Ok(()) => status_of(cpu.status()),
-        Err(TellFault::Memory) => give_up(errors, &JobFault::Memory),
-        Err(TellFault::Write) => give_up(errors, &JobFault::Output),
+        Err(TraceFault::Memory) => give_up(errors, &JobFault::Memory),
+        Err(TraceFault::Write) => give_up(errors, &JobFault::Output),
     }
 }
 
@@ -82,7 +72,7 @@ fn tell_run<W: Write>(
     job: &Job<'_>,
     cpu: &mut Cpu,
     writer: &mut Counted<W>,
-) -> Result<(), TellFault>
+) -> Result<(), TraceFault>
     ensures told { Tells W.contents writer.old writer.new result (trace_out job.now cpu.old) }
     ensures next { OnOk result (cpu.new ≡ plain_end job.now.options.limit cpu.old) }
 {
@@ -92,7 +82,7 @@ fn tell_run<W: Write>(
     }
     match writer.flush() {
         Ok(()) => Ok(()),
-        Err(_) => Err(TellFault::Write),
+        Err(_) => Err(TraceFault::Write),
     }
 }
 
@@ -102,7 +92,7 @@ fn write_run<W: Write>(
     job: &Job<'_>,
     cpu: &mut Cpu,
     writer: &mut Counted<W>,
-) -> Result<(), TellFault>
+) -> Result<(), TraceFault>
     ensures told { Tells W.contents writer.old writer.new result (trace_out job.now cpu.old) }
     ensures next { OnOk result (cpu.new ≡ plain_end job.now.options.limit cpu.old) }
 {
@@ -119,7 +109,7 @@ fn write_steps<W: Write>(
     job: &Job<'_>,
     cpu: &mut Cpu,
     writer: &mut Counted<W>,
-) -> Result<(), TellFault>
+) -> Result<(), TraceFault>
     ensures told { Tells W.contents writer.old writer.new result
         (trace_text job.now.options.limit (shown_of job.now) cpu.old) }
     ensures next { OnOk result (cpu.new ≡ plain_end job.now.options.limit cpu.old) }
@@ -129,14 +119,7 @@ fn write_steps<W: Write>(
         count: job.options.count,
         only_branches: job.options.only_branches,
     };
-    let texts = match Texts::of(alloc, cpu.program()) {
-        Ok(texts) => texts,
-        Err(_) => return Err(TellFault::Memory),
-    };
-    match write_trace(cpu, job.options.limit, shown, &texts, writer, Ok(())) {
-        Ok(()) => Ok(()),
-        Err(WriteFault) => Err(TellFault::Write),
-    }
+    write_trace(alloc, cpu, job.options.limit, shown, writer)
 }
 
 /// Writes how often each instruction ran.
@@ -145,16 +128,16 @@ fn write_profile<W: Write>(
     limit: u64,
     cpu: &mut Cpu,
     writer: &mut Counted<W>,
-) -> Result<(), TellFault>
+) -> Result<(), TraceFault>
     ensures told { Tells W.contents writer.old writer.new result (profile_text limit cpu.old) }
     ensures next { OnOk result (cpu.new ≡ plain_end limit cpu.old) }
 {
     let profile = match Profile::run(alloc, cpu, limit) {
         Ok(profile) => profile,
-        Err(_) => return Err(TellFault::Memory),
+        Err(_) => return Err(TraceFault::Memory),
     };
     match put_profile(writer, Ok(()), &profile, limit, cpu) {
         Ok(()) => Ok(()),
-        Err(WriteFault) => Err(TellFault::Write),
+        Err(WriteFault) => Err(TraceFault::Write),
     }
 }

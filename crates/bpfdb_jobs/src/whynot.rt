@@ -14,6 +14,7 @@ ghost use Rattle.bpfdb_jobs.specs.Origins.{found_text};
 ghost use Rattle.bpfdb_jobs.specs.Whynots.{RefusesGoals};
 ghost use Rattle.bpfdb_limits.specs.Limits.{IsLimit};
 ghost use Rattle.bpfdb_options.specs.declared.subcommand.Subcommand.TheVariants.{Whynot};
+ghost use Rattle.bpfdb_faults.specs.Streams.{stream};
 
 use crate::job::Job;
 use crate::origin::{Arrived, arrive, status_of};
@@ -36,8 +37,8 @@ pub fn whynot_job<W: Write, E: Write>(
     errors: &mut Counted<E>,
 ) -> u8
     requires limit { IsLimit job.now.options.limit }
-    ensures does { EndsPrinted W.contents E.contents Whynot job.now writer.old writer.new errors.old
-        errors.new result }
+    ensures does { EndsPrinted Whynot job.now (stream W.contents writer.old writer.new)
+        (stream E.contents errors.old errors.new) result }
     ensures status { result ≤ 2 }
 {
     match arrive(alloc, job) {
@@ -55,8 +56,8 @@ fn ask_why<W: Write, E: Write>(
     errors: &mut Counted<E>,
 ) -> u8
     requires { HasArrived job.now arrived.old.timeline arrived.old.moves }
-    ensures does { EndsPrinted W.contents E.contents Whynot job.now writer.old writer.new errors.old
-        errors.new result }
+    ensures does { EndsPrinted Whynot job.now (stream W.contents writer.old writer.new)
+        (stream E.contents errors.old errors.new) result }
     ensures status { result ≤ 2 }
 {
     let aim = match aim_of(alloc, job, arrived.timeline.cpu().program()) {

@@ -35,10 +35,14 @@ returns-in-Err-clause-text g c =
     let more = lines_step g.W.Write.contents c.args.writer.now c.args.so_far c.args.only_branches c.args.passed c.args.most c.args.cpu.now c.loop-k.k _ _ _ _ _ c.loop-k-test.true on c.loop-k.invariant.told c.put_line-told.ensures.text in
     Telling-broken g.W.Write.contents c.args.writer.now c.args.so_far _ _ _ _ (rw c.in-Err.is at more)
 
-pub returns-in-Err-clause-steps : goal.returns-in-Err-clause-steps
-returns-in-Err-clause-steps g c =
+pub returns-then-has_ended-clause-taken : goal.returns-then-has_ended-clause-taken
+returns-then-has_ended-clause-taken g c = record { steps = c.loop-k.invariant.steps; within = c.loop-k.auto.k-end }
+
+pub returns-in-Err-clause-taken : goal.returns-in-Err-clause-taken
+returns-in-Err-clause-taken g c =
     let on : has_ended c.loop-k.cpu.status ≡ false = ap has_ended (sym c.status.ensures) ∙ sym c.has_ended.ensures ∙ c.if-has_ended.false in
-    rw c.put_line-told.ensures.next (Steps-more _ _ _ c.loop-k.invariant.steps on)
+    let more = c.loop-k-test.true in
+    record { steps = rw c.put_line-told.ensures.next (Steps-more _ _ _ c.loop-k.invariant.steps on); within = omega (arith, more) }
 
 pub returns-clause-text : goal.returns-clause-text
 returns-clause-text g c =
@@ -46,9 +50,9 @@ returns-clause-text g c =
     let within = c.loop-k.auto.k-end in
     lines_all g.W.Write.contents c.args.writer.now c.args.so_far c.args.only_branches c.args.passed c.args.most c.args.cpu.now c.loop-k.k _ _ _ (omega arith) c.loop-k.invariant.told
 
-pub returns-clause-steps : goal.returns-clause-steps
-returns-clause-steps g c =
+pub returns-clause-taken : goal.returns-clause-taken
+returns-clause-taken g c =
     let fin = c.loop-k-test.false in
     let within = c.loop-k.auto.k-end in
     let all : c.loop-k.k ≡ c.args.most = omega arith in
-    subst (λ (n : ℕ). Steps c.args.cpu.now c.loop-k.cpu n) all c.loop-k.invariant.steps
+    record { steps = subst (λ (n : ℕ). Steps c.args.cpu.now c.loop-k.cpu n) all c.loop-k.invariant.steps; within = omega arith }

@@ -1,35 +1,42 @@
-use Rattle.std.proofs.Common.{refl, ⊎_elim}
+use Rattle.std.proofs.Common.{refl, ⊎_elim, Result, Ok, Err}
+use Rattle.std.specs.Prelude.{IfErr, OnOk}
+use Rattle.bpf_isa.specs.Programs.{Checked}
+use Rattle.bpf_journal.specs.Tracks.{RingHolds, ring_room}
+use Rattle.bpf_ring.specs.declared.keeper.RingKeeper.{RingKeeper}
+use Rattle.bpf_remote.specs.Serving as remote
+use Rattle.bpf_session.specs.Runs.{FailsBy}
+use Rattle.bpf_session.specs.Sessions.{SessionValue}
+use Rattle.bpf_session.specs.declared.fault.RunFault.{RunFault}
 use Rattle.bpf_session.specs.declared.fault.RunFault.TheVariants.{Read, Write}
-use Rattle.bpfdb_jobs.specs.Endings.{Broken, Refused, Served}
+use Rattle.bpfdb_faults.specs.Streams.{Spared, Stream, stream}
+use Rattle.bpfdb_jobs.specs.Connections.{Begins, BreaksConnection, ServesConnection, ends, ring_refusals}
+use Rattle.bpfdb_jobs.specs.Endings.{Refused}
+use Rattle.bpfdb_jobs.specs.declared.job.Job.{Job}
 use Rattle.bpfdb_jobs.proofs.Refusing.{no-places, session-refused}
+use Rattle.bpfdb_jobs.proofs.Sessions.{session-ends}
 use Rattle.bpfdb_jobs.proofs.gdb.gdb_job.Goals as goal
 
-pub returns-in-Ok-serve-clause-does : goal.returns-in-Ok-serve-clause-does
-returns-in-Ok-serve-clause-does g c =
-    let o = c.in-Ok.ensures.ok in
-    let s = rw c.layout_of.ensures at c.in-Ok-serve.ensures.ok in
-    Served o.code o.opens
-    (record { from = c.in-Ok.session; to = c.serve.new.session; begins = o.begins; serves = s })
-    (⊎_elim (λ left. left.1.same) (λ ended. ended.3.same) s.4) s.3.1 refl refl
+module _ {R W A : Type 0} (reader : Stream R) (writer : Stream W) (job : Job) (code : Checked) (from to : SessionValue RingKeeper)
+    (begins : Begins job code from) where
+  serves : (r : Result A RunFault)
+      → OnOk r (remote.Serves RingHolds ring_refusals ring_room reader.bytes writer.bytes (ends job from to reader writer))
+      → OnOk r (ServesConnection job reader writer code × Spared reader × Spared writer)
+  serves (Ok v) s = (
+    record { from = from; to = to; begins = begins; serves = s },
+    ⊎_elim (λ left. left.1.same) (λ ended. ended.3.same) s.4,
+    s.3.1,
+  )
+  serves (Err e) s = tt
+
+  breaks : (r : Result A RunFault)
+      → IfErr r (λ why. remote.Breaks RingHolds ring_refusals ring_room reader.bytes writer.bytes why (ends job from to reader writer))
+      → IfErr r (λ why. BreaksConnection job reader writer code why × FailsBy why reader.old reader.new writer.old writer.new)
+  breaks (Ok v) b = tt
+  breaks (Err Read) b = (record { from = from; to = to; begins = begins; breaks = b }, (b.7.fault, b.3.1))
+  breaks (Err Write) b = (record { from = from; to = to; begins = begins; breaks = b }, (b.4.same, b.9))
 
 pub returns-in-Err-clause-does : goal.returns-in-Err-clause-does
 returns-in-Err-clause-does g c = Refused c.in-Err.refusal c.in-Err.ensures.err refl refl (rw (session-refused c.args.job.now c.in-Err.refusal c.in-Err.ensures.err) at c.give_up.ensures.told) c.give_up.ensures.value
-
-pub returns-in-Err-Read-clause-does : goal.returns-in-Err-Read-clause-does
-returns-in-Err-Read-clause-does g c =
-    let o = c.in-Ok.ensures.ok in
-    let b = rw (c.layout_of.ensures, c.in-Err-Read.field-0-is) at c.in-Err-Read.ensures.err in
-    Broken o.code Read o.opens
-    (record { from = c.in-Ok.session; to = c.serve.new.session; begins = o.begins; breaks = b })
-    (b.7.fault, b.3.1) c.give_up-in-Err-Read.ensures.told c.give_up-in-Err-Read.ensures.value
-
-pub returns-clause-does : goal.returns-clause-does
-returns-clause-does g c =
-    let o = c.in-Ok.ensures.ok in
-    let b = rw (c.layout_of.ensures, c.in-Err-Write.field-0-is) at c.in-Err-Write.ensures.err in
-    Broken o.code Write o.opens
-    (record { from = c.in-Ok.session; to = c.serve.new.session; begins = o.begins; breaks = b })
-    (b.4.same, b.9) c.give_up-in-Err-Write.ensures.told c.give_up-in-Err-Write.ensures.value
 
 pub returns-in-Err-wanted_of-clause-does : goal.returns-in-Err-wanted_of-clause-does
 returns-in-Err-wanted_of-clause-does g c =
@@ -38,3 +45,14 @@ returns-in-Err-wanted_of-clause-does g c =
     Refused c.in-Err-wanted_of.refusal refused refl refl
     (rw (session-refused c.args.job.now c.in-Err-wanted_of.refusal refused) at c.give_up-in-Err-wanted_of.ensures.told)
     c.give_up-in-Err-wanted_of.ensures.value
+
+pub returns-clause-does : goal.returns-clause-does
+returns-clause-does g c =
+    let o = c.in-Ok.ensures.ok in
+    let job = c.args.job.now in
+    let reader = stream g.R.Read.remaining c.args.reader.now c.serve-served.new.reader in
+    let writer = stream g.W.Write.contents c.args.writer.now c.serve-served.new.writer in
+    session-ends job _ _ o.code c.serve-served.result c.session_ended.result o.opens
+    (serves reader writer job o.code c.in-Ok.session c.serve-served.new.session o.begins c.serve-served.result (rw c.layout_of-gdb.ensures at c.serve-served.ensures.ok))
+    (breaks reader writer job o.code c.in-Ok.session c.serve-served.new.session o.begins c.serve-served.result (rw c.layout_of-gdb.ensures at c.serve-served.ensures.err))
+    c.session_ended.ensures.ok c.session_ended.ensures.err

@@ -7,10 +7,9 @@ use Rattle.bpfdb_jobs.proofs.listing.asm_job.Goals as goal
 
 pub returns-in-Ok-clause-does : goal.returns-in-Ok-clause-does
 returns-in-Ok-clause-does g c =
-    out-printed g.W.Write.contents g.E.Write.contents Asm c.args.job.now c.in-Ok.words.items c.args.writer.now c.write_out-written.new.writer
-    c.args.errors.now c.ended.new.errors c.write_out-written.result c.ended.result (c.in-Ok.words.items, c.in-Ok.ensures.ok, refl)
+    out-printed Asm c.args.job.now c.in-Ok.words.items c.write_out-written.result c.ended.result (c.in-Ok.words.items, c.in-Ok.ensures.ok, refl)
     (rw c.as_slice.ensures.value at c.write_out-written.ensures)
-    c.ended.ensures.ok c.ended.ensures.same c.ended.ensures.err c.ended.ensures.told
+    c.ended.ensures.ok c.ended.ensures.err
 
 pub returns-in-Err-clause-does : goal.returns-in-Err-clause-does
 returns-in-Err-clause-does g c = Refused (Listing c.in-Err.fault) c.in-Err.ensures.err refl c.give_up.ensures.told c.give_up.ensures.value

@@ -8,10 +8,9 @@ use Rattle.bpfdb_jobs.proofs.listing.disasm_job.Goals as goal
 
 pub returns-in-Ok-disassemble-clause-does : goal.returns-in-Ok-disassemble-clause-does
 returns-in-Ok-disassemble-clause-does g c =
-    out-printed g.W.Write.contents g.E.Write.contents Disasm c.args.job.now (canon c.in-Ok.program) c.args.writer.now c.write_out-written.new.writer
-    c.args.errors.now c.ended.new.errors c.write_out-written.result c.ended.result (c.in-Ok.program, c.in-Ok.ensures.ok, refl)
+    out-printed Disasm c.args.job.now (canon c.in-Ok.program) c.write_out-written.result c.ended.result (c.in-Ok.program, c.in-Ok.ensures.ok, refl)
     (rw (c.as_slice.ensures.value ∙ c.in-Ok-disassemble.ensures) at c.write_out-written.ensures)
-    c.ended.ensures.ok c.ended.ensures.same c.ended.ensures.err c.ended.ensures.told
+    c.ended.ensures.ok c.ended.ensures.err
 
 pub returns-in-Err-clause-does : goal.returns-in-Err-clause-does
 returns-in-Err-clause-does g c = Refused c.in-Err.refusal c.in-Err.ensures.err refl c.give_up.ensures.told c.give_up.ensures.value

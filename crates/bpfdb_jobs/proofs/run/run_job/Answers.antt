@@ -19,22 +19,20 @@ returns-in-Ok-Faulted-clause-does g c =
     let end = c.run_plain.new.cpu in
     let is = sym c.in-Ok-Faulted.field-0-is ∙ c.in-Ok-Faulted.ensures.ok in
     let w = c.tell_place.ensures in
-    err-printed g.W.Write.contents g.E.Write.contents Run c.args.job.now (run_print c.args.job.now.options.limit Faulted end)
-    c.args.writer.now c.run_plain.new.writer c.args.errors.now c.tell_place.new.errors c.tell_place.result c.told_as.result
+    err-printed Run c.args.job.now (run_print c.args.job.now.options.limit Faulted end) c.tell_place.result c.told_as.result
     (run-prints c.args.job.now c.in-Ok.cpu end Faulted c.in-Ok.ensures.ok c.run_plain.ensures.next is)
     (c.run_plain.ensures.quiet (not-exited Faulted end.status is (λ e. cc))).1
-    (line-got g.E.Write.contents _ _ _ _ w) (line-lost g.E.Write.contents _ _ _ _ w) c.told_as.ensures.ok c.told_as.ensures.err
+    (line-got _ _ w) (line-lost _ _ w) c.told_as.ensures.ok c.told_as.ensures.err
 
 pub returns-in-Ok-Limit-clause-does : goal.returns-in-Ok-Limit-clause-does
 returns-in-Ok-Limit-clause-does g c =
     let end = c.run_plain.new.cpu in
     let is = sym c.in-Ok-Limit.field-0-is ∙ c.in-Ok-Limit.ensures.ok in
     let w = rw c.pc.ensures at c.tell.ensures in
-    err-printed g.W.Write.contents g.E.Write.contents Run c.args.job.now (run_print c.args.job.now.options.limit Limit end)
-    c.args.writer.now c.run_plain.new.writer c.args.errors.now c.tell.new.errors c.tell.result c.told_as-in-Ok-Limit.result
+    err-printed Run c.args.job.now (run_print c.args.job.now.options.limit Limit end) c.tell.result c.told_as-in-Ok-Limit.result
     (run-prints c.args.job.now c.in-Ok.cpu end Limit c.in-Ok.ensures.ok c.run_plain.ensures.next is)
     (c.run_plain.ensures.quiet (not-exited Limit end.status is (λ e. cc))).1
-    (line-got g.E.Write.contents _ _ _ _ w) (line-lost g.E.Write.contents _ _ _ _ w) c.told_as-in-Ok-Limit.ensures.ok c.told_as-in-Ok-Limit.ensures.err
+    (line-got _ _ w) (line-lost _ _ w) c.told_as-in-Ok-Limit.ensures.ok c.told_as-in-Ok-Limit.ensures.err
 
 pub returns-in-Err-clause-does : goal.returns-in-Err-clause-does
 returns-in-Err-clause-does g c = Refused c.in-Err.refusal c.in-Err.ensures.err refl c.give_up.ensures.told c.give_up.ensures.value

@@ -6,8 +6,7 @@ use Rattle.bpf_suite.specs.declared.fault.FileFault.{FileFault}
 use Rattle.bpf_suite.specs.declared.fault.FileFault.TheVariants as file
 use Rattle.bpf_suite.specs.declared.section.Section.{Section}
 use Rattle.bpf_suite.proofs.Tests.{tests-some}
-use Rattle.counted_io.specs.Counted.{Tally}
-use Rattle.bpfdb_faults.specs.Streams.{Told}
+use Rattle.bpfdb_faults.specs.Streams.{Stream, Told}
 use Rattle.bpfdb_faults.specs.Faults.{line_of}
 use Rattle.bpfdb_jobs.specs.Refusals.{LacksName}
 use Rattle.bpfdb_jobs.specs.Shown.{EndsShown, Exhausted, Refused}
@@ -20,42 +19,39 @@ use Rattle.bpfdb_options.specs.declared.test_part.TestPart.{TestPart}
 use Rattle.bpfdb_jobs.proofs.show.show_job.Goals as goal
 
 -- a file with a fault
-not-read : {W E : Type 0} (contents : W → Option (List ℕ)) (lines : E → Option (List ℕ)) (part : TestPart) (job : Job) (writer : Tally W)
-    (errors errors' : Tally E) (why : FileFault) (status : ℕ) → IsFaultOf job.file.now why → Told lines errors errors' (line_of (fault_of_file why))
-    → status ≡ 2 → EndsShown contents lines part job writer writer errors errors' status
-not-read contents lines part job writer errors errors' (file.Line why line) status is told two = Refused (Tests why line) is refl told two
-not-read contents lines part job writer errors errors' file.Memory status is told two = Exhausted refl told two
+not-read : {W E : Type 0} {writer : Stream W} {errors : Stream E} (part : TestPart) (job : Job) (why : FileFault) (status : ℕ)
+    → writer.new ≡ writer.old → IsFaultOf job.file.now why → Told errors (line_of (fault_of_file why)) → status ≡ 2
+    → EndsShown part job writer errors status
+not-read part job (file.Line why line) status same is told two = Refused (Tests why line) is same told two
+not-read part job file.Memory status same is told two = Exhausted same told two
 
 pub returns-in-Err-clause-does : goal.returns-in-Err-clause-does
 returns-in-Err-clause-does g c =
-    not-read g.W.Write.contents g.E.Write.contents c.args.part c.args.job.now c.args.writer.now c.args.errors.now c.refuse.new.errors c.in-Err.fault
-    c.refuse.result c.in-Err.ensures.err c.refuse.ensures.told c.refuse.ensures.value
+    not-read c.args.part c.args.job.now c.in-Err.fault c.refuse.result refl c.in-Err.ensures.err c.refuse.ensures.told c.refuse.ensures.value
 
 -- a name that no test of a sound file has
-no-test : {W E : Type 0} (contents : W → Option (List ℕ)) (lines : E → Option (List ℕ)) (part : TestPart) (job : Job) (writer : Tally W)
-    (errors errors' : Tally E) (refusal : JobRefusal) (status : ℕ) → file_fault job.file.now ≡ None
-    → LacksName job.options.only (tests (sections job.file.now)) refusal → Told lines errors errors' (line_of (fault.Refused refusal)) → status ≡ 2
-    → EndsShown contents lines part job writer writer errors errors' status
-no-test contents lines part job writer errors errors' (NoTest name) status sound lacks told two = Refused (NoTest name) (sound, lacks) refl told two
-no-test contents lines part job writer errors errors' (Maps why) status sound lacks told two = absurd lacks
-no-test contents lines part job writer errors errors' (Listing why) status sound lacks told two = absurd lacks
-no-test contents lines part job writer errors errors' (Load why) status sound lacks told two = absurd lacks
-no-test contents lines part job writer errors errors' (Open why) status sound lacks told two = absurd lacks
-no-test contents lines part job writer errors errors' (Journal why) status sound lacks told two = absurd lacks
-no-test contents lines part job writer errors errors' (Script why) status sound lacks told two = absurd lacks
-no-test contents lines part job writer errors errors' (What why) status sound lacks told two = absurd lacks
-no-test contents lines part job writer errors errors' (Goal why) status sound lacks told two = absurd lacks
-no-test contents lines part job writer errors errors' (Object why name) status sound lacks told two = absurd lacks
-no-test contents lines part job writer errors errors' (Functions why name) status sound lacks told two = absurd lacks
-no-test contents lines part job writer errors errors' (Tests why line) status sound lacks told two = absurd lacks
-no-test contents lines part job writer errors errors' ManyTests status sound lacks told two = absurd lacks
+no-test : {W E : Type 0} {writer : Stream W} {errors : Stream E} (part : TestPart) (job : Job) (refusal : JobRefusal) (status : ℕ) → writer.new ≡ writer.old
+    → file_fault job.file.now ≡ None → LacksName job.options.only (tests (sections job.file.now)) refusal
+    → Told errors (line_of (fault.Refused refusal)) → status ≡ 2 → EndsShown part job writer errors status
+no-test part job (NoTest name) status same sound lacks told two = Refused (NoTest name) (sound, lacks) same told two
+no-test part job (Maps fault) status same sound lacks told two = absurd lacks
+no-test part job (Listing fault) status same sound lacks told two = absurd lacks
+no-test part job (Load fault) status same sound lacks told two = absurd lacks
+no-test part job (Open fault) status same sound lacks told two = absurd lacks
+no-test part job (Journal fault) status same sound lacks told two = absurd lacks
+no-test part job (Script refusal) status same sound lacks told two = absurd lacks
+no-test part job (What fault) status same sound lacks told two = absurd lacks
+no-test part job (Goal fault) status same sound lacks told two = absurd lacks
+no-test part job (Object fault name) status same sound lacks told two = absurd lacks
+no-test part job (Functions fault name) status same sound lacks told two = absurd lacks
+no-test part job (Tests fault line) status same sound lacks told two = absurd lacks
+no-test part job ManyTests status same sound lacks told two = absurd lacks
 
 pub returns-in-Err-asked_tests-clause-does : goal.returns-in-Err-asked_tests-clause-does
 returns-in-Err-asked_tests-clause-does g c =
     let s = c.in-Ok.ensures.ok in
     let ts : c.in-Ok-tests.tests ≡ tests (sections c.args.job.now.file.now) = c.in-Ok-tests.ensures ∙ ap tests s.0 in
-    no-test g.W.Write.contents g.E.Write.contents c.args.part c.args.job.now c.args.writer.now c.args.errors.now c.give_up-in-Err-asked_tests.new.errors
-    c.in-Err-asked_tests.refusal c.give_up-in-Err-asked_tests.result s.1 (rw ts at c.in-Err-asked_tests.ensures.none)
+    no-test c.args.part c.args.job.now c.in-Err-asked_tests.refusal c.give_up-in-Err-asked_tests.result refl s.1 (rw ts at c.in-Err-asked_tests.ensures.none)
     c.give_up-in-Err-asked_tests.ensures.told c.give_up-in-Err-asked_tests.ensures.value
 
 -- one test at least is asked for

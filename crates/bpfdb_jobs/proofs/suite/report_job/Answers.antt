@@ -1,10 +1,9 @@
-use Rattle.std.proofs.Common.{ℕ, ◌≡◌, List, Option, None, refl, ap, ◌∙◌}
+use Rattle.std.proofs.Common.{ℕ, ◌≡◌, None, refl, ap, ◌∙◌}
 use Rattle.bpf_suite.specs.Faults.{IsFaultOf, file_fault}
 use Rattle.bpf_suite.specs.Files.{sections, tests}
 use Rattle.bpf_suite.specs.declared.fault.FileFault.{FileFault}
 use Rattle.bpf_suite.specs.declared.fault.FileFault.TheVariants as file
-use Rattle.counted_io.specs.Counted.{Tally}
-use Rattle.bpfdb_faults.specs.Streams.{Told}
+use Rattle.bpfdb_faults.specs.Streams.{Stream, Told}
 use Rattle.bpfdb_faults.specs.Faults.{line_of}
 use Rattle.bpfdb_jobs.specs.Suites.{BrokenOff, EndsTests, Exhausted, Refused, Reported, fault_of_file, status_of}
 use Rattle.bpfdb_jobs.specs.declared.job.Job.{Job}
@@ -15,41 +14,38 @@ use Rattle.bpfdb_faults.specs.declared.refusal.JobRefusal.TheVariants.{Maps, Lis
 use Rattle.bpfdb_jobs.proofs.suite.report_job.Goals as goal
 
 -- a file of which no test is run
-not-run : {W E : Type 0} (contents : W → Option (List ℕ)) (lines : E → Option (List ℕ)) (job : Job) (writer : Tally W) (errors errors' : Tally E)
-    (why : FileFault) (status : ℕ) → IsFaultOf job.file.now why → Told lines errors errors' (line_of (fault_of_file why)) → status ≡ 2
-    → EndsTests contents lines job writer writer errors errors' status
-not-run contents lines job writer errors errors' (file.Line fault line) status is told two = Refused (Tests fault line) is refl told two
-not-run contents lines job writer errors errors' file.Memory status is told two = Exhausted refl told two
+not-run : {W E : Type 0} {writer : Stream W} {errors : Stream E} (job : Job) (why : FileFault) (status : ℕ) → writer.new ≡ writer.old
+    → IsFaultOf job.file.now why → Told errors (line_of (fault_of_file why)) → status ≡ 2 → EndsTests job writer errors status
+not-run job (file.Line fault line) status same is told two = Refused (Tests fault line) is same told two
+not-run job file.Memory status same is told two = Exhausted same told two
 
 pub returns-in-Err-clause-does : goal.returns-in-Err-clause-does
 returns-in-Err-clause-does g c =
-    not-run g.W.Write.contents g.E.Write.contents c.args.job.now c.args.writer.now c.args.errors.now c.refuse.new.errors c.in-Err.fault c.refuse.result
-    c.in-Err.ensures.err c.refuse.ensures.told c.refuse.ensures.value
+    not-run c.args.job.now c.in-Err.fault c.refuse.result refl c.in-Err.ensures.err c.refuse.ensures.told c.refuse.ensures.value
 
 -- a name that no test of a sound file has
-no-test : {W E : Type 0} (contents : W → Option (List ℕ)) (lines : E → Option (List ℕ)) (job : Job) (writer : Tally W) (errors errors' : Tally E)
-    (refusal : JobRefusal) (status : ℕ) → file_fault job.file.now ≡ None → LacksName job.options.only (tests (sections job.file.now)) refusal
-    → Told lines errors errors' (line_of (fault.Refused refusal)) → status ≡ 2 → EndsTests contents lines job writer writer errors errors' status
-no-test contents lines job writer errors errors' (NoTest name) status sound lacks told two = Refused (NoTest name) (sound, lacks) refl told two
-no-test contents lines job writer errors errors' (Maps fault) status sound lacks told two = absurd lacks
-no-test contents lines job writer errors errors' (Listing fault) status sound lacks told two = absurd lacks
-no-test contents lines job writer errors errors' (Load fault) status sound lacks told two = absurd lacks
-no-test contents lines job writer errors errors' (Open fault) status sound lacks told two = absurd lacks
-no-test contents lines job writer errors errors' (Journal fault) status sound lacks told two = absurd lacks
-no-test contents lines job writer errors errors' (Script refusal) status sound lacks told two = absurd lacks
-no-test contents lines job writer errors errors' (What fault) status sound lacks told two = absurd lacks
-no-test contents lines job writer errors errors' (Goal fault) status sound lacks told two = absurd lacks
-no-test contents lines job writer errors errors' (Object fault name) status sound lacks told two = absurd lacks
-no-test contents lines job writer errors errors' (Functions fault name) status sound lacks told two = absurd lacks
-no-test contents lines job writer errors errors' (Tests fault line) status sound lacks told two = absurd lacks
-no-test contents lines job writer errors errors' ManyTests status sound lacks told two = absurd lacks
+no-test : {W E : Type 0} {writer : Stream W} {errors : Stream E} (job : Job) (refusal : JobRefusal) (status : ℕ) → writer.new ≡ writer.old
+    → file_fault job.file.now ≡ None → LacksName job.options.only (tests (sections job.file.now)) refusal
+    → Told errors (line_of (fault.Refused refusal)) → status ≡ 2 → EndsTests job writer errors status
+no-test job (NoTest name) status same sound lacks told two = Refused (NoTest name) (sound, lacks) same told two
+no-test job (Maps fault) status same sound lacks told two = absurd lacks
+no-test job (Listing fault) status same sound lacks told two = absurd lacks
+no-test job (Load fault) status same sound lacks told two = absurd lacks
+no-test job (Open fault) status same sound lacks told two = absurd lacks
+no-test job (Journal fault) status same sound lacks told two = absurd lacks
+no-test job (Script refusal) status same sound lacks told two = absurd lacks
+no-test job (What fault) status same sound lacks told two = absurd lacks
+no-test job (Goal fault) status same sound lacks told two = absurd lacks
+no-test job (Object fault name) status same sound lacks told two = absurd lacks
+no-test job (Functions fault name) status same sound lacks told two = absurd lacks
+no-test job (Tests fault line) status same sound lacks told two = absurd lacks
+no-test job ManyTests status same sound lacks told two = absurd lacks
 
 pub returns-in-Err-asked_tests-clause-does : goal.returns-in-Err-asked_tests-clause-does
 returns-in-Err-asked_tests-clause-does g c =
     let s = c.in-Ok.ensures.ok in
     let ts : c.in-Ok-tests.tests ≡ tests (sections c.args.job.now.file.now) = c.in-Ok-tests.ensures ∙ ap tests s.0 in
-    no-test g.W.Write.contents g.E.Write.contents c.args.job.now c.args.writer.now c.args.errors.now c.give_up-in-Err-asked_tests.new.errors
-    c.in-Err-asked_tests.refusal c.give_up-in-Err-asked_tests.result s.1 (rw ts at c.in-Err-asked_tests.ensures.none)
+    no-test c.args.job.now c.in-Err-asked_tests.refusal c.give_up-in-Err-asked_tests.result refl s.1 (rw ts at c.in-Err-asked_tests.ensures.none)
     c.give_up-in-Err-asked_tests.ensures.told c.give_up-in-Err-asked_tests.ensures.value
 
 pub returns-in-Ok-run_suite-clause-does : goal.returns-in-Ok-run_suite-clause-does

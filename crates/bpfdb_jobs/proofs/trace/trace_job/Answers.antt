@@ -8,6 +8,5 @@ returns-in-Err-clause-does g c = Refused c.in-Err.refusal c.in-Err.ensures.err r
 
 pub returns-clause-does : goal.returns-clause-does
 returns-clause-does g c =
-    trace-ends g.W.Write.contents g.E.Write.contents c.args.job.now c.in-Ok.cpu c.tell_run-told.new.cpu c.args.writer.now c.tell_run-told.new.writer
-    c.args.errors.now c.end_of.new.errors c.tell_run-told.result c.end_of.result c.in-Ok.ensures.ok c.tell_run-told.ensures.told c.tell_run-told.ensures.next
-    c.end_of.ensures.ok c.end_of.ensures.same c.end_of.ensures.err c.end_of.ensures.why
+    trace-ends c.args.job.now c.in-Ok.cpu c.tell_run-told.new.cpu c.tell_run-told.result c.end_of.result c.in-Ok.ensures.ok
+    c.tell_run-told.ensures.told c.tell_run-told.ensures.next c.end_of.ensures.ok c.end_of.ensures.err

@@ -1,5 +1,6 @@
 use Rattle.counted_io.proofs.Appending.{Writes-none}
-use Rattle.bpfdb_jobs.proofs.Telling.{profile-is, told-ok, told-lost}
+use Rattle.bpf_trace.proofs.Telling.{told-ok, told-lost}
+use Rattle.bpfdb_jobs.proofs.Telling.{profile-is}
 use Rattle.bpfdb_jobs.proofs.trace.write_profile.Goals as goal
 
 pub returns-in-Ok-put_profile-clause-told : goal.returns-in-Ok-put_profile-clause-told
