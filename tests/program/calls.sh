@@ -65,14 +65,14 @@ ragged='refused C3: length is no multiple of 8'
 unknown='refused C4 at slot 0: unknown instruction'
 unused='refused C6 at slot 0: unused field is not zero'
 for subcommand in run trace debug origin gdb disasm check; do
-    hinted "$unused" 'object looks like an object: bpfdb link' "$subcommand" object
+    hinted "$unused" 'object looks like an object: --object' "$subcommand" object
     hinted "$ragged" 'plain.s looks like a listing: --listing' "$subcommand" plain.s
 done
-hinted "$ragged" 'cut.o looks like an object: bpfdb link' check cut.o
+hinted "$ragged" 'cut.o looks like an object: --object' check cut.o
 hinted "$unknown" 'comment.s looks like a listing: --listing' check comment.s
 hinted "$unused" 'unused.s looks like a listing: --listing' check unused.s
 cp object "$(printf 'a\033b')"
-hinted "$unused" 'a\\x1bb looks like an object: bpfdb link' check "$(printf 'a\033b')"
+hinted "$unused" 'a\\x1bb looks like an object: --object' check "$(printf 'a\033b')"
 
 # A text has a line feed among its first 4,096 bytes, and there none but printing ASCII, tabs, carriage returns and line feeds.
 printf '\ta\r\nb' > blanks.s

@@ -75,7 +75,7 @@ abbrev pub place_line : List ℕ → ℕ → ℕ → List ℕ
 place_line name slot line = codes "slot " ++ decimal slot ++ codes " is line " ++ decimal line ++ codes " of " ++ shown name ++ codes "\n"
 
 abbrev pub hint_line : List ℕ → Hint → List ℕ
-hint_line name hint.Object = shown name ++ codes " looks like an object: bpfdb link\n"
+hint_line name hint.Object = shown name ++ codes " looks like an object: --object\n"
 hint_line name hint.Listing = shown name ++ codes " looks like a listing: --listing\n"
 hint_line name (hint.Line slot line) = place_line name slot line
 

@@ -25,7 +25,7 @@ use std::io::Write;
 /// What is said of a refused program to someone at a terminal.
 #[derive(Clone, Copy)]
 pub enum Hint {
-    /// FILE looks like an object, which `link` takes.
+    /// FILE looks like an object, which `--object` takes.
     Object,
     /// FILE looks like a listing, which `--listing` takes.
     Listing,
@@ -183,7 +183,7 @@ fn write_hint<E: Write>(errors: &mut Counted<E>, name: &str, hint: &Hint) -> Res
     match hint {
         Hint::Object => {
             let named = put_shown(errors, Ok(()), name.as_bytes());
-            put(errors, named, b" looks like an object: bpfdb link\n")
+            put(errors, named, b" looks like an object: --object\n")
         }
         Hint::Listing => {
             let named = put_shown(errors, Ok(()), name.as_bytes());

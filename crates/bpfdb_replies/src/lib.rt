@@ -1,5 +1,5 @@
 //! The texts of replies: what is printed of a machine, of breakpoints, of a history and of
-//! refusals. Their tests stand in `bpf_session_tests`.
+//! refusals. What they print is held by the tests of the built program.
 #![tactic(auto)]
 
 mod breaks;
