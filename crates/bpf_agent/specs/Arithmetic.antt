@@ -1,4 +1,6 @@
--- The instructions of expressions that work on numbers, by their opcodes, over numbers of 64 bits.
+-- The instructions of expressions that work on numbers, by their opcodes, over numbers of 64 bits. By gdb's names: add 0x02, sub 0x03, mul 0x04,
+-- div_signed 0x05, div_unsigned 0x06, rem_signed 0x07, rem_unsigned 0x08, lsh 0x09, rsh_signed 0x0a, rsh_unsigned 0x0b, log_not 0x0e, bit_and 0x0f,
+-- bit_or 0x10, bit_xor 0x11, bit_not 0x12, equal 0x13, less_signed 0x14, less_unsigned 0x15, ext 0x16, zero_ext 0x2a.
 use Rattle.std.specs.Prelude.{ℕ, ◌+◌, ◌-◌, ◌*◌, ◌/◌, ◌%◌, ◌^◌, ◌==◌, ◌&&◌, bit_and, bit_or, bit_xor, int_div, int_rem, int_lt, nat_lt, nat_le, if◌then◌else◌, Bool, true, false, Option, Some, None}
 use Rattle.std.specs.Int.{int_shr}
 use Rattle.bpf_steps.specs.Numbers.{signed, wrap}

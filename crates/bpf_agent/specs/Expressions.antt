@@ -1,5 +1,7 @@
 -- What an expression of gdb's comes to: bytecode over a stack of numbers of 64 bits, the newest first (gdb's manual, appendix "The GDB Agent
 -- Expression Mechanism").
+-- By gdb's names: ref8 to ref64 0x17 to 0x1a, if_goto 0x20, goto 0x21, const8 to const64 0x22 to 0x25, reg 0x26, end 0x27, dup 0x28, pop 0x29,
+-- swap 0x2b, pick 0x32, rot 0x33; those on numbers stand in `Arithmetic`.
 use Rattle.std.specs.Prelude.{ℕ, zero, suc, ◌+◌, ◌==◌, ◌||◌, ◌&&◌, nat_lt, nat_le, if◌then◌else◌, Bool, true, false, List, [], ◌∷◌, length, drop, slice_get, Option, Some, None}
 use Rattle.std.specs.Option.{option_map, option_and_then}
 use Rattle.byteorder.specs.Endian.{big_number, little_number}

@@ -16,6 +16,7 @@ pub(crate) fn binary(op: u8, a: u64, b: u64) -> Option<u64>
     }
 }
 
+/// `div_signed`, `div_unsigned`, `rem_signed`, `rem_unsigned`: None where the divisor is 0.
 fn quotient(op: u8, a: u64, b: u64) -> Option<u64>
     ensures { result ≡ quotient op a b }
 {
@@ -31,6 +32,7 @@ fn quotient(op: u8, a: u64, b: u64) -> Option<u64>
     }
 }
 
+/// `lsh`, `rsh_signed`, `rsh_unsigned`: None by 64 bits and more.
 fn shifted(op: u8, a: u64, b: u64) -> Option<u64>
     ensures { result ≡ shifted op a b }
 {
@@ -44,6 +46,7 @@ fn shifted(op: u8, a: u64, b: u64) -> Option<u64>
     }
 }
 
+/// `bit_and`, `bit_or`, `bit_xor`, and what compares.
 fn combined(op: u8, a: u64, b: u64) -> Option<u64>
     ensures { result ≡ combined op a b }
 {
@@ -55,6 +58,7 @@ fn combined(op: u8, a: u64, b: u64) -> Option<u64>
     }
 }
 
+/// `equal`, `less_signed`, `less_unsigned`: 1 or 0.
 fn compared(op: u8, a: u64, b: u64) -> Option<u64>
     ensures { result ≡ compared op a b }
 {

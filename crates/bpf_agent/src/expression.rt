@@ -8,6 +8,7 @@ use crate::stack::Stack;
 use bpf_machine::Cpu;
 use byteorder::{BigEndian, ByteOrder, LittleEndian};
 
+/// How many bytes stand behind an opcode.
 fn operand_len(op: u8) -> usize
     ensures value { result ≡ operand_len op }
     ensures short { result ≤ 8 }
@@ -21,6 +22,7 @@ fn operand_len(op: u8) -> usize
     }
 }
 
+/// The number that n bytes are, the highest first. None where the bytecode ends before them.
 fn operand(code: &[u8], at: usize, n: usize) -> Option<u64>
     requires short { n ≤ 8 }
     ensures { result ≡ operand code.now at n }
@@ -34,17 +36,19 @@ fn operand(code: &[u8], at: usize, n: usize) -> Option<u64>
     Some(BigEndian::read_uint(&code[at..], n))
 }
 
+/// The most instructions of an evaluation.
 const MOST_INSTRUCTIONS: usize = 1024;
 
-/// Where it goes on.
+/// How an evaluation goes on behind an instruction.
 #[derive(Clone, Copy)]
 pub enum Next {
-    /// a
+    /// At this byte of the bytecode.
     At(usize),
-    /// b
+    /// Not at all: this is its value.
     Value(u64),
 }
 
+/// Puts a number on the stack. Whether there was one, and room for it.
 fn and_push(number: Option<u64>, stack: &mut Stack) -> bool
     ensures { left result stack.new ≡ and_push number stack.old }
 {
@@ -54,6 +58,7 @@ fn and_push(number: Option<u64>, stack: &mut Stack) -> bool
     }
 }
 
+/// An instruction on the newest number, with what stands behind its opcode.
 fn on_one(op: u8, n: u64, stack: &mut Stack) -> bool
     ensures { left result stack.new ≡ on_one op n stack.old }
 {
@@ -63,6 +68,7 @@ fn on_one(op: u8, n: u64, stack: &mut Stack) -> bool
     }
 }
 
+/// An instruction on the newest two numbers.
 fn on_two(op: u8, stack: &mut Stack) -> bool
     ensures { left result stack.new ≡ on_two op stack.old }
 {
@@ -75,6 +81,7 @@ fn on_two(op: u8, stack: &mut Stack) -> bool
     and_push(binary(op, a, b), stack)
 }
 
+/// The newest two numbers change places.
 fn swapped(stack: &mut Stack) -> bool
     ensures { left result stack.new ≡ swapped stack.old }
 {
@@ -90,6 +97,7 @@ fn swapped(stack: &mut Stack) -> bool
     stack.push(a)
 }
 
+/// The newest number goes behind the next two.
 fn rotated(stack: &mut Stack) -> bool
     ensures { left result stack.new ≡ rotated stack.old }
 {
@@ -111,12 +119,14 @@ fn rotated(stack: &mut Stack) -> bool
     stack.push(b)
 }
 
+/// The newest number is dropped.
 fn popped(stack: &mut Stack) -> bool
     ensures { left result stack.new ≡ popped stack.old }
 {
     stack.pop().is_some()
 }
 
+/// An instruction on the order of numbers: `dup`, `pop`, `swap`, `rot`.
 fn ordered(op: u8, stack: &mut Stack) -> bool
     ensures { left result stack.new ≡ ordered op stack.old }
 {
@@ -152,6 +162,7 @@ fn memory_read(cpu: &Cpu, address: u64, n: usize) -> Option<u64>
     }
 }
 
+/// How many bytes of memory an instruction reads.
 fn width_of(op: u8) -> usize
     ensures value { result ≡ width_of op }
     ensures some { 1 ≤ result }
@@ -165,6 +176,7 @@ fn width_of(op: u8) -> usize
     }
 }
 
+/// A read of memory at the address that is the newest number.
 fn on_address(op: u8, cpu: &Cpu, stack: &mut Stack) -> bool
     ensures { left result stack.new ≡ on_address op cpu.now stack.old }
 {
@@ -174,6 +186,7 @@ fn on_address(op: u8, cpu: &Cpu, stack: &mut Stack) -> bool
     }
 }
 
+/// What an instruction that doesn't jump does to the stack. False where it has a fault.
 fn stacked(op: u8, n: u64, cpu: &Cpu, stack: &mut Stack) -> bool
     ensures { left result stack.new ≡ stacked op n cpu.now stack.old }
 {
@@ -188,6 +201,7 @@ fn stacked(op: u8, n: u64, cpu: &Cpu, stack: &mut Stack) -> bool
     }
 }
 
+/// `if_goto`: to byte n, unless the newest number is 0.
 fn branched(n: usize, after: usize, stack: &mut Stack) -> Option<Next>
     ensures { went result stack.new ≡ branched n after stack.old }
 {
@@ -198,6 +212,7 @@ fn branched(n: usize, after: usize, stack: &mut Stack) -> Option<Next>
     }
 }
 
+/// `end`: the newest number is the value.
 fn ended(stack: &mut Stack) -> Option<Next>
     ensures { went result stack.new ≡ ended stack.old }
 {
@@ -207,6 +222,8 @@ fn ended(stack: &mut Stack) -> Option<Next>
     }
 }
 
+/// Does an instruction, n being what stands behind its opcode and `after` where the next one begins.
+/// None where it has a fault.
 fn done(op: u8, n: u64, after: usize, cpu: &Cpu, stack: &mut Stack) -> Option<Next>
     ensures { went result stack.new ≡ done op n after cpu.now stack.old }
 {
@@ -224,6 +241,7 @@ fn done(op: u8, n: u64, after: usize, cpu: &Cpu, stack: &mut Stack) -> Option<Ne
     }
 }
 
+/// Does the instruction at a byte of the bytecode. None where it has a fault, or there is none.
 fn step(code: &[u8], cpu: &Cpu, at: usize, stack: &mut Stack) -> Option<Next>
     ensures { went result stack.new ≡ step code.now cpu.now at stack.old }
 {
@@ -238,7 +256,10 @@ fn step(code: &[u8], cpu: &Cpu, at: usize, stack: &mut Stack) -> Option<Next>
     }
 }
 
-/// value
+/// What a condition comes to in the machine as it stands: the number that its `end` takes off the
+/// stack (gdb's manual, appendix "The GDB Agent Expression Mechanism"). None where an instruction
+/// isn't one of those, divides by zero, shifts by 64 and more, reads what isn't there, or has too few
+/// numbers or more than 32; where the bytecode runs past its end; or after 1,024 instructions.
 pub fn value(code: &[u8], cpu: &Cpu) -> Option<u64>
     ensures { result ≡ value code.now cpu.now }
 {
