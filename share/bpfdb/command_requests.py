@@ -10,13 +10,13 @@ from bpfdb.texts import number
 
 
 # The commands of bpfdb, for completion behind a colon.
-COMMANDS = ('stepi', 'nexti', 'continue', 'finish', 'undo', 'redo', 'origin', 'reverse-stepi', 'reverse-nexti', 'reverse-continue', 'reverse-finish',
+COMMANDS = ('stepi', 'nexti', 'continue', 'finish', 'undo', 'redo', 'origin', 'whynot', 'reverse-stepi', 'reverse-nexti', 'reverse-continue', 'reverse-finish',
             'set reg', 'set mem', 'set cell', 'set pc', 'break', 'delete', 'watch', 'unwatch', 'info regs', 'info frames', 'info breaks',
             'info history', 'info trace', 'x', 'disas', 'last-write')
 # Those that only show something, and may be asked for again and again.
 VIEWS = ('x', 'info', 'last-write', 'disas')
-# A move in an answer of `origin`, with its slot.
-ORIGIN_SLOT = re.compile(r'-\d+ .*?; (\d+): ')
+# A move in an answer of `origin` or `whynot`, with its slot.
+ANSWER_SLOT = re.compile(r'-\d+ (?:.*?; )?(\d+): ')
 
 
 class CommandRequests:
@@ -39,7 +39,7 @@ class CommandRequests:
             raise Failed('a command of bpfdb is wanted behind the colon')
         if words[0] == 'quit':
             raise Failed('the editor ends the session')
-        if words[0] in ('undo', 'redo', 'origin'):
+        if words[0] in ('undo', 'redo', 'origin', 'whynot'):
             return getattr(self, words[0])(words[1:])
         self.machine.history.begin()
         reply = self.machine.ask(line)
@@ -82,21 +82,49 @@ class CommandRequests:
 
     def origin(self, words):
         """Where a value came from, a line a move, with the line of the source behind it."""
-        lines = self.names.origin(words)
+        return self.linked(self.names.origin(words))
+
+    def whynot(self, words):
+        """Why the program did not come to a place, and what decided it."""
+        return self.linked(self.names.whynot(self.goals(' '.join(words))))
+
+    def goals(self, text):
+        """The slots of a place, in bpfdb's words: of FILE:LINE all at which an instruction starts, of a function or a label the first."""
+        source = self.machine.loaded.source
+        line = re.fullmatch(r'(.+):(\d+)', text)
+        if line:
+            paths = [path for path in self.paths() if path == line[1] or path.endswith('/' + line[1])]
+            at, _ = self.slots_of(paths[0], int(line[2])) if paths else (0, [])
+            slots = [slot for slot, (_, one, _) in sorted(source.lines.items())
+                     if one == at and source.paths[slot] in paths[:1] and slot in self.machine.code]
+        else:
+            slots = [slot for slot, function in self.machine.functions.items() if function == text]
+            slots = slots or ([source.labels[text]] if text in source.labels else [])
+        if not slots and not re.fullmatch(r'[0-9,]+', text):
+            raise Failed(f'there is no instruction at {text}: a slot, a function, a label or FILE:LINE')
+        return ','.join(map(str, slots)) or text
+
+    def linked(self, lines):
         return '\n'.join(line + self.link(line) for line in lines)
 
     def link(self, line):
         """The place in the source of a move of such an answer."""
-        found = ORIGIN_SLOT.match(line)
+        found = ANSWER_SLOT.match(line)
         slot = int(found[1]) if found else -1
         source = self.machine.loaded.source
         return f' ({source.paths[slot]}:{source.lines[slot][1]})' if slot in source.lines else ''
 
     def do_bpfdb_origin(self, arguments):
-        lines = self.names.origin(arguments.text('what', '').split())
+        return self.with_places(self.names.origin(arguments.text('what', '').split()))
+
+    def do_bpfdb_whynot(self, arguments):
+        return self.with_places(self.names.whynot(self.goals(arguments.text('what').strip())))
+
+    def with_places(self, lines):
+        """The lines of an answer, those of moves with their places."""
         moves = []
         for line in lines:
-            found = ORIGIN_SLOT.match(line)
+            found = ANSWER_SLOT.match(line)
             source, at = self.source_at(int(found[1])) if found else (None, 0)
             moves.append({'text': line, **({'source': source, 'line': at - 1 + self.lines_from_1,
                                             'instructionReference': f'{SLOT * int(found[1]):#x}'} if source else {})})

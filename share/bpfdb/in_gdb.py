@@ -185,12 +185,17 @@ def origin(text):
     return bpf.origin.lines(text)
 
 
+def whynot(slots):
+    settle()
+    return bpf.whynot.lines(slots)
+
+
 def known():
     return [symbol.name for symbol in symbols_of(selected(0))]
 
 
 CALLS = {function.__name__.rstrip('_'): function for function in
-         (version, load, ask, moved, frames, locals_, members, evaluate, holds, number, place, assign, origin, known)}
+         (version, load, ask, moved, frames, locals_, members, evaluate, holds, number, place, assign, origin, whynot, known)}
 
 
 def serve(source, target):

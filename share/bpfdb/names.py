@@ -101,14 +101,22 @@ class OwnNames:
 
     def origin(self, words):
         """The lines of `origin`, without the first, which says where the machine is."""
-        lines = self.machine.program.origin(self.asked(words))[1]
-        if lines and lines[0].startswith('refused '):
-            raise Hint(lines[0])
-        return lines
+        return unless_refused(self.machine.program.origin(self.asked(words))[1])
+
+    def whynot(self, slots):
+        """The lines of `whynot`, without the first, which says where the machine is."""
+        return unless_refused(self.machine.program.asked('whynot', [slots])[1])
 
     def known(self):
         """Names that may stand in an expression."""
         return {f'r{at}' for at in range(11)} | {'pc'} | set(self.machine.loaded.source.labels)
+
+
+def unless_refused(lines):
+    """The lines of an answer, which is no refusal."""
+    if lines and lines[0].startswith('refused '):
+        raise Hint(lines[0])
+    return lines
 
 
 class Gdb:
@@ -236,10 +244,10 @@ class GdbNames(OwnNames):
 
     def origin(self, words):
         text = ' '.join(words)
-        lines = self.gdb.call('origin', BARE.sub(r'$r\1', text))
-        if lines and lines[0].startswith('refused '):
-            raise Hint(lines[0])
-        return lines
+        return unless_refused(self.gdb.call('origin', BARE.sub(r'$r\1', text)))
+
+    def whynot(self, slots):
+        return unless_refused(self.gdb.call('whynot', slots))
 
     def known(self):
         return super().known() | set(self.gdb.call('known'))

@@ -35,6 +35,7 @@ if has python3 'bpfdb-dap'; then
     python3 -c 'import sys; sys.stdout.buffer.write(bytes.fromhex(sys.stdin.read()))' < "$top/examples/firewall/object.hex" > firewall.o
     cp "$top/examples/firewall/firewall.c" .
     cp "$top/examples/firewall/context.bin" packet.bin
+    cp "$top/examples/firewall/ipv6.bin" .
     printf 'mov r0, 0\nloop: add r0, 1\nja loop\n' > endless.s
     printf 'mov r0, 0\nloop: add r0, 1\njlt r0, 450000, loop\nexit\n' > loop.s
     printf 'mov r0, 0\nloop: add r0, 1\nja loop\nexit\n' > words.s

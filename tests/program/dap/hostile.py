@@ -24,8 +24,8 @@ REQUESTS = {
     'setExpression': ['expression', 'value', 'frameId'], 'evaluate': ['expression', 'context', 'frameId'], 'exceptionInfo': ['threadId'],
     'completions': ['text', 'column'], 'readMemory': ['memoryReference', 'offset', 'count'], 'writeMemory': ['memoryReference', 'offset', 'data'],
     'disassemble': ['memoryReference', 'offset', 'instructionOffset', 'instructionCount'], 'loadedSources': [], 'source': ['source', 'sourceReference'],
-    'restart': ['arguments'], 'bpfdb/origin': ['what'], 'bpfdb/undo': ['count'], 'bpfdb/redo': ['count'], 'nothing': ['x'], '__init__': [], 'do_next': []}
-VALUES = [None, True, 0, 1, -1, 5, 1 << 63, 1 << 64, -(1 << 70), 1.5, 1e300, '', 'r0', 'pc', ':stepi', ':undo', ':origin r0', ':x 0 1', 'x' * 5000, '\0', '\ud800', '0x100000000',
+    'restart': ['arguments'], 'bpfdb/origin': ['what'], 'bpfdb/whynot': ['what'], 'bpfdb/undo': ['count'], 'bpfdb/redo': ['count'], 'nothing': ['x'], '__init__': [], 'do_next': []}
+VALUES = [None, True, 0, 1, -1, 5, 1 << 63, 1 << 64, -(1 << 70), 1.5, 1e300, '', 'r0', 'pc', ':stepi', ':undo', ':origin r0', ':whynot 12', 'overrun.c:21', ':x 0 1', 'x' * 5000, '\0', '\ud800', '0x100000000',
           '0x2000001f8:8', '0x10', '-1', '*(u8 *)r1', '((((', '[0]', 'r10-8', '+0', 'instruction', 'overrun.o', 'gdb', '8x2', [], [{}], [1], ['x'], {}, {'path': 'overrun.c'},
           {'sourceReference': 1}, [{'line': 21}], [{'line': -5}], [{'line': 1 << 80}], [{'name': 'copy'}], [{'instructionReference': '0xa0', 'condition': '1/0'}],
           [{'dataId': '0x2000001f8:4'}], [{'dataId': '0x2000001f8:999'}], [[[[]]]]]

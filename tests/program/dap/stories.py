@@ -103,6 +103,25 @@ def firewall():
 
 
 @story
+def whynot():
+    """README's packet of IPv6, which doesn't come to the port: the same answer of a line, of a slot, and behind a colon."""
+    editor, _ = started('firewall.o', section='xdp', entry='bpfdb', context='ipv6.bin')
+    hold(editor.go('continue')[0], 'exited', 'the end')
+    before = editor.state()
+    branch = '-14 31: jne r5, 8, L52; r5 = 0xdd86; jumped to 52'
+    for what in ('44', '44,44', 'firewall.c:54'):
+        lines = editor.ask('bpfdb/whynot', what=what)['lines']
+        hold(lines[0]['text'], branch, f'the branch, of {what}')
+        hold((os.path.basename(lines[0]['source']['path']), lines[0]['instructionReference']), ('firewall.c', hex(8 * 31)), 'its place')
+    hold(editor.hand('whynot firewall.c:54').split('\n')[0].startswith(branch + ' ('), True, 'the branch behind a colon')
+    hold(editor.state(), before, 'the state')
+    for what, why in (('nowhere.c:54', 'there is no instruction at nowhere.c:54: a slot, a function, a label or FILE:LINE'),
+                      ('65000', 'refused V4: no instruction starts at the slot')):
+        hold(editor.refused('bpfdb/whynot', what=what), why, f'nothing of {what}')
+    left(editor)
+
+
+@story
 def there_and_back():
     """Each line forwards, and back again: each step back leads to the state before the step, to the first; and the moves are the same."""
     editor, _ = started()
