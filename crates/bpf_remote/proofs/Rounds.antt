@@ -81,7 +81,7 @@ module _ {K : Type 0} (holds : K → List Kept → Type 0) (refusals room : K �
       → Obeyed holds refusals room now next command said → count < from.limit → goes_again again now (round said next) ≡ false
       → moves' ≡ moves_after said command moves
       → told ≡ answer_of_move said (runs command) next.moment.state.status (changed now (round said next))
-      → Goes holds refusals room command again from next told before moves'
+      → Goes holds refusals room command again (from, before) (next, moves') told
   Goes-halted from now next before moves moves' count said told g obeyed h stops m e = (
     round said next ∷ g.rounds,
     rounds-more from now before moves count (round said next) g obeyed h,
@@ -95,5 +95,5 @@ module _ {K : Type 0} (holds : K → List Kept → Type 0) (refusals room : K �
 
   -- the limit is reached
   pub Goes-cut : (from now : SessionValue K) (before moves count : ℕ) → Gone from now before moves count → from.limit ≤ count
-      → Goes holds refusals room command again from now (answer.Halted halt.Limit) before moves
+      → Goes holds refusals room command again (from, before) (now, moves) (answer.Halted halt.Limit)
   Goes-cut from now before moves count g h = (g.rounds, g.are, g.led, g.moves_is, inr (g.on, subst (λ (n : ℕ). from.limit ≤ n) g.count_is h, refl))

@@ -112,28 +112,28 @@ abbrev pub line_of : List ℕ → Option (Result (Option Command) Refusal)
 line_of digits = option_map command_of (result_ok (decode_of digits))
 
 module _ {K : Type 0} (holds : K → List Kept → Type 0) (refusals room : K → ℕ) where
-  -- The session obeyed a command, and is answered by whether it did.
-  abbrev pub Sets : SessionValue K → SessionValue K → Command → Answer → ℕ → ℕ → Type 0
-  Sets old new command told moves now = (said : Result Reply Refusal) × Obeyed holds refusals room old new command said
-      × (told ≡ answer_of_set said) × (now ≡ moves_after said command moves)
+  -- A session, before whose state so many moves lie, obeyed a command, and is answered by whether it did.
+  abbrev pub Sets : SessionValue K × ℕ → SessionValue K × ℕ → Command → Answer → Type 0
+  Sets old new command told = (said : Result Reply Refusal) × Obeyed holds refusals room old.0 new.0 command said
+      × (told ≡ answer_of_set said) × (new.1 ≡ moves_after said command old.1)
 
   -- It was let go by a command that a request may want again.
-  abbrev pub Moves : SessionValue K → SessionValue K → Request → ConditionList → Command → Answer → ℕ → ℕ → Type 0
-  Moves old new r cs command told moves now =
-      Goes holds refusals room command (wants_again r cs (depth old.moment.state)) old new told moves now
+  abbrev pub Moves : SessionValue K × ℕ → SessionValue K × ℕ → Request → ConditionList → Command → Answer → Type 0
+  Moves old new r cs command told =
+      Goes holds refusals room command (wants_again r cs (depth old.0.moment.state)) old new told
 
   -- A request is answered as the session answers the command that it stands for, which makes some moves or takes some back; one that stands
   -- for none changes nothing.
-  abbrev pub Answers : SessionValue K → SessionValue K → Request → ConditionList → Answer → ℕ → ℕ → Type 0
-  Answers old new (request.Move command) cs told moves now = Moves old new (request.Move command) cs command told moves now
-  Answers old new (request.Range from to) cs told moves now = Moves old new (request.Range from to) cs (command.Forward (goal.Steps 1)) told moves now
-  Answers old new (request.Set command) cs told moves now = Sets old new command told moves now
-  Answers old new (request.Break slot condition) cs told moves now = Sets old new (command.Add (stop.Breakpoint slot)) told moves now
-  Answers old new (request.Watch run) cs told moves now = (said : Result (Unit {0}) Refusal)
-      × SetsWatches old new (with_run run old.watches old.moment.state) said × (told ≡ answer_of_set said) × (now ≡ moves)
-  Answers old new (request.Unwatch run) cs told moves now = (said : Result (Unit {0}) Refusal)
-      × SetsWatches old new (without_run run old.watches) said × (told ≡ answer_of_set said) × (now ≡ moves)
-  Answers old new r cs told moves now = (new ≡ old) × (told ≡ answer_to r old) × (now ≡ moves)
+  abbrev pub Answers : SessionValue K × ℕ → SessionValue K × ℕ → Request → ConditionList → Answer → Type 0
+  Answers old new (request.Move command) cs told = Moves old new (request.Move command) cs command told
+  Answers old new (request.Range from to) cs told = Moves old new (request.Range from to) cs (command.Forward (goal.Steps 1)) told
+  Answers old new (request.Set command) cs told = Sets old new command told
+  Answers old new (request.Break slot condition) cs told = Sets old new (command.Add (stop.Breakpoint slot)) told
+  Answers old new (request.Watch run) cs told = (said : Result (Unit {0}) Refusal)
+      × SetsWatches old.0 new.0 (with_run run old.0.watches old.0.moment.state) said × (told ≡ answer_of_set said) × (new.1 ≡ old.1)
+  Answers old new (request.Unwatch run) cs told = (said : Result (Unit {0}) Refusal)
+      × SetsWatches old.0 new.0 (without_run run old.0.watches) said × (told ≡ answer_of_set said) × (new.1 ≡ old.1)
+  Answers old new r cs told = (new.0 ≡ old.0) × (told ≡ answer_to r old.0) × (new.1 ≡ old.1)
 
   abbrev pub ObeysCommand : SessionValue K → SessionValue K → Command → Bool → List ℕ → ℕ → ℕ → Type 0
   ObeysCommand old new command true body moves now = (new ≡ old) × (body ≡ codes "OK") × (now ≡ moves)
@@ -158,7 +158,7 @@ module _ {K : Type 0} (holds : K → List Kept → Type 0) (refusals room : K �
 
   -- A packet with this body was answered.
   abbrev pub DoesPlaced : Place K → Place K → Request → ConditionList → Answer → List ℕ → Bool → Type 0
-  DoesPlaced old new r cs answer told on = (moves : ℕ) × Answers old.session new.session r cs answer old.manners.moves moves
+  DoesPlaced old new r cs answer told on = (moves : ℕ) × Answers (old.session, old.manners.moves) (new.session, moves) r cs answer
       × (new.manners ≡ manners_after r moves old.manners)
       × (new.last ≡ text_of new.manners new.session.moment.state answer)
       × (remark : Remark) × Remarked new.session r answer moves remark

@@ -46,13 +46,13 @@ pub record Tells {K W A E : Type 0} (contents : W → Option (List ℕ)) (before
   pub written : Writes contents before.writer after.writer result told
 
 module _ {K W : Type 0} (holds : K → List Kept → Type 0) (refusals room : K → ℕ) (contents : W → Option (List ℕ)) where
-  abbrev pub AnswersAsked : {A E : Type 0} → Sides K W → Sides K W → Result A E → Option (Result (Option What) WhatFault) → List ℕ → Type 0
-  AnswersAsked old new result asked digits = (before : List ℕ)
-      → Tells contents old new result (λ last told on. DoesAsked holds refusals room (place old before) (place new last) asked digits told on) true
+  abbrev pub AnswersAsked : {A E : Type 0} → Sides K W → Sides K W → Result A E → Option (Result (Option What) WhatFault) × List ℕ → Type 0
+  AnswersAsked old new result line = (before : List ℕ)
+      → Tells contents old new result (λ last told on. DoesAsked holds refusals room (place old before) (place new last) line.0 line.1 told on) true
 
-  abbrev pub AnswersWhy : {A E : Type 0} → Sides K W → Sides K W → Result A E → Option (List ℕ) → List ℕ → Type 0
-  AnswersWhy old new result asked digits = (before : List ℕ)
-      → Tells contents old new result (λ last told on. DoesWhy holds refusals room (place old before) (place new last) asked digits told on) true
+  abbrev pub AnswersWhy : {A E : Type 0} → Sides K W → Sides K W → Result A E → Option (List ℕ) × List ℕ → Type 0
+  AnswersWhy old new result line = (before : List ℕ)
+      → Tells contents old new result (λ last told on. DoesWhy holds refusals room (place old before) (place new last) line.0 line.1 told on) true
 
   abbrev pub AnswersLine : {A E : Type 0} → Sides K W → Sides K W → Result A E → List ℕ → Type 0
   AnswersLine old new result digits = (before : List ℕ)

@@ -111,7 +111,7 @@ module _ {K : Type 0} (holds : K → List Kept → Type 0) (refusals room : K �
   AreRounds command again from [] = Unit {0}
   AreRounds command again from (r ∷ rs) = Obeyed (led_to from rs) r.after command r.said × GoAgain again from rs × (made rs < from.limit) × AreRounds command again from rs
 
-  -- A way was gone, before whose state so many moves lay, and then lie.
-  abbrev pub Goes : Command → Again → SessionValue K → SessionValue K → Answer → ℕ → ℕ → Type 0
-  Goes command again from to told moves now = (rs : List (Round K)) × AreRounds command again from rs × (led_to from rs ≡ to)
-      × (now ≡ moves_behind command moves rs) × (IsHalt command again from rs told ⊎ IsCut again from rs told)
+  -- A way was gone, from a session before whose state so many moves lie to another.
+  abbrev pub Goes : Command → Again → SessionValue K × ℕ → SessionValue K × ℕ → Answer → Type 0
+  Goes command again from to told = (rs : List (Round K)) × AreRounds command again from.0 rs × (led_to from.0 rs ≡ to.0)
+      × (to.1 ≡ moves_behind command from.1 rs) × (IsHalt command again from.0 rs told ⊎ IsCut again from.0 rs told)

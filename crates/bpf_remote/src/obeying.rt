@@ -41,8 +41,8 @@ pub(crate) fn obey<K: Keeper>(
     conditions: &Conditions,
     moves: u64,
 ) -> (Answer, u64)
-    ensures { Answers K.holds K.refused K.room session.old session.new request.now
-        conditions.now result.0 moves result.1 }
+    ensures { Answers K.holds K.refused K.room (session.old, moves) (session.new, result.1)
+        request.now conditions.now result.0 }
 {
     match request {
         Request::Move(command) => go(session, request, command, conditions, moves),
@@ -62,8 +62,8 @@ pub(crate) fn obey<K: Keeper>(
 
 /// Obeys a command, which is answered by whether it was obeyed.
 fn set<K: Keeper>(session: &mut Session<K>, command: &Command, moves: u64) -> (Answer, u64)
-    ensures { Sets K.holds K.refused K.room session.old session.new command.now result.0
-        moves result.1 }
+    ensures { Sets K.holds K.refused K.room (session.old, moves) (session.new, result.1)
+        command.now result.0 }
 {
     let said = session.apply(command);
     (answer_of_set(&said), moves_after(&said, command, moves))

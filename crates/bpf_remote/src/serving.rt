@@ -302,7 +302,7 @@ fn answer_why<K: Keeper, W: Write>(
           manners = manners.new;
           answer = answer.new;
           writer = writer.new;
-        }) result (Some asked) digits }
+        }) result (Some asked, digits) }
 {
     let begun = acknowledge(*manners, writer);
     let (told, left) = show_why(session, wanted, aimed, manners.moves, answer, writer, begun);
@@ -335,7 +335,7 @@ fn answer_other<K: Keeper, W: Write>(
           manners = manners.new;
           answer = answer.new;
           writer = writer.new;
-        }) result None digits.now }
+        }) result (None, digits.now) }
 {
     match asked_in(session.cpu(), digits) {
         Some(asked) => answer_asked(session, wanted, manners, asked, answer, writer),
@@ -365,7 +365,7 @@ fn answer_asked<K: Keeper, W: Write>(
           manners = manners.new;
           answer = answer.new;
           writer = writer.new;
-        }) result (Some asked) digits }
+        }) result (Some asked, digits) }
 {
     let begun = acknowledge(*manners, writer);
     let (told, left) = show_origin(session, wanted, asked, manners.moves, answer, writer, begun);
@@ -396,7 +396,7 @@ fn answer_script<K: Keeper, W: Write>(
           manners = manners.new;
           answer = answer.new;
           writer = writer.new;
-        }) result None digits.now }
+        }) result (None, digits.now) }
 {
     let begun = acknowledge(*manners, writer);
     answer.clear();

@@ -131,7 +131,7 @@ pub(crate) fn go<K: Keeper>(
 ) -> (Answer, u64)
     ensures { Goes K.holds K.refused K.room command.now
         (wants_again request.now conditions.now (depth session.old.moment.state))
-        session.old session.new result.0 moves result.1 }
+        (session.old, moves) (session.new, result.1) result.0 }
 {
     let limit = session.limit();
     let deep = session.cpu().depth();
