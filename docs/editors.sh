@@ -222,7 +222,7 @@ TEXT
         {
             action = $6 != "" ? "(" $6 ")" : $3 ~ /^(PATH|FILE|PAGE|OBJECT)$/ ? "_files" : $1 ~ /^(section|entry|only)$/ ? " _bpfdb_of_file --" $1 : " "
             spec = "[" $4 "]" ($3 == "" ? "" : ":" $3 ":" action)
-            one = $2 == "" ? "\"--" $1 ($3 == "" ? "" : "=") spec "\"" : "\"(-" $2 " --" $1 ")\"{-" $2 ",--" $1 "}\"" spec "\""
+            one = $2 == "" ? "\"" ($1 == "with" ? "*" : "") "--" $1 ($3 == "" ? "" : "=") spec "\"" : "\"(-" $2 " --" $1 ")\"{-" $2 ",--" $1 "}\"" spec "\""
             n = split($5, jobs, ", ")
             for (i = 1; i <= n; i++) has[jobs[i]] = has[jobs[i]] " " one
             if ($5 ~ /debug|link/ && $1 !~ /^(with|joined)/) has["shell"] = has["shell"] " " one

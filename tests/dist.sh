@@ -39,7 +39,7 @@ readme() {
     cat << README
 bpfdb $version runs BPF programs forwards and backwards. You need Linux on x86-64
 with glibc 2.34 or later; python3 for bpfdb-shell, bpfdb-page and most programs
-beside them; addr2line (binutils) for lines of C. Nothing has to be installed.
+beside them. Nothing has to be installed.
 In this folder:
 
     PATH=\$PWD/bin:\$PATH

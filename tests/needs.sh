@@ -12,7 +12,6 @@ lacking() {
     while read -r name packages; do
         command -v "$name" > /dev/null || echo "$packages"
     done <<'PROGRAMS'
-addr2line binutils
 bashreadline libbpf-tools
 cc gcc libc6-dev
 chromium chromium

@@ -252,7 +252,7 @@ refusals() {
         BEGIN {
             letter["LoadFault"] = letter["PieceFault"] = letter["WordFault"] = "C"
             letter["LineFault"] = letter["AsmFault"] = "A"
-            letter["MapFault"] = "M"; letter["LinkFault"] = letter["RelocationFault"] = letter["BtfFault"] = "E"; letter["OpenFault"] = "O"; letter["JournalFault"] = "J"; letter["Refusal"] = "Q"; letter["WhatFault"] = letter["GoalFault"] = "V"
+            letter["MapFault"] = "M"; letter["LinkFault"] = letter["RelocationFault"] = letter["BtfFault"] = letter["UseFault"] = "E"; letter["OpenFault"] = "O"; letter["JournalFault"] = "J"; letter["Refusal"] = "Q"; letter["WhatFault"] = letter["GoalFault"] = "V"
             # (those of test files count from when the page has them)
             if (tested) letter["SectionFault"] = "T"
         }

@@ -46,9 +46,9 @@ class Wanted:
         return start_of(self.file, 4) == b'\x7fELF'
 
     def for_link(self):
-        """The options of `bpfdb link`, and those of them that bpfdb-symbols has."""
-        places = [f'--{name}={value}' for name, value in (('section', self.section), ('entry', self.entry)) if value]
-        return places + ([f'--stub={self.stub}'] if self.stub else []) + ['--as-compiled'] * self.as_compiled, places
+        """The options of `bpfdb link`."""
+        chosen = [f'--{name}={value}' for name, value in (('section', self.section), ('entry', self.entry), ('stub', self.stub)) if value]
+        return chosen + ['--as-compiled'] * self.as_compiled
 
     def for_debug(self):
         """The options of `bpfdb debug`."""
@@ -57,7 +57,7 @@ class Wanted:
 
     def for_gdb(self):
         """The words of `bpf-load` in gdb."""
-        return [self.file, *(self.for_link()[0] if self.is_object() else []), *self.for_debug()]
+        return [self.file, *(self.for_link() if self.is_object() else []), *self.for_debug()]
 
 
 class Loaded:
@@ -67,13 +67,13 @@ class Loaded:
         self.wanted, self.kept, self.source, path = wanted, [], Source(), wanted.file
         words, shapes, names = wanted.for_debug(), wanted.maps, {}
         if wanted.is_object():
-            link, places = wanted.for_link()
+            link = wanted.for_link()
             content, said = linked(program, wanted.file, link)
             option, names = maps_of(said)
             self.kept, path = [content], f'/dev/fd/{content.fileno()}'
             if option and not shapes:
                 words, shapes = words + option, option[1]
-            self.source = Object(wanted.file, places, os.fstat(content.fileno()).st_size)
+            self.source = Object(program, wanted.file, link, os.fstat(content.fileno()).st_size)
         elif wanted.is_listing:
             words.append('--listing')
             self.source = Listing(wanted.file, ran([program, 'lines', '--', wanted.file])[0])

@@ -1,15 +1,13 @@
-"""What a program was written as: the lines and names of its slots, by `bpfdb lines` or by an object's debug information."""
+"""What a program was written as: the lines and names of its slots, by `bpfdb lines`."""
 
-import contextlib
 import os
 import re
-import struct
 
-from bpfdb.texts import beside, in_memory, line_in, path_of, plain, ran, text_lines, warn
+from bpfdb.texts import line_in, ran, text_lines, warn
 
 NAME = re.compile(r'[A-Za-z_][A-Za-z_0-9]*')
-# What addr2line says of an address: that, a file and a line.
-ADDRESS_LINE = re.compile(r'^0x([0-9a-f]+): (.+):([1-9][0-9]*)\b', re.MULTILINE)
+# A row of `bpfdb lines` of an object: a slot, a file and a line or `-`, and a function.
+OBJECT_ROW = re.compile(r'^(\d+) (?:-|(.+?):(\d+)) (.*)$', re.MULTILINE)
 
 
 class Source:
@@ -74,39 +72,28 @@ class Listing(Source):
 
 
 class Object(Source):
-    """An object with its functions, and the lines of C if it has them and addr2line is installed: both by bpfdb-symbols."""
+    """An object with its functions, and the lines of C if it has them: both by `bpfdb lines`. The jump to its entry and the setup of data, which
+    are no functions of it, are called `_start` and `_setup`."""
 
-    def __init__(self, path, link, size, kept=()):
+    def __init__(self, program, path, link, size, kept=()):
         super().__init__()
-        tool = beside('bpfdb-symbols')
-        with in_memory() as symbols:
-            _, said = ran([tool, *link, '--', path, path_of(symbols)], [symbols, *kept])
-            file = symbols.read()
-            if not file:
-                return warn(said, '')
-            self.labels = {name: at // 8 for name, at in functions(file) if at < size}
-            found, _ = ran(['addr2line', '-a', '-p', '-e', path_of(symbols), *(hex(at) for at in range(0, size, 8))], [symbols])
-        places = {}
-        for address, file, line in ADDRESS_LINE.findall(found):
-            places.setdefault(file, []).append((int(address, 16) // 8, int(line)))
+        rows, said = ran([program, 'lines', '--object', *link, '--', path], kept)
+        if not rows:
+            return warn(said, '')
+        places, slot = {}, 0
+        for at, file, line, function in OBJECT_ROW.findall(rows):
+            slot = int(at)
+            if function != '-':
+                self.labels.setdefault(function, slot)
+            if file:
+                places.setdefault(file, []).append((slot, int(line)))
+        if not rows.startswith('0 '):
+            self.labels['_start'] = 0
+            if slot + 1 < size // 8:
+                self.labels['_setup'] = slot + 1
         for file, slots in places.items():
             name = os.path.basename(file)
             near = os.path.join(os.path.dirname(os.path.abspath(path)), name)
             texts = text_lines(file) or text_lines(near)
             self.lines.update({slot: (name, line, line_in(texts, line)) for slot, line in slots})
             self.paths.update(dict.fromkeys((slot for slot, _ in slots), near if not os.path.isfile(file) and os.path.isfile(near) else file))
-
-
-def functions(file):
-    """The functions of an ELF file of 64 bits, each with its address, as far as it isn't damaged."""
-    with contextlib.suppress(struct.error, IndexError):
-        start, = struct.unpack_from('<Q', file, 40)
-        count, = struct.unpack_from('<H', file, 60)
-        sections = [struct.unpack_from('<IIQQQQIIQQ', file, start + at * 64) for at in range(count)]
-        for _, kind, _, _, place, length, link, *_ in sections:
-            for at in range(place, place + length, 24) if kind == 2 else ():
-                name, info, _, section, value, _ = struct.unpack_from('<IBBHQQ', file, at)
-                begin = sections[link][4] + name
-                text = file[begin:begin + 255].split(b'\0')[0]
-                if info & 15 == 2 and section and text:
-                    yield plain(text.decode(errors='surrogateescape')), value

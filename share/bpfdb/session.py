@@ -11,10 +11,9 @@ from bpfdb.texts import in_memory, readable
 LARGEST_JOURNAL = 16777216
 # Commands of bpfdb that change nothing.
 SHOWS = ('info', 'x', 'disas', 'last-write')
-# The options with a value, those for `link`, and those of these that bpfdb-symbols has.
+# The options with a value, and those for `link`.
 WITH_VALUE = ('-m', '--mem', '--maps', '--journal', '--steps', '--section', '--entry', '--stub')
 FOR_LINK = ('--section', '--entry', '--stub', '--as-compiled')
-FOR_SYMBOLS = ('--section', '--entry')
 # What `link` says of a map's name.
 MAP_LINE = re.compile(r'map (\d+): (.*)')
 # The mnemonics of instructions that take two slots.

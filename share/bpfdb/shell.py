@@ -13,7 +13,7 @@ from bpfdb.listings import Listings
 from bpfdb.meanings import Meanings
 from bpfdb.places import Listing, Object, Source
 from bpfdb.prompt import Prompt, edit_lines, uncommented
-from bpfdb.session import FOR_SYMBOLS, MOVE, PLACE, Ended, Hint, Program, Refused, has, linked, maps_of, split_words, with_readable
+from bpfdb.session import MOVE, PLACE, Ended, Hint, Program, Refused, has, linked, maps_of, split_words, with_readable
 from bpfdb.texts import LONGEST_LINE, beside, is_text, path_of, plain, ran, readable, start_of, text_lines, warn
 from bpfdb.values import Values
 from bpfdb.ways import Ways
@@ -212,8 +212,7 @@ def opened(program, given):
         debug += [] if has(debug, '--maps') else maps
         if sys.stdin.isatty():
             warn(f"> bpfdb link {' '.join([*link, file])}\n{said}", '')
-        places = [word for option in options for word in option if option[0].split('=')[0] in FOR_SYMBOLS]
-        source = Object(path, places, os.fstat(content.fileno()).st_size, kept)
+        source = Object(program, path, link, os.fstat(content.fileno()).st_size, kept)
         source.maps = {name: number for number, name in names.items()}
         kept, path = [*kept, content], path_of(content)
     else:

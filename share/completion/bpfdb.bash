@@ -46,8 +46,10 @@ _bpfdb() {
     --entry) _bpfdb_of_file --entry "$word"; return ;;
     --stub) :; return ;;
     --script) mapfile -t COMPREPLY < <(compgen -f -- "$word"); return ;;
+    --packet) :; return ;;
     --with) mapfile -t COMPREPLY < <(compgen -f -- "$word"); return ;;
     --lines) :; return ;;
+    --other-mem) mapfile -t COMPREPLY < <(compgen -f -- "$word"); return ;;
     --only) _bpfdb_of_file --only "$word"; return ;;
     --show) mapfile -t COMPREPLY < <(compgen -W "program context options script" -- "$word"); return ;;
     -o | --output) mapfile -t COMPREPLY < <(compgen -f -- "$word"); return ;;
@@ -56,7 +58,7 @@ _bpfdb() {
     --over) mapfile -t COMPREPLY < <(compgen -W "gdb bpfdb" -- "$word"); return ;;
     esac
     if [ "$COMP_CWORD" -eq "$first" ]; then
-        mapfile -t COMPREPLY < <(compgen -W "run trace debug origin whynot asm disasm lines check link gdb test help --help --version" -- "$word")
+        mapfile -t COMPREPLY < <(compgen -W "run trace debug origin whynot diff asm disasm lines check link gdb test help --help --version" -- "$word")
         return
     fi
     case $job in
@@ -65,17 +67,18 @@ _bpfdb() {
     debug) words="-m --mem --maps --journal --steps --listing --object --section --entry --stub --as-compiled -h --help" ;;
     origin) words="-m --mem --maps --journal --steps --listing --object --section --entry --stub --script --as-compiled --lines --addresses -h --help" ;;
     whynot) words="-m --mem --maps --journal --steps --listing --object --section --entry --stub --script --as-compiled --lines --addresses --alone -h --help" ;;
+    diff) words="-m --mem --maps --steps --listing --object --section --entry --stub --as-compiled --other-mem -h --help" ;;
     asm) words="-h --help" ;;
     disasm) words="--maps --listing --object --section --entry --stub --as-compiled -h --help" ;;
-    lines) words="-h --help" ;;
+    lines) words="--object --section --entry --stub --as-compiled --with -h --help" ;;
     check) words="--maps --listing --object --section --entry --stub --as-compiled -h --help" ;;
-    link) words="--section --entry --stub --as-compiled --with --joined -h --help" ;;
+    link) words="--section --entry --stub --as-compiled --packet --with --joined -h --help" ;;
     gdb) words="-m --mem --maps --journal --steps --listing --object --registers --section --entry --stub --as-compiled -h --help" ;;
-    test) words="--only --show -h --help" ;;
-    shell) words="-m --mem --maps --journal --steps --listing --object --section --entry --stub --as-compiled -h --help" ;;
-    page) words="-m --mem --maps --steps --listing --section --entry --stub --as-compiled -o --output --from --count --title --object -h --help" ;;
+    test) words="--only --show --cover -h --help" ;;
+    shell) words="-m --mem --maps --journal --steps --listing --object --section --entry --stub --as-compiled --packet -h --help" ;;
+    page) words="-m --mem --maps --steps --listing --section --entry --stub --as-compiled --packet -o --output --from --count --title --object -h --help" ;;
     dap) words="--port --over -h --help" ;;
-    help) words="run trace debug origin whynot asm disasm lines check link gdb test" ;;
+    help) words="run trace debug origin whynot diff asm disasm lines check link gdb test" ;;
     *) return ;;
     esac
     case $word in

@@ -25,7 +25,7 @@ if ! has_clang 'the five bugs of examples/bugs'; then
     :
 elif ! clang --version | grep -q 'version 14\.'; then
     left_out 'the five bugs of examples/bugs' 'there is no clang 14'
-elif has python3 'the five bugs of examples/bugs' && has addr2line 'the five bugs of examples/bugs'; then
+elif has python3 'the five bugs of examples/bugs'; then
     compile terminal
     cp "$top"/examples/bugs/* .
     mkdir sessions

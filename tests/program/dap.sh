@@ -47,46 +47,44 @@ if has python3 'bpfdb-dap'; then
     ! has_clang 'long lines in bpfdb-dap' || clang -g -O1 -target bpf -c "$parts/c/line.c"
     [ -f /usr/share/nodejs/@vscode/debugprotocol/lib/debugProtocol.d.ts ] ||
         left_out "the protocol's declarations" 'there is no node-vscode-debugprotocol'
-    if has addr2line 'bpfdb-dap at lines of C'; then
-        played='alone hostile'
-        play alone stories bpfdb
-        play hostile hostile
-        if gdb -nx -batch -ex 'python import gdb.disassembler' > /dev/null 2>&1; then
-            play gdb stories gdb
-            played="$played gdb"
-        else
-            left_out 'bpfdb-dap over gdb' 'there is no gdb of version 13 or later'
-        fi
-        if ls -d /usr/share/emacs/site-lisp/elpa-src/dap-mode-* > /dev/null 2>&1 && has emacs "Emacs's dap-mode"; then
-            HOME=$PWD timeout 100 emacs --batch -Q -l "$parts/dap/emacs.el" 2>&1 |
-                grep -E '^(entry|firewall|stepBack|continue|back|begin|next|ok|[0-9]+ (back|moves))[ ,]?' > found/out
-            echo 0 > found/status
-            : > found/err
-            check "Emacs: README's two sessions by bpfdb-dap.el" 0 'entry entry:30
+    played='alone hostile'
+    play alone stories bpfdb
+    play hostile hostile
+    if gdb -nx -batch -ex 'python import gdb.disassembler' > /dev/null 2>&1; then
+        play gdb stories gdb
+        played="$played gdb"
+    else
+        left_out 'bpfdb-dap over gdb' 'there is no gdb of version 13 or later'
+    fi
+    if ls -d /usr/share/emacs/site-lisp/elpa-src/dap-mode-* > /dev/null 2>&1 && has emacs "Emacs's dap-mode"; then
+        HOME=$PWD timeout 100 emacs --batch -Q -l "$parts/dap/emacs.el" 2>&1 |
+            grep -E '^(entry|firewall|stepBack|continue|back|begin|next|ok|[0-9]+ (back|moves))[ ,]?' > found/out
+        echo 0 > found/status
+        : > found/err
+        check "Emacs: README's two sessions by bpfdb-dap.el" 0 'entry entry:29
 stepBack t
 continue size_of:26
 back size_of:26
 back entry:34
 back entry:34
-begin entry:30
+begin entry:29
 next entry:31
-2 back; done; at 0: mov r2, r1, entry:30
-0 moves, 0 commands, 0 of 4194304 bytes, entry:30
-firewall bpfdb:57
+2 back; done; at 0: mov r2, r1, entry:29
+0 moves, 0 commands, 0 of 4194304 bytes, entry:29
+firewall bpfdb:56
 continue firewall:54
 ok, firewall:54
 continue bpfdb:61
 19 back; done; at 44: ldxh r1, [r1+22], firewall:54
-begin bpfdb:57
+begin bpfdb:56
 ' ''
-        else
-            left_out "Emacs's dap-mode" 'there is no elpa-dap-mode'
-        fi
-        # (the numbers of processes, and names, are without blanks)
-        # shellcheck disable=SC2086
-        wait $started
-        started=''
-        # shellcheck disable=SC2086
-        tell_of $played
+    else
+        left_out "Emacs's dap-mode" 'there is no elpa-dap-mode'
     fi
+    # (the numbers of processes, and names, are without blanks)
+    # shellcheck disable=SC2086
+    wait $started
+    started=''
+    # shellcheck disable=SC2086
+    tell_of $played
 fi

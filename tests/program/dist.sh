@@ -48,7 +48,7 @@ elif ! git -C "$top" rev-parse HEAD > /dev/null 2>&1; then
     left_out 'make dist' 'this is no clone'
 else
     mkdir copy
-    git -C "$top" ls-files -z | (cd "$top" && xargs -0 tar -c -f - --ignore-failed-read 2> /dev/null) | tar -x -f - -C copy
+    git -C "$top" ls-files -z | (cd "$top" && tar -c -f - --ignore-failed-read --null -T - 2> /dev/null) | tar -x -f - -C copy
     (
         cd copy && git init -q . && git add -A &&
             git -c user.name=tests -c user.email=tests@localhost commit -q -m 'for a test' && mkdir -p out crates/bpfdb/out

@@ -20,7 +20,7 @@ bytes hostile.o $(sed 's/66696c746572/6069 64603b78/g; s/ //g; s/../& /g' "$top/
 cp "$top/examples/suite/program.test" named.test
 if has bash 'completion in bash'; then
     completed 'run\n' bpfdb ru
-    completed 'debug\ndisasm\n' bpfdb d
+    completed 'debug\ndiff\ndisasm\n' bpfdb d
     completed 'debug\n' bpfdb debug
     completed 'help\n' bpfdb he
     completed '--version\n' bpfdb --v

@@ -211,20 +211,28 @@ PACKETS
         unfit "static declaration of 'filter' follows non-static declaration" $architecture -DBPFDB_XDP=filter elsewhere.c
         unfit "redefinition of 'xdp_md'" $architecture -I"$parts/headers" -DBPFDB_XDP=no_arp "$parts/headers/relocated.c"
 
-        # Without the header the program reads its packet in place of the struct: its first four bytes, 02000000, are `data`, so the protocol is at 0xe.
-        clang $architecture -g -O2 -target bpf -c -o program.o "$top/examples/firewall/firewall.c"
-        linked bare '--maps 8x5' --section xdp
-        packet_of "$(sed -n 's/^TCP to 23|.*|//p' packets)"
-        "$program" run --maps 8x5 -m packet bare.words > found/out 2> found/err
-        echo $? > found/status
-        sed -i 's/ 0x[ef] at [0-9]*$/ 0xe/' found/err
-        check 'a program without the header' 1 '' 'fault access 0xe\n'
+        # Without the header `link` refuses them, and takes them with --packet: the verdicts are those of the header.
+        kernels="E55: entry takes the kernel's own struct of a packet: link --packet, or clang -include bpfdb.h, gives it one of the machine's"
+        for row in "firewall xdp $top/examples/firewall/firewall.c" "filter xdp $top/examples/xdp/xdp.c" "classify tc $parts/headers/classifier.c"; do
+            # (no name here has a blank within)
+            set -- $row
+            clang $architecture -g -O2 -target bpf -c -o program.o "$3"
+            stub=--stub=6=0
+            refused_link "$1 without the header" "$kernels: $1" --section "$2" $stub
+            linked "bare-$1" '*' --section "$2" --packet "$2" $stub
+        done
+        while IFS='|' read -r name of_firewall of_counter of_classifier protocol digits; do
+            packet_of "$digits"
+            verdict "$name, --packet" bare-firewall "$of_firewall" 40 "$((of_firewall))"
+            verdict "$name, --packet" bare-filter "$of_counter" 256 "$protocol"
+            verdict "$name, --packet" bare-classify "$of_classifier"
+        done < packets
 
         # What docs/XDP.md shows at a shell, in a copy of the example.
         mkdir bin
         ln -s "$program" bin/bpfdb
         sed -n '/^```$/,/^```$/p' "$top/docs/XDP.md" |
-            awk '/^```$/ { block = !block; next } block && /^\$ (clang|bpfdb) / { on = 1; print; next } /^[$(]/ { on = 0 } !block { on = 0 } on' > shown
+            awk '/^```$/ { block = !block; on = 0; next } block && /^\$ (clang|bpfdb) / { on = 1; print; next } /^[$(]/ { on = 0 } !block { on = 0 } on' > shown
         [ "$(grep -c '^\$ ' shown)" -ge 3 ] || complain 'docs/XDP.md shows too few commands'
         cp -R "$top/examples/firewall" typed
         sed -n 's/^\$ //p' shown | sed "s|/usr/local/share/bpfdb|$top/share|" > commands

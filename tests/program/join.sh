@@ -1,4 +1,4 @@
-# link --with and --joined: two objects as one, by each clang that is installed. What a program gives is worked out from its source
+# link --with and --joined: objects as one, by each clang that is installed. What a program gives is worked out from its source
 # (tests/program/join/); what stands in a joined object is held against another reader of objects (tests/trials/joins.py).
 
 # gives VALUE SECTION OBJECT..: what the program of a section of program.o gives, where these objects are joined to it, the first one first.
@@ -6,12 +6,22 @@ gives() {
     value=$1 section=$2
     shift 2
     cp program.o joined.o
+    with=
     for object in "$@"; do
         "$program" link --joined --with "$object" --section "$section" joined.o > next.o 2> told || complain "$section with $object: $(cat told)"
         mv next.o joined.o
+        with="$with --with $object"
     done
     "$program" link --section "$section" joined.o > words 2> told || complain "$section: $(cat told)"
     result "$value\n" run $(told_maps) words
+    # (all of them at once is the same)
+    # shellcheck disable=SC2086
+    "$program" link --joined --section "$section" $with program.o > next.o 2> found/err || complain "$section$with: $(cat found/err)"
+    # shellcheck disable=SC2086
+    "$program" link --section "$section" $with program.o > again 2> found/err || complain "$section$with: $(cat found/err)"
+    count=$((count + 2))
+    cmp -s next.o joined.o || complain "$section$with: another object than step by step"
+    cmp -s again words && cmp -s found/err told || complain "$section$with: another program than step by step"
 }
 
 if has_clang 'link --with'; then
@@ -19,7 +29,7 @@ if has_clang 'link --with'; then
     command -v clang-19 > found/which && compilers='clang clang-19'
 fi
 for compiler in $compilers; do
-    for name in program functions mock pointers fields; do
+    for name in program functions mock twice pointers fields; do
         "$compiler" -g -O2 -target bpf -c "$parts/join/$name.c" -o $name.o 2> found/err || complain "$compiler: $name.c: $(cat found/err)"
     done
 
@@ -32,6 +42,23 @@ for compiler in $compilers; do
     gives 0x3eebd9 kind functions.o
     gives 0x1f9 time mock.o functions.o
     gives 0x66 time functions.o mock.o
+    # What a function calls is answered behind it: of `twice` 2 * 5; of `twice` behind that 2 * 1 and 2 * 2; behind all, it calls the kernel's helper itself.
+    gives 0x3f2 time twice.o mock.o
+    gives 0xcc time twice.o functions.o
+    gives 0x1f9 time mock.o twice.o
+    gives 0x198 time twice.o twice.o functions.o
+    # Sixteen are the most, of which the first answers.
+    fifteen=$(printf ' --with mock.o%.0s' 1 2 3 4 5 6 7 8 9 10 11 12 13 14 15)
+    # (words without blanks)
+    # shellcheck disable=SC2086
+    "$program" link --section time $fifteen --with functions.o program.o > words 2> told || complain "sixteen objects: $(cat told)"
+    result '0x1f9\n' run $(told_maps) words
+    # shellcheck disable=SC2086
+    usage "the argument '--with <OBJECT>' is used more than 16 times" link --section time $fifteen --with functions.o --with functions.o program.o
+    "$program" link --section time --with twice.o program.o > words 2> told
+    count=$((count + 1))
+    grep -q '^refused E25 at slot [0-9]*: unknown helper 5 (bpf_ktime_get_ns): --with OBJECT or --stub 5=VALUE answers it: time, slot [0-9]*$' told ||
+        complain "a function that asks for what nothing behind it has: $(cat told)"
 
     # In one step, and step by step: a call of FILE is answered, a call of the functions is the machine's.
     "$program" link --with functions.o --section trace program.o > words 2> told || complain "trace: $(cat told)"
@@ -51,6 +78,13 @@ for compiler in $compilers; do
     # What is wanting, and what is wrong with either object.
     refused 'refused E25 at slot 0: unknown helper 8 (bpf_get_smp_processor_id): --with OBJECT or --stub 8=VALUE answers it: unanswered, slot 0' \
         link --with functions.o --section unanswered program.o
+    # All symbols that are missing, each once and in the order of the code: those that the entry reaches and no object has.
+    refused 'refused E19 at slot 0: symbol is not defined in the object: elsewhere, sum' link --section lacking --entry lacks_two program.o
+    refused 'refused E19 at slot 0: symbol is not defined in the object: elsewhere, sum' link --with mock.o --section lacking --entry lacks_two program.o
+    refused 'refused E19 at slot 0: symbol is not defined in the object: elsewhere' link --with functions.o --section lacking --entry lacks_two program.o
+    "$program" link --section lacking --entry lacks_one program.o > words 2> told
+    count=$((count + 1))
+    grep -q '^refused E19 at slot [0-9]*: symbol is not defined in the object: sum$' told || complain "what the other function lacks: $(cat told)"
     # All helpers of the kernel that nothing answers, each once: the first that is called, and the others by their numbers. What is answered isn't among them, by a
     # function (5) or a stub; one that has no name stands there if it is the first.
     way='--with OBJECT or --stub'
@@ -64,11 +98,21 @@ for compiler in $compilers; do
     "$program" link --section several --stub 14=0,5=0,130=0,211=0 program.o > words 2> told
     count=$((count + 1))
     grep -q '^refused E25 at slot [0-9]*: unknown helper 1000: --stub 1000=VALUE answers it: several, slot [0-9]*$' told || complain "a helper without a name: $(cat told)"
-    refused 'refused E8: no such code section: .text, time, text, trace, extern, cells, kind, unanswered, several' link --with functions.o --section none program.o
+    refused 'refused E8: no such code section: .text, time, text, trace, extern, cells, kind, unanswered, lacking, several' link --with functions.o --section none program.o
     printf 'none' > none.o
     refused 'refused E1: no ELF file' link --with functions.o none.o
     refused 'refused E1: no ELF file (--with)' link --with none.o --section time program.o
     refused 'cannot read missing.o' link --with missing.o --section time program.o
+    # Of several objects the one is told that is wrong, behind those that are right; files are read first, in their order.
+    refused 'refused E1: no ELF file (--with)' link --with none.o --with functions.o --section time program.o
+    refused 'refused E1: no ELF file (--with, object 2)' link --with functions.o --with none.o --section time program.o
+    refused 'refused E1: no ELF file (--with, object 3)' link --with mock.o --with functions.o --with none.o --section time program.o
+    refused 'refused E39: addresses in the data of an object of functions (--with, object 2)' link --with mock.o --with pointers.o --section time program.o
+    refused 'refused E1: no ELF file' link --with none.o --with functions.o none.o
+    refused 'cannot read missing.o' link --with none.o --with missing.o --with lacking.o --section time program.o
+    refused 'cannot read lacking.o' link --with lacking.o --with missing.o --section time program.o
+    refused 'refused E25 at slot 0: unknown helper 8 (bpf_get_smp_processor_id): --with OBJECT or --stub 8=VALUE answers it: unanswered, slot 0' \
+        link --with mock.o --with functions.o --section unanswered program.o
     refused 'refused E39: addresses in the data of an object of functions (--with)' link --with pointers.o --section time program.o
     refused 'refused E36 at slot 2: relocations of fields, 1 in all: --as-compiled leaves them undone: .text' link --with functions.o fields.o
     "$program" link --with functions.o --as-compiled fields.o > words 2> told || complain "fields: $(cat told)"

@@ -13,13 +13,13 @@ built() {
 linked_with() {
     file=$1 entry=$2
     shift 2
-    while [ $# -gt 1 ]; do
-        "$program" link --joined --with "$1" "$file" > joined.o 2> told || complain "$file: link --joined: $(cat told)"
-        file=joined-$#.o
-        mv joined.o "$file"
-        shift
+    with=
+    for object in "$@"; do
+        with="$with --with $object"
     done
-    "$program" link --section test --entry "$entry" --with "$1" "$file" > words 2> told || {
+    # (words without blanks)
+    # shellcheck disable=SC2086
+    "$program" link --section test --entry "$entry" $with "$file" > words 2> told || {
         complain "$file: link $entry: $(cat told)"
         return 1
     }

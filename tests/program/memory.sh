@@ -43,7 +43,8 @@ lacks() {
     { read -r line; read -r more; } < found/err
     case $line in
         'out of memory' | 'refused A7: out of memory' | 'refused C13: out of memory' | 'refused O2: out of memory' | \
-            'refused J2: out of memory' | 'refused E26: out of memory' | 'refused E26: out of memory (--with)')
+            'refused J2: out of memory' | 'refused E26: out of memory' | 'refused E26: out of memory (--with)' | \
+            'refused A7: out of memory (the other run)' | 'refused C13: out of memory (the other run)' | 'refused O2: out of memory (the other run)')
             echo "$line" >> met ;;
         *) line='out of memory' more=none ;;
     esac
@@ -123,6 +124,9 @@ printf 'stepi\nfinish\n' > refused
 wants "$plain$c13$o2$j2" 2 '' 'refused Q9: outermost frame\n' origin --journal 1024 --script refused program
 wants "$plain$a7$c13$o2$j2" 0 'exited at 1: r0 0x2a\nit was reached 2 moves back\n' '' whynot --listing program.s 0
 wants "$plain$c13$o2$j2" 0 'at 1: exit\nit can still be reached\n' '' whynot -m context --maps 8x2 --journal 1024 --script obeyed program 1
+others='refused C13: out of memory (the other run)\nrefused O2: out of memory (the other run)\n'
+wants "$plain$c13$o2$others" 0 'same for 2 steps\nexited at 1: r0 0x2a\n' '' diff -m context --maps 8x2 program program
+wants "$plain$a7$c13$o2${others}refused A7: out of memory (the other run)\n" 0 'same for 2 steps\nexited at 1: r0 0x2a\n' '' diff --listing program.s program.s
 wants "$plain$c13$o2" 0 '1 0: mov r0, 42; r0 = 0x2a\n2 1: exit\nexited at 1: r0 0x2a\n' '' trace -m context --maps 8x2 program
 wants "$plain$c13$o2" 0 'exited at 1: r0 0x2a\n' '' trace --branches program
 wants "$plain$c13$o2" 0 '1 0: mov r0, 42\n1 1: exit\nexited at 1: r0 0x2a\n' '' trace --profile program
@@ -152,6 +156,7 @@ wants "$plain$e26" 0 "$text" '--maps 8x5\nmap 0: .data\n' link point.o
 wants "$plain$e26$c13$o2" 0 '0x3\n' '' run --object point.o
 wants "$plain$e26$c13" 0 'ok 22 instructions in 29 slots\n' '' check --object point.o
 wants "$plain$e26$c13" 0 'mov r0, 7\nexit\n' '' disasm --object text.o
+wants "$plain$e26" 0 '0 - entry\n1 - entry\n' '' lines --object text.o
 wants "$plain$e26$c13$o2" 0 '1 0: mov r0, 7; r0 = 0x7\n2 1: exit\nexited at 1: r0 0x7\n' '' trace --object text.o
 wants "$plain$e26$c13$o2$j2" 0 'exited at 1: r0 0x7\n-2 r0 = 0x7; 0: mov r0, 7\n' '' origin --object text.o
 wants "$plain$e26$c13$o2$j2" 0 'exited at 1: r0 0x7\nit was reached 2 moves back\n' '' whynot --object text.o 0
@@ -163,6 +168,14 @@ if has_clang 'link --with where memory is refused'; then
     done
     "$program" link --with functions.o --section cells program.o > linked 2> told || complain "cells: $(cat told)"
     wants "$plain$e26$of_functions" 0 "$(od -An -v -b linked | tr -d '\n' | sed 's/ /\\0/g')" "$(cat told)\n" link --with functions.o --section cells program.o
+    "$program" lines --object --with functions.o --section cells program.o > table
+    wants "$plain$e26$of_functions" 0 "$(text table)" '' lines --object --with functions.o --section cells program.o
+fi
+# A program of the kernel's for packets.
+if has_clang 'link --packet where memory is refused'; then
+    clang -g -O2 -target bpf -c "$parts/kernels/works.c" -o works.o 2> found/err || complain "works.c: $(cat found/err)"
+    "$program" link --packet xdp --section xdp --entry negative works.o > linked 2> told || complain "negative: $(cat told)"
+    wants "$plain$e26" 0 "$(od -An -v -b linked | tr -d '\n' | sed 's/ /\\0/g')" '' link --packet xdp --section xdp --entry negative works.o
 fi
 # A file of tests: where memory runs out, no test fails by it, and what was reported before stands.
 printf -- '-- maps\n2x2\n-- listing\nmov r0, 2\nexit\n-- name\na\n-- result\n2\n' > two.test
@@ -192,6 +205,30 @@ while [ "$found" != 1 ] && [ "$request" -le "$most" ]; do
     request=$((request + 1))
 done
 said 'bpfdb test' '0 lines\n1 lines\n2 lines\n'
+# With --cover there is no table, then, or all of it.
+table='# cover of the program in line 3: 2 of 2 instructions, 0 of 0 branches both ways\n'
+: > met
+request=1 found=
+while [ "$found" != 1 ] && [ "$request" -le "$most" ]; do
+    for all in '' all; do
+        refuse "$request" "$all" test --cover two.test
+        if [ "$found" = 1 ]; then
+            check "bpfdb test --cover: request $request for memory refused, $all, and made again" 1 "$plan$one$two$cell$show$table" ''
+            continue
+        fi
+        lines=$(wc -l < found/out)
+        echo "$lines lines" >> met
+        case $lines in
+            0) reported= ;;
+            1) reported=$plan ;;
+            2) reported=$plan$one ;;
+            *) reported=$plan$one$two$cell$show ;;
+        esac
+        check "bpfdb test --cover: request $request for memory refused, $all" 2 "$reported" "$plain"
+    done
+    request=$((request + 1))
+done
+said 'bpfdb test --cover' '0 lines\n1 lines\n2 lines\n9 lines\n'
 wants "$plain" 0 'set cell 0 1 0102\ncontinue\n' '' test --show script --only b two.test
 wants "$plain" 0 '--maps=2x2\n--steps=1000000\n' '' test --show options --only a two.test
 wants "$plain" 2 '' 'cannot read missing\n' run missing

@@ -66,12 +66,10 @@ if has python3 'pages of runs'; then
     made 2 'left/context.bin: it is read, and would be lost\n' -o left/context.bin left/two.s
     same 'bpfdb-page replaces nothing that it reads' two.s left/context.bin
     rm left/two.s left/context.bin
-    if has addr2line 'a page in place of a source'; then
-        mkdir source
-        cp overrun.o overrun.c source
-        made 2 'source/overrun.c: it is read, and would be lost\n' -o source/overrun.c -m context.bin source/overrun.o
-        same 'bpfdb-page replaces no source' overrun.c source/overrun.c
-    fi
+    mkdir source
+    cp overrun.o overrun.c source
+    made 2 'source/overrun.c: it is read, and would be lost\n' -o source/overrun.c -m context.bin source/overrun.o
+    same 'bpfdb-page replaces no source' overrun.c source/overrun.c
     (ulimit -f 8 && made 2 "cannot write $PWD/left/run.html\\n" -o left/run.html two.s; exit "$failures") || failures=$((failures + 1))
     count=$((count + 1))
     ls -A left > found/left

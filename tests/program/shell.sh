@@ -191,60 +191,34 @@ PYTHON
     patched() {
         python3 patched.py "$@" || complain "tests/program/shell.sh: $1 isn't made"
     }
-    if has addr2line 'lines of C in bpfdb-shell'; then
-        habits shell-c.txt -m context.bin overrun.o
-        for words in '--stub 6=0 --as-compiled' '--stub=6=0'; do
-            opened="$words -m context.bin overrun.o"
-            habit '' 'b overrun.c:26' '> break 24 / ok'
-        done
-        # What the debug information names may be anything, and so may names of functions.
-        patched named.o .strtab '\0copy' '\0c\33\n\233'
-        opened=named.o
-        habit '' 'info functions' '0: entry / 13: c\\x1b\\x0a\\x9b / 24: size_of'
-        patched lined.o .debug_line_str 'overrun.c' 'over\nun.c'
-        opened=lined.o
-        habit '' 'info line 1' 'bpfdb-shell: no line is known of 1'
-        mkdir sources
-        opened=sources/overrun.o
-        cp overrun.o sources
-        sed '21s/.*/to\t[i] = \o33[8m\o302\o233\o342\o200\o256\o233;/' overrun.c > sources/overrun.c
-        habit '' 'info line copy+2' '15: overrun.c:21 <copy+2>: to [i] = \\x1b[8m\\xc2\\x9b\\xe2\\x80\\xae\\x9b;'
-        ln -s -f /proc/self/mem sources/overrun.c
-        habit '' 'info line copy+2' '15: overrun.c:21 <copy+2>'
-        rm sources/overrun.c
-        python3 -c 'open("sources/overrun.c", "w").truncate(400 << 20)'
-        count=$((count + 1))
-        (failures=0; ulimit -v 400000; habit '' 'info line copy+2' '15: overrun.c:21 <copy+2>'; exit "$failures") || failures=$((failures + 1))
-        rm -r sources
-    fi
+    habits shell-c.txt -m context.bin overrun.o
+    for words in '--stub 6=0 --as-compiled' '--stub=6=0'; do
+        opened="$words -m context.bin overrun.o"
+        habit '' 'b overrun.c:26' '> break 24 / ok'
+    done
+    # What the debug information names may be anything, and so may names of functions.
+    patched named.o .strtab '\0copy' '\0c\33\n\233'
+    opened=named.o
+    habit '' 'info functions' '0: entry / 13: c\\x1b\\x0a\\x9b / 24: size_of'
+    patched lined.o .BTF 'overrun.c' 'over\nun.c'
+    opened=lined.o
+    habit '' 'info line 1' '1: over\\x0aun.c:29 <entry+1>'
+    mkdir sources
+    opened=sources/overrun.o
+    cp overrun.o sources
+    sed '21s/.*/to\t[i] = \o33[8m\o302\o233\o342\o200\o256\o233;/' overrun.c > sources/overrun.c
+    habit '' 'info line copy+2' '15: overrun.c:21 <copy+2>: to [i] = \\x1b[8m\\xc2\\x9b\\xe2\\x80\\xae\\x9b;'
+    ln -s -f /proc/self/mem sources/overrun.c
+    habit '' 'info line copy+2' '15: overrun.c:21 <copy+2>'
+    rm sources/overrun.c
+    python3 -c 'open("sources/overrun.c", "w").truncate(400 << 20)'
+    count=$((count + 1))
+    (failures=0; ulimit -v 400000; habit '' 'info line copy+2' '15: overrun.c:21 <copy+2>'; exit "$failures") || failures=$((failures + 1))
+    rm -r sources
     patched nameless.o .symtab '\7\0\0\0\2\0\2\0' '\377\377\377\177\2\0\2\0'
     opened=nameless.o
     habit '' 'info functions' '0: entry / 24: size_of'
-    patched unknown.o .debug_abbrev '\1\21\1\45\45' '\1\21\1\45\177'
-    opened=unknown.o
-    habit '' 'b copy' 'bpfdb-shell: there is no label copy: labels are those of a listing or an object'
-    grep -a -o 'bpfdb-symbols: .*' found/all > found/out
-    echo 'bpfdb-symbols: unknown.o: debug information in an unknown form' > wanted/out
-    same 'bpfdb-shell: what bpfdb-symbols refuses' wanted/out found/out
-    # (a name is read, and not all of the file behind it)
-    cat > functions.py <<'PYTHON'
-import struct, sys
-sys.dont_write_bytecode = True
-sys.path[0] = sys.argv[1]
-from bpfdb.places import functions
-count = 200000
-strings = b'\0' + b''.join(b'f%06d\0' % at for at in range(count))
-symbols = b''.join(struct.pack('<IBBHQQ', 1 + 8 * at, 2, 0, 1, 8 * at, 8) for at in range(count))
-tables = (3, 0, 0, 64 + 128, len(strings), 0, 0, 1, 0), (2, 0, 0, 64 + 128 + len(strings), len(symbols), 0, 0, 8, 24)
-file = bytearray(64) + b''.join(struct.pack('<IIQQQQIIQQ', 0, *table) for table in tables) + strings + symbols
-struct.pack_into('<Q', file, 40, 64)
-struct.pack_into('<HHH', file, 58, 64, 2, 1)
-print(len(dict(functions(bytes(file)))))
-PYTHON
-    timeout 20 python3 functions.py "$top/share" > found/out 2> found/err
-    echo $? > found/status
-    check 'bpfdb-shell: 200,000 functions' 0 '200000\n' ''
-    if has addr2line '`start` in bpfdb-shell' && has_clang '`start` in bpfdb-shell'; then
+    if has_clang '`start` in bpfdb-shell'; then
         clang -g -O2 -target bpf -I "$parts/c" -c "$parts/c/counter.c"
         opened='-m context counter.o'
         habit start 'p $pc' '> info regs / $pc = 0x1 (1)'
@@ -287,11 +261,11 @@ esac
 SCRIPT
     chmod 755 noted
     for row in \
-        '-m context overrun.o|link -- overrun.o|debug -m context --maps 8x2 -- LINKED' \
-        '--section filter overrun.o --steps 9|link --section filter -- overrun.o|debug --steps 9 --maps 8x2 -- LINKED' \
-        '--as-compiled overrun.o --steps 9|link --as-compiled -- overrun.o|debug --steps 9 --maps 8x2 -- LINKED' \
-        '--entry=entry --section xdp --maps=1x1 overrun.o|link --entry=entry --section xdp -- overrun.o|debug --maps=1x1 -- LINKED' \
-        '--stub 5=0,14=-1 overrun.o|link --stub 5=0,14=-1 -- overrun.o|debug --maps 8x2 -- LINKED' \
+        '-m context overrun.o|link -- overrun.o|lines --object -- overrun.o|debug -m context --maps 8x2 -- LINKED' \
+        '--section filter overrun.o --steps 9|link --section filter -- overrun.o|lines --object --section filter -- overrun.o|debug --steps 9 --maps 8x2 -- LINKED' \
+        '--as-compiled overrun.o --steps 9|link --as-compiled -- overrun.o|lines --object --as-compiled -- overrun.o|debug --steps 9 --maps 8x2 -- LINKED' \
+        '--entry=entry --section xdp --maps=1x1 overrun.o|link --entry=entry --section xdp -- overrun.o|lines --object --entry=entry --section xdp -- overrun.o|debug --maps=1x1 -- LINKED' \
+        '--stub 5=0,14=-1 overrun.o|link --stub 5=0,14=-1 -- overrun.o|lines --object --stub 5=0,14=-1 -- overrun.o|debug --maps 8x2 -- LINKED' \
         '--journal=1024 sum.s|lines -- sum.s|debug --journal=1024 --listing -- sum.s' \
         '--listing -m context -- sum.s|lines -- sum.s|debug --listing -m context -- sum.s' \
         '--entry entry context|debug --entry entry -- context'; do
@@ -304,11 +278,9 @@ SCRIPT
     done
 
     # README's picture is what a terminal shows.
-    if has addr2line "README's picture"; then
-        python3 "$top/docs/picture.py" --check > found/out 2> found/err
-        echo $? > found/status
-        check 'docs/session.svg' 0 '' ''
-    fi
+    python3 "$top/docs/picture.py" --check > found/out 2> found/err
+    echo $? > found/status
+    check 'docs/session.svg' 0 '' ''
 
     # At a terminal of both sides: colours unless NO_COLOR is set, and completion of words.
     cat > both.py <<'PYTHON'

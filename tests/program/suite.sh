@@ -154,6 +154,77 @@ row 'bpfdb test --show of a file of one test' 0 '' '--steps=1000000\n' '' test -
 printf -- '-- listing\nexit\n' > lacking
 row 'bpfdb test --show of a file with a fault' 2 '' '' 'refused T6 at line 1: test without an expectation\n' test --show options lacking
 
+# What ran (--cover): of the program that tests share over all of them, then of each test's own. (Worked out by hand: without bytes r2 is 0,
+# so slot 0 jumps to 7; with two it goes on to 3, which goes on; with three slot 3 jumps. Slot 8 jumps to the slot behind it: it has one way.)
+covered='-- listing\njlt r2, 2, short\nlddw r0, 5\njeq r2, 3, third\nja end\nthird: mov r0, 3\nend: exit\nshort: mov r0, 1\njne r2, 1, last\nlast: exit\n'
+two='-- name\ntwo\n-- mem\n0000\n-- result\n5\n'
+three='-- name\nthree\n-- mem\n000000\n-- result\n3\n'
+none='-- name\nnone\n-- result\n1\n'
+# covering NAME STATUS CONTENT OUTPUT ARGUMENT..: a file of this content with --cover.
+covering() {
+    name=$1 status=$2 output=$4
+    printf -- "$3" > covered.test
+    shift 4
+    row "bpfdb test --cover: $name" "$status" '' "$output" '' test --cover covered.test "$@"
+}
+first='# cover of the program in line 1: '
+covering 'one test' 0 "$covered$two" "1..1\nok 1 - two\n${first}5 of 9 instructions, 0 of 2 branches both ways\n# never jumped: 0: jlt r2, 2, L7\n# never jumped: 3: jeq r2, 3, L5\n# never ran: 5: mov r0, 3\n# never ran: 7: mov r0, 1\n# never ran: 8: jne r2, 1, L9\n# never ran: 9: exit\n"
+covering 'two tests' 0 "$covered$two$none" "1..2\nok 1 - two\nok 2 - none\n${first}8 of 9 instructions, 1 of 2 branches both ways\n# never jumped: 3: jeq r2, 3, L5\n# never ran: 5: mov r0, 3\n"
+covering 'a branch that always jumps' 0 "$covered$three" "1..1\nok 1 - three\n${first}5 of 9 instructions, 0 of 2 branches both ways\n# never jumped: 0: jlt r2, 2, L7\n# never went on: 3: jeq r2, 3, L5\n# never ran: 4: ja L6\n# never ran: 7: mov r0, 1\n# never ran: 8: jne r2, 1, L9\n# never ran: 9: exit\n"
+covering 'three tests, which run all' 0 "$covered$two$three$none" "1..3\nok 1 - two\nok 2 - three\nok 3 - none\n${first}9 of 9 instructions, 2 of 2 branches both ways\n"
+covering 'a test of a name alone' 0 "$covered$two$three$none" "1..1\nok 1 - none\n${first}4 of 9 instructions, 0 of 2 branches both ways\n# never went on: 0: jlt r2, 2, L7\n# never ran: 1: lddw r0, 0x5\n# never ran: 3: jeq r2, 3, L5\n# never ran: 4: ja L6\n# never ran: 5: mov r0, 3\n# never ran: 6: exit\n" --only none
+covering 'a test that fails' 1 '-- listing\nexit\n-- result\n1\n' "1..1\nnot ok 1\n# the test in line 1\n# came: exited at 0: r0 0x0\n# wanted: result 1\n# debug: bpfdb-show '' 'covered.test'\n${first}1 of 1 instructions, 0 of 0 branches both ways\n"
+covering 'a step that faults ran' 0 '-- listing\nldxb r0, [r1+0]\nexit\n-- fault\naccess 0x0 at 0\n' "1..1\nok 1\n${first}1 of 2 instructions, 0 of 0 branches both ways\n# never ran: 1: exit\n"
+covering 'the limit of steps' 0 '-- listing\nmov r1, 1\nja on\non: exit\n-- steps\n2\n-- limit\nat 2\n' "1..1\nok 1\n${first}2 of 3 instructions, 0 of 0 branches both ways\n# never ran: 2: exit\n"
+covering 'a program that is refused' 0 '-- words\n95\n-- refused\nC3\n' '1..1\nok 1\n'
+covering 'a listing that is none' 0 '-- listing\nfrob\n-- refused\nA1\n' '1..1\nok 1\n'
+covering 'maps that are none, of the first test and of the last' 0 '-- listing\nexit\n-- name\na\n-- maps\nx\n-- refused\nM5\n-- name\nb\n-- result\n0\n-- name\nc\n-- maps\ny\n-- refused\nM5\n' "1..3\nok 1 - a\nok 2 - b\nok 3 - c\n${first}1 of 1 instructions, 0 of 0 branches both ways\n"
+covering 'cells, shared and of a test' 0 '-- maps\n1x1\n-- listing\nldmapval r1, 0, 0\nldxb r0, [r1+0]\njeq r0, 0, end\nadd r0, 1\nend: exit\n-- cells\n0 0 07\n-- name\nshared\n-- result\n8\n-- name\nown\n-- cells\n0 0 00\n-- result\n0\n' "1..2\nok 1 - shared\nok 2 - own\n# cover of the program in line 3: 5 of 5 instructions, 1 of 1 branches both ways\n"
+covering 'cells of one test alone' 0 '-- maps\n1x1\n-- listing\nldmapval r1, 0, 0\nldxb r0, [r1+0]\njeq r0, 0, end\nadd r0, 1\nend: exit\n-- cells\n0 0 07\n-- name\nshared\n-- result\n8\n' "1..1\nok 1 - shared\n# cover of the program in line 3: 5 of 5 instructions, 0 of 1 branches both ways\n# never jumped: 3: jeq r0, 0, L5\n"
+covering 'a cell that is none' 0 '-- listing\nexit\n-- cells\n0 0 07\n-- refused\nQ14\n' '1..1\nok 1\n'
+covering 'programs of tests, behind that which the others share' 0 '-- name\na\n-- words\n9500000000000000\n-- result\n0\n-- name\nb\n-- listing\nmov r0, 1\nexit\n-- result\n1\n' '1..2\nok 1 - a\nok 2 - b\n# cover of the program in line 3: 1 of 1 instructions, 0 of 0 branches both ways\n# cover of the program in line 9: 2 of 2 instructions, 0 of 0 branches both ways\n'
+covering 'a program of its own before one of the shared program' 0 "${covered}-- name\na\n-- words\n9500000000000000\n-- result\n0\n$none" "1..2\nok 1 - a\nok 2 - none\n${first}4 of 9 instructions, 0 of 2 branches both ways\n# never went on: 0: jlt r2, 2, L7\n# never ran: 1: lddw r0, 0x5\n# never ran: 3: jeq r2, 3, L5\n# never ran: 4: ja L6\n# never ran: 5: mov r0, 3\n# never ran: 6: exit\n# cover of the program in line 13: 1 of 1 instructions, 0 of 0 branches both ways\n"
+covering 'a function that is called' 0 '-- listing\ncallf f\nexit\nf: mov r0, 4\nexit\n-- result\n4\n' "1..1\nok 1\n${first}4 of 4 instructions, 0 of 0 branches both ways\n"
+row 'bpfdb test --cover of no test' 2 '' '' 'refused T7: no test of this name: b\n' test --cover --only b covered.test
+row 'bpfdb test --cover of a file with a fault' 2 '' '' 'refused T6 at line 1: test without an expectation\n' test --cover lacking
+row 'bpfdb test --cover --show' 0 '' '--steps=1000000\n' '' test --cover --show options alone
+row 'bpfdb test --cover of a file that is not there' 2 '' '' 'cannot read missing\n' test --cover missing
+# (a program of 65,535 slots, and 10,000 tests of one program and with one each: the table costs what the file is long)
+{
+    printf -- '-- listing\n'
+    yes 'mov r0, 1' | head -n 65534
+    printf 'exit\n'
+    awk 'BEGIN { for (i = 1; i <= 2; i++) print "-- name\nx\n-- result\n1" }'
+} > many
+printf '1..2\nok 1 - x\nok 2 - x\n%s65535 of 65535 instructions, 0 of 0 branches both ways\n' "$first" > wanted/out
+covers_many() {
+    : > script
+    echo 0 > wanted/status
+    : > wanted/err
+    run test --cover many
+    compare "$1"
+}
+(
+    ulimit -t 3
+    failures=0
+    covers_many 'bpfdb test --cover of 65,535 slots'
+    {
+        printf -- '-- listing\n'
+        yes 'mov r0, 1' | head -n 20000
+        printf 'exit\n'
+        awk 'BEGIN { for (i = 1; i <= 10000; i++) print "-- name\nx\n-- words\n9500000000000000\n-- result\n0" }'
+    } > many
+    awk 'BEGIN {
+        print "1..10000"
+        for (i = 1; i <= 10000; i++) print "ok " i " - x"
+        for (i = 1; i <= 10000; i++) print "# cover of the program in line " 19999 + 6 * i ": 1 of 1 instructions, 0 of 0 branches both ways"
+    }' > wanted/out
+    covers_many 'bpfdb test --cover of 10,000 programs'
+    exit "$failures"
+)
+failures=$((failures + $?))
+count=$((count + 2))
+
 # The line that a report gives for a test that failed: its name and its file's as a shell takes them, and what the shell makes of it.
 mkdir bin
 ln -s "$program" bin/bpfdb

@@ -104,7 +104,7 @@ for absent in 'run --journal=65536' 'debug -j=65536' 'asm -m=context' 'asm --mem
     'check -m=context' 'check --mem=context' 'check --journal=65536' 'check --steps=7' 'asm --section=a' 'asm --entry=a' 'asm --object' 'link --object' 'test --object' 'run --with=a' 'debug --joined' \
     'link -m=context' 'link --mem=context' 'link --maps=8x2' 'link --journal=65536' 'link --steps=7' 'link --listing' \
     'run --from=7' 'run --count=7' 'run --branches' 'run --profile' 'debug --from=7' 'debug --count=7' 'debug --profile' 'trace --journal=65536' 'trace --registers=x86' \
-    'origin --registers=x86' 'origin --alone' 'gdb --alone' 'whynot --registers=x86' 'run --lines=7' 'debug --lines=7' 'debug --addresses' 'gdb --lines=7' 'lines --lines=7' 'lines --listing' 'lines --maps=8x2' 'lines -m=context' 'lines --steps=7' 'lines --section=a' 'run --registers=x86' 'debug --registers=x86' 'test --listing' 'test --maps=8x2' 'test --steps=7' 'run --only=a' 'debug --only=a' 'link --only=a' 'run --show=program' 'debug --show=script'
+    'origin --registers=x86' 'origin --alone' 'gdb --alone' 'whynot --registers=x86' 'run --lines=7' 'debug --lines=7' 'debug --addresses' 'gdb --lines=7' 'lines --lines=7' 'lines --listing' 'lines --maps=8x2' 'lines -m=context' 'lines --steps=7' 'lines --joined' 'run --registers=x86' 'debug --registers=x86' 'test --listing' 'test --maps=8x2' 'test --steps=7' 'diff --journal=65536' 'diff --script=a' 'diff --lines=7' 'diff --alone' 'run --other-mem=a' 'trace --other-mem=a' 'debug --other-mem=a' 'run --only=a' 'debug --only=a' 'run --cover' 'trace --cover' 'link --only=a' 'run --show=program' 'debug --show=script'
 do
     subcommand=${absent%% *} option=${absent#* }
     name=${option%%=*}
@@ -132,9 +132,10 @@ usage "unexpected argument '--Steps' found" run --Steps 7 first
 usage "unexpected argument 'second' found" run first second
 usage 'a value is none of those that its option takes' gdb --registers arm first
 # Options that don't go together: an object is no listing and has its own maps, and of a link is asked where an object is linked.
-for subcommand in run trace debug origin whynot gdb disasm check; do
+for subcommand in run trace debug origin whynot diff gdb disasm check; do
     what=''
     [ $subcommand != whynot ] || what=0
+    [ $subcommand != diff ] || what=--other-mem=a
     # (what is asked about is a word without blanks, or none)
     usage "the argument '--object' cannot be used with '--listing'" $subcommand --object --listing first $what
     usage "the argument '--object' cannot be used with '--listing'" $subcommand --listing --maps 8x2 --section a --object first $what
@@ -153,7 +154,7 @@ usage 'a value is none of those that its option takes' test --show words two.tes
 for subcommand in $subcommands; do
     usage 'the following required arguments were not provided:' $subcommand
     case $subcommand in
-        origin | whynot) usage "unexpected argument 'third' found" $subcommand first second third ;;
+        origin | whynot | diff) usage "unexpected argument 'third' found" $subcommand first second third ;;
         *) usage "unexpected argument 'second' found" $subcommand first second ;;
     esac
     usage "unexpected argument '--frob' found" $subcommand --frob first

@@ -1,6 +1,6 @@
 #!/usr/bin/env python3
 """joined.py BPFDB: how long `bpfdb link --with` takes over objects of some 1 to 4 MB that are made for it: 256 undefined symbols are looked up among
-very many, and 1,000 maps of large types get a record each. Prints the sizes and the least user time of three runs, in a minute. Needs a clang for BPF."""
+very many, in one object and in several, and 1,000 maps of large types get a record each. Prints the sizes and the least user time of three runs, in a minute. Needs a clang for BPF."""
 import os
 import resource
 import struct
@@ -35,10 +35,12 @@ def elf(section_name, symbols):
     return start + body + rows
 
 
-def symbols_of(count):
-    """FILE with 256 undefined symbols, the most that there may be, and --with with so many functions, the last of which they are."""
+def symbols_of(count, parts):
+    """FILE with 256 undefined symbols, the most that there may be, and so many objects of --with with so many functions in all, the last of which they are."""
     names = [f'f{at:07}' for at in range(count)]
-    return elf('prog', [('entry', 1, 0)] + [(name, 0, 0) for name in names[-256:]]), elf('.text', [(name, 1, 0) for name in names])
+    size = count // parts
+    return elf('prog', [('entry', 1, 0)] + [(name, 0, 0) for name in names[-256:]]), *(elf('.text', [(name, 1, 0) for name in names[size * k:size * (k + 1)]])
+                                                                                       for k in range(parts))
 
 
 def maps_of(members, folder):
@@ -65,15 +67,20 @@ def main():
     if len(sys.argv) != 2:
         sys.exit(__doc__)
     with tempfile.TemporaryDirectory() as folder:
-        for what, sizes, make in (('symbols, among which 256 are looked up', (30000, 60000, 120000), symbols_of), ('types of each of 1,000 maps', (4, 10, 24), lambda size: maps_of(size, folder))):
+        for what, sizes, make in (('symbols, among which 256 are looked up', (30000, 60000, 120000), lambda size: symbols_of(size, 1)),
+                                  ('symbols in 4 objects', (30000, 60000, 120000), lambda size: symbols_of(size, 4)),
+                                  ('symbols in 16 objects', (30000, 60000, 120000), lambda size: symbols_of(size, 16)),
+                                  ('types of each of 1,000 maps', (4, 10, 24), lambda size: maps_of(size, folder))):
             for size in sizes:
-                program, library = make(size)
-                for name, data in (('program.o', program), ('with.o', library)):
-                    with open(os.path.join(folder, name), 'wb') as file:
+                files = make(size)
+                words = [sys.argv[1], 'link']
+                for at, data in enumerate(files):
+                    name = os.path.join(folder, f'{at}.o')
+                    with open(name, 'wb') as file:
                         file.write(data)
-                words = [sys.argv[1], 'link', '--with', os.path.join(folder, 'with.o'), os.path.join(folder, 'program.o')]
-                least = min(user_time(words) for _ in range(3))
-                print(f'{size:,} {what}: {len(program) / 1e6:.1f} MB with {len(library) / 1e6:.1f} MB: {least:.2f} s')
+                    words += ['--with', name] if at else []
+                least = min(user_time([*words, os.path.join(folder, '0.o')]) for _ in range(3))
+                print(f'{size:,} {what}: {len(files[0]) / 1e6:.1f} MB with {sum(map(len, files[1:])) / 1e6:.1f} MB: {least:.2f} s')
 
 
 main()

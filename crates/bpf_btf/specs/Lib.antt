@@ -5,4 +5,5 @@ pub mod Types
 pub mod Sections
 pub mod Sizes
 pub mod Maps
+pub mod Contexts
 pub mod CoreRelocations

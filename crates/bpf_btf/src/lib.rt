@@ -1,6 +1,8 @@
-//! The shapes of maps, and the relocations of fields, from the BTF of an object.
+//! The shapes of maps, the relocations of fields, and the contexts of programs, from the BTF of an
+//! object.
 #![tactic(auto)]
 
+mod contexts;
 mod core_relocations;
 mod fault;
 mod fields;

@@ -16,7 +16,7 @@ pub fn latest(found: Option<usize>, is_one: bool, i: usize) -> Option<usize>
 }
 
 /// The index of the last member of a name.
-fn member_of(btf: &Btf<'_>, definition: usize, name: &[u8]) -> Option<usize>
+pub fn member_of(btf: &Btf<'_>, definition: usize, name: &[u8]) -> Option<usize>
     ensures value { result ≡ member_of btf.now definition name.now }
     ensures below { IfSome result (λ i. i < 65536) }
 {
@@ -30,7 +30,7 @@ fn member_of(btf: &Btf<'_>, definition: usize, name: &[u8]) -> Option<usize>
 }
 
 /// The type that a pointer points to.
-fn pointed(btf: &Btf<'_>, id: usize) -> Option<usize>
+pub fn pointed(btf: &Btf<'_>, id: usize) -> Option<usize>
     ensures { result ≡ pointed btf.now id }
 {
     let entry = btf.type_of(resolved(btf, id));

@@ -1,13 +1,16 @@
 //! A section `.BTF` that was read.
 ghost use Rattle.std.specs.Prelude.{◌≡◌, ◌≤◌, ◌<◌, ◌+◌, IfOk, IfErr, length, Ok, Err, slice_index_or};
 ghost use Rattle.bpf_btf.specs.Layout.{array_entry, btf_header, is_called, member_entry};
+ghost use Rattle.bpf_btf.specs.Contexts.{takes_kernels};
 ghost use Rattle.bpf_btf.specs.CoreRelocations.{AreRelocations, IsExtFault};
 ghost use Rattle.bpf_btf.specs.Maps.{map_description, map_shape, member_at, variable_at};
 ghost use Rattle.bpf_isa.specs.Maps.{IsShape};
+ghost use Rattle.bpf_isa.specs.Words.{u32_at};
 ghost use Rattle.bpf_btf.specs.Sections.{header_of, types_in, strings_in, IsRead, IsReadFault};
 ghost use Rattle.bpf_btf.specs.Types.{start_of, type_of, AreTypes, HasBadType};
 ghost use Rattle.bpf_btf.specs.declared.fault.BtfFault.TheVariants.{Memory};
 
+use crate::contexts::takes_kernels;
 use crate::core_relocations::{CoreRelocations, relocations_of};
 use crate::fault::BtfFault;
 use crate::fields::{is_called, u32_at};
@@ -150,6 +153,17 @@ impl<'a> Btf<'a> {
         relocations_of(self.strings, ext, name)
     }
 
+    /// Whether the function of a name takes the kernel's own struct of a packet: whether its first
+    /// parameter is a pointer to a struct `xdp_md` or `__sk_buff` whose member `data` has 4 bytes.
+    ///
+    /// The last function of the name counts; one of a name of more than 255 bytes takes none. Takes
+    /// time in proportion to the length of the section.
+    pub fn takes_kernels(&self, name: &[u8]) -> bool
+        ensures { result ≡ takes_kernels self.now name.now }
+    {
+        takes_kernels(self, name)
+    }
+
     /// How many types there are.
     pub(crate) fn len(&self) -> usize
         ensures { result ≡ length self.now.starts }
@@ -200,6 +214,13 @@ impl<'a> Btf<'a> {
         ensures { result ≡ variable_at self.now section i }
     {
         u32_at(self.types, self.start_of(section) + 12 + 12 * i) as usize
+    }
+
+    /// The type of the first parameter of functions of a type.
+    pub(crate) fn parameter_of(&self, id: usize) -> usize
+        ensures { result ≡ u32_at self.now.bytes (start_of self.now id + 16) }
+    {
+        u32_at(self.types, self.start_of(id) + 16) as usize
     }
 
     /// Whether a name stands at a place among the strings.

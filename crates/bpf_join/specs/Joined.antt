@@ -17,7 +17,7 @@ use Rattle.bpf_link.specs.declared.sections.Found.TheVariants.{Only}
 use Rattle.bpf_join.specs.Codes.{joined_code, own_slots}
 use Rattle.bpf_join.specs.Functions.{callee}
 use Rattle.bpf_join.specs.Moved.{joined_relocations}
-use Rattle.bpf_join.specs.Names.{all_names, section_names, symbol_names, whole}
+use Rattle.bpf_join.specs.Names.{all_names, front_names, symbol_names, whole}
 use Rattle.bpf_join.specs.Records.{HasRecords, IsRecordFault, places_of}
 use Rattle.bpf_join.specs.Spots.{is_wanted}
 use Rattle.bpf_join.specs.Symbols.{more_symbols, own_symbols, with_u16}
@@ -42,7 +42,7 @@ with_names first second = with_code first second ++ whole (all_names first secon
 
 -- The names of the first object's symbols stand behind those of its sections, and those of the second one's behind these.
 abbrev pub more_by : Plan → ℕ
-more_by first = length (section_names first.object)
+more_by first = length (front_names first)
 
 abbrev pub others_by : Plan → ℕ
 others_by first = more_by first + length (symbol_names first.object first.table)

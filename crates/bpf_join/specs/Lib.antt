@@ -9,3 +9,4 @@ pub mod Names
 pub mod Records
 pub mod Joined
 pub mod Readiness
+pub mod Chains

@@ -10,7 +10,7 @@ ghost use Rattle.bpf_link.specs.declared.fault.LinkFault.TheVariants.{Memory};
 use crate::codes::{joined_code, own_slots};
 use crate::fault::JoinFault;
 use crate::functions::callee;
-use crate::names::{all_names, section_names, symbol_names, with, with_whole};
+use crate::names::{all_names, front_names, symbol_names, with, with_whole};
 use crate::places::Places;
 use crate::records::{places_of, records_of};
 use crate::relocations::with_relocations;
@@ -185,7 +185,7 @@ fn put_together(
         Err(fault) => return Err(fault),
     };
     let begins = named.places;
-    let more = section_names(&first.object).len();
+    let more = front_names(first).len();
     let others = more + symbol_names(first).len();
     let last = first.object.len() + second.object.len() + 1;
     let own = match with_own_symbols(first, second, places, last, more, named.bytes) {

@@ -1,6 +1,7 @@
-//! Two objects as one: a program, and the functions that answer what it calls.
+//! Objects as one: a program, and the functions that answer what it calls.
 #![tactic(auto)]
 
+mod chain;
 mod codes;
 mod fault;
 mod functions;
@@ -13,5 +14,6 @@ mod spots;
 mod symbols;
 mod table;
 
+pub use chain::{ChainFault, join_all};
 pub use fault::JoinFault;
 pub use joined::{Joined, join};

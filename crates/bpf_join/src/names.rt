@@ -1,6 +1,6 @@
 //! The strings of a joined object.
 ghost use Rattle.std.specs.Prelude.{◌≡◌, ◌++◌, IfErr, IfOk};
-ghost use Rattle.bpf_join.specs.Names.{all_names, section_names, strings_at, symbol_names, whole, zeros_behind};
+ghost use Rattle.bpf_join.specs.Names.{all_names, front_names, lie_alike, section_names, shares_names, strings_at, symbol_names, whole, zeros_behind};
 ghost use Rattle.bpf_link.specs.declared.fault.LinkFault.TheVariants.{Memory};
 
 use crate::table::names_index;
@@ -18,7 +18,7 @@ fn strings_at<'a>(object: &Object<'a>, i: usize) -> &'a [u8]
 }
 
 /// The names of an object's sections.
-pub fn section_names<'a>(object: &Object<'a>) -> &'a [u8]
+fn section_names<'a>(object: &Object<'a>) -> &'a [u8]
     ensures { result.now ≡ section_names object.now }
 {
     strings_at(object, names_index(object))
@@ -38,6 +38,48 @@ pub fn symbol_names<'a>(plan: &Plan<'a>) -> &'a [u8]
         Found::Nothing => &[],
         Found::Several => &[],
     }
+}
+
+/// Whether two sections lie at one place of the file.
+fn lie_alike(object: &Object<'_>, a: usize, b: usize) -> bool
+    ensures { result ≡ lie_alike object.now a b }
+{
+    if a >= object.len() {
+        return false;
+    }
+    if b >= object.len() {
+        return false;
+    }
+    let one = object.section(a);
+    let other = object.section(b);
+    one.offset == other.offset && one.size == other.size
+}
+
+/// Whether the names of an object's sections and of its symbols are the same ones.
+fn shares_names(plan: &Plan<'_>) -> bool
+    ensures { result ≡ shares_names plan.now.object plan.now.table }
+{
+    match plan.table {
+        Found::Only(i) => {
+            if i >= plan.object.len() {
+                return false;
+            }
+            let link = plan.object.section(i).link as usize;
+            lie_alike(&plan.object, link, names_index(&plan.object))
+        }
+        Found::Nothing => false,
+        Found::Several => false,
+    }
+}
+
+/// The names of sections that stand before those of symbols.
+pub fn front_names<'a>(first: &Plan<'a>) -> &'a [u8]
+    ensures { result.now ≡ front_names first.now }
+{
+    if shares_names(first) {
+        return &[];
+    }
+    section_names(&first.object)
 }
 
 /// Zeros behind so many bytes, up to a whole number of eight.
@@ -83,7 +125,7 @@ pub fn all_names(alloc: Global, first: &Plan<'_>, second: &Plan<'_>) -> Result<V
     ensures ok { IfOk result (λ names. names.items ≡ all_names first.now second.now) }
     ensures err { IfErr result (λ fault. fault ≡ Memory) }
 {
-    let names = match Vec::from_slice(alloc, section_names(&first.object)) {
+    let names = match Vec::from_slice(alloc, front_names(first)) {
         Ok(names) => names,
         Err(_) => return Err(LinkFault::Memory),
     };

@@ -4,8 +4,9 @@ use Rattle.bpf_isa.specs.Faults.{load_fault, piece_fault}
 use Rattle.bpf_isa.specs.declared.fault.PieceFault.TheVariants.{UnknownHelper}
 use Rattle.bpf_btf.specs.Faults.{btf_fault}
 use Rattle.bpf_btf.specs.declared.fault.BtfFault.TheVariants as btf
+use Rattle.bpf_packet.specs.Faults.{use_row}
 use Rattle.bpf_link.specs.declared.fault.LinkFault.{LinkFault}
-use Rattle.bpf_link.specs.declared.fault.LinkFault.TheVariants.{NotElf, Class, Order, Kind, Machine, SectionTable, LongName, NoSection, ManySections, Section, TooLong, RunsOff, SymbolTable, ManyMapSections, TooManyMaps, RelocationTable, Place, Symbol, Relocation, Program, Memory, LongData, DataSection, Pointer, ManyPrograms, NoEntry, Helper, StubList, StubRange, StubTwice, ManyStubs, Types, Map, Fields, ManyRecords, ManyWanted, Pointers}
+use Rattle.bpf_link.specs.declared.fault.LinkFault.TheVariants.{NotElf, Class, Order, Kind, Machine, SectionTable, LongName, NoSection, ManySections, Section, TooLong, RunsOff, SymbolTable, ManyMapSections, TooManyMaps, RelocationTable, Place, Symbol, Relocation, Program, Memory, LongData, DataSection, Pointer, ManyPrograms, NoEntry, Helper, StubList, StubRange, StubTwice, ManyStubs, Types, Map, Fields, ManyRecords, ManyWanted, Pointers, Context, Packet, Unsettled, Undefined}
 use Rattle.bpf_link.specs.declared.fault.RelocationFault.{RelocationFault}
 use Rattle.bpf_link.specs.declared.fault.RelocationFault.TheVariants.{Extern, RelocationKind, CallTarget, NoCall, Data, NoLoad}
 
@@ -39,6 +40,7 @@ link_fault RelocationTable = (16, codes "malformed relocation table")
 link_fault Place = (17, codes "relocation at no slot, or out of order")
 link_fault (Symbol slot) = (18, codes "relocation against no symbol")
 link_fault (Relocation fault slot at) = relocation_fault fault
+link_fault (Undefined slot count places) = relocation_fault Extern
 link_fault (Program fault source) = (25, (load_fault fault).1)
 link_fault Memory = btf_fault btf.Memory
 link_fault LongData = (27, codes "data longer than 65536 bytes")
@@ -55,5 +57,8 @@ link_fault (Fields count slot at) = (36, codes "relocations of fields")
 link_fault ManyRecords = (37, codes "more than 1024 maps")
 link_fault ManyWanted = (38, codes "more than 256 undefined symbols")
 link_fault Pointers = (39, codes "addresses in the data of an object of functions")
+link_fault (Packet fault slot source) = use_row fault
+link_fault Unsettled = (60, codes "use of the packet's struct can't be followed")
+link_fault (Context at) = (55, codes "entry takes the kernel's own struct of a packet")
 link_fault (Types fault) = btf_fault fault
 link_fault (Map at fault) = btf_fault fault

@@ -19,10 +19,13 @@ pub mod Links
 pub mod Laid
 pub mod Shapes
 pub mod MapNames
+pub mod Undefined
 pub mod Refusals
 pub mod Names
 pub mod Helpers
 pub mod FieldRelocations
+pub mod Contexts
+pub mod Packets
 pub mod Programs
 pub mod Reach
 pub mod Blanked

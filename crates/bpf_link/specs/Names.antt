@@ -1,5 +1,5 @@
 -- The names that a fault of an object tells, as they stand there: each cut at 255 bytes, with a comma between two, and `..` for all from the 17th on.
-use Rattle.std.specs.Prelude.{ℕ, zero, suc, nat_lt, min, Bool, true, false, if◌then◌else◌, List, [], ◌∷◌, ◌++◌, Option, Some, None, Result, Ok, Err, length, codes, slice_index, slice_range}
+use Rattle.std.specs.Prelude.{ℕ, zero, suc, nat_lt, min, Bool, true, false, if◌then◌else◌, List, [], ◌∷◌, ◌++◌, Option, Some, None, Result, Ok, Err, length, codes, slice_index, slice_range, take}
 use Rattle.bpf_link.specs.declared.fault.LinkFault.{LinkFault}
 use Rattle.bpf_link.specs.declared.fault.LinkFault.TheVariants as link
 use Rattle.bpf_link.specs.declared.layout.SymbolEntry.{SymbolEntry}
@@ -62,8 +62,11 @@ abbrev pub fault_places : List ℕ → List ℕ → LinkFault → List ℕ
 fault_places object section (link.Map at fault) = at ∷ []
 fault_places object section (link.Fields count slot at) = at ∷ []
 fault_places object section (link.Relocation fault slot at) = at ∷ []
+fault_places object section (link.Context at) = at ∷ []
+fault_places object section (link.Undefined slot count places) = take count places
 fault_places object section (link.Pointer at) = at ∷ []
 fault_places object section (link.Program fault source) = source_places source
+fault_places object section (link.Packet fault slot source) = source_places source
 fault_places object section (link.Helper slot helper source others) = source_places source
 fault_places object section link.NoSection = code_places (opened object)
 fault_places object section link.ManySections = code_places (opened object)

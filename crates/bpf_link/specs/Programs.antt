@@ -1,11 +1,14 @@
 -- What is made of an object: a program with its maps.
-use Rattle.std.specs.Prelude.{◌≡◌, ◌⊎◌, ◌≤◌, ℕ, ◌+◌, Bool, List, Ok, length}
+use Rattle.std.specs.Prelude.{◌≡◌, ◌⊎◌, ◌≤◌, ℕ, ◌+◌, Bool, false, List, [], Option, None, Ok, length}
 use Rattle.bpf_isa.specs.Checker.{IsAccepted}
 use Rattle.bpf_link.specs.declared.fault.LinkFault.{LinkFault}
+use Rattle.bpf_link.specs.declared.linker.LinkOptions.{LinkOptions}
 use Rattle.bpf_link.specs.declared.linker.Linked.{Linked}
 use Rattle.bpf_link.specs.declared.linker.Program.{Program}
 use Rattle.bpf_link.specs.declared.plan.Plan.{Plan}
+use Rattle.bpf_packet.specs.declared.packet.Packet.{Packet}
 use Rattle.bpf_link.specs.declared.stubs.Stub.{Stub}
+use Rattle.bpf_link.specs.Packets.{HasWords, IsWordsFault}
 use Rattle.bpf_link.specs.FieldRelocations.{AreLeft, IsFieldsFault}
 use Rattle.bpf_link.specs.Laid.{IsLaidOut}
 use Rattle.bpf_link.specs.Begun.{Begun, counts}
@@ -65,13 +68,42 @@ pub record IsLinked (object name entry : List ℕ) (stubs : List Stub) (program 
   pub begun : Begun object name entry
   pub made : IsMade (counts begun) begun.slot begun.reach stubs program
 
--- So many relocations of its fields are left undone: none unless that is asked for.
-pub record IsLinkedAs (object name entry : List ℕ) (stubs : List Stub) (as_compiled : Bool) (program : Linked) : Type 0 where
-  pub linked : IsLinked object name entry stubs program
-  pub left : AreLeft object name as_compiled program.fields
+-- What is asked of a link: of an object a section, an entry, answers of helpers, whether fields may stay as compiled, and the struct that the entry takes.
+pub record Asked : Type 0 where
+  pub object : List ℕ
+  pub name : List ℕ
+  pub entry : List ℕ
+  pub stubs : List Stub
+  pub as_compiled : Bool
+  pub packet : Option Packet
 
--- Why an object isn't linked: there is no program, or behind that its fields aren't to be left as compiled.
-abbrev pub IsLinkRefusal : List ℕ → List ℕ → List ℕ → List Stub → Bool → LinkFault → Type 0
-IsLinkRefusal object name entry stubs as_compiled fault =
-    IsLinkFault object name entry stubs fault
-    ⊎ ((program : Linked) × IsLinked object name entry stubs program × IsFieldsFault object name as_compiled fault)
+abbrev pub asked_of : List ℕ → LinkOptions → Asked
+asked_of object options = record {
+  object = object;
+  name = options.section.now;
+  entry = options.entry.now;
+  stubs = options.stubs.now;
+  as_compiled = options.as_compiled;
+  packet = options.packet;
+}
+
+-- Nothing but a section.
+abbrev pub plainly : List ℕ → List ℕ → Asked
+plainly object name = record { object = object; name = name; entry = []; stubs = []; as_compiled = false; packet = None }
+
+-- A program as it is asked for. So many relocations of its fields are left undone: none unless that is asked for. Its words are its own, whose context is the
+-- machine's, or those of it on a packet.
+pub record IsLinkedAs (asked : Asked) (program : Linked) : Type 0 where
+  pub own : Linked
+  pub linked : IsLinked asked.object asked.name asked.entry asked.stubs own
+  pub rest : program ≡ record own { words = program.words; fields = program.fields }
+  pub left : AreLeft asked.object asked.name asked.as_compiled program.fields
+  pub words : HasWords asked.packet asked.object asked.name asked.entry own.words.items program.words.items
+
+-- Why an object isn't linked: there is no program, or behind that its fields aren't to be left as compiled, or its entry takes another context.
+abbrev pub IsLinkRefusal : Asked → LinkFault → Type 0
+IsLinkRefusal asked fault =
+    IsLinkFault asked.object asked.name asked.entry asked.stubs fault
+    ⊎ ((program : Linked) × IsLinked asked.object asked.name asked.entry asked.stubs program
+    × (IsFieldsFault asked.object asked.name asked.as_compiled fault
+    ⊎ IsWordsFault asked.packet asked.object asked.name asked.entry program.words.items fault))

@@ -13,6 +13,7 @@ use Rattle.bpf_link.specs.Begun.{Begun, BeginsNot, counts}
 use Rattle.bpf_link.specs.Links.{Made, MemoryOr, least_maps, maps_of, program_of, told_of}
 use Rattle.bpf_link.specs.MapTypes.{types_found, types_bytes, is_typed, typed_shapes}
 use Rattle.bpf_link.specs.Shapes.{IsInOrder}
+use Rattle.bpf_link.specs.Undefined.{all_told}
 
 -- The BTF isn't read.
 pub record HasReadFault (plan : Plan) (fault : LinkFault) : Type 0 where
@@ -57,7 +58,7 @@ pub record LacksShapes (plan : Plan) (program : Made) (fault : LinkFault) : Type
 -- Why no program is made of a plan.
 abbrev pub IsPlanFault : Plan → ℕ → List Bool → List Stub → LinkFault → Type 0
 IsPlanFault plan slot reach stubs fault =
-    MemoryOr (program_of slot reach stubs plan) fault
+    ((why : LinkFault) × MemoryOr (program_of slot reach stubs plan) why × (fault ≡ all_told plan why))
     ⊎ ((program : Made) × (program_of slot reach stubs plan ≡ Ok program) × (IsRejected plan program fault ⊎ LacksShapes plan program fault))
 
 -- Why none is made of an object.

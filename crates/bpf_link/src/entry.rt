@@ -55,7 +55,7 @@ fn is_entry(plan: &Plan<'_>, name: &[u8], symbol: &SymbolEntry) -> bool
 }
 
 /// The symbols that may be the entry.
-fn entry_found(plan: &Plan<'_>, name: &[u8]) -> Found
+pub fn entry_found(plan: &Plan<'_>, name: &[u8]) -> Found
     ensures value { result ≡ entry_found plan.now name.now }
     ensures within { FoundBelow (length plan.now.symbols) result }
 {

@@ -7,6 +7,7 @@ use crate::missing::ALL_HELPERS;
 use crate::sources::Source;
 use bpf_btf::BtfFault;
 use bpf_isa::{LoadFault, PieceFault};
+use bpf_packet::UseFault;
 
 /// Why a relocation against a symbol isn't done.
 #[derive(Clone, Copy)]
@@ -77,6 +78,14 @@ pub enum LinkFault {
         slot: usize,
         at: usize,
     },
+    /// Relocations are against symbols that aren't defined in the object, the first at this slot. The
+    /// names of so many of these symbols stand at the first of these places in the file: of all, or
+    /// of the first 17.
+    Undefined {
+        slot: usize,
+        count: usize,
+        places: [usize; 17],
+    },
     /// The words are no program; the slot of the fault comes from this one of the object.
     Program {
         fault: LoadFault,
@@ -124,6 +133,20 @@ pub enum LinkFault {
         slot: usize,
         at: usize,
     },
+    /// BTF says that the entry, whose name stands at this place in the file, takes the kernel's own
+    /// struct of a packet, with addresses of 32 bits.
+    Context {
+        at: usize,
+    },
+    /// This is done with the address of the packet's struct at this slot of the program's own words,
+    /// which comes from this one of the object.
+    Packet {
+        fault: UseFault,
+        slot: usize,
+        source: Option<Source>,
+    },
+    /// No table was found of what has that address.
+    Unsettled,
     /// An object that is joined with another has more than 1,024 maps.
     ManyRecords,
     /// An object that is joined with another leaves more than 256 symbols undefined.
@@ -193,6 +216,7 @@ impl LinkFault {
             LinkFault::Place => (17, "relocation at no slot, or out of order"),
             LinkFault::Symbol(_) => (18, "relocation against no symbol"),
             LinkFault::Relocation { fault, .. } => fault.row(),
+            LinkFault::Undefined { .. } => RelocationFault::Extern.row(),
             LinkFault::Program { fault, .. } => (25, fault.text()),
             LinkFault::Memory => btf_row(BtfFault::Memory),
             LinkFault::LongData => (27, "data longer than 65536 bytes"),
@@ -209,12 +233,15 @@ impl LinkFault {
             LinkFault::ManyRecords => (37, "more than 1024 maps"),
             LinkFault::ManyWanted => (38, "more than 256 undefined symbols"),
             LinkFault::Pointers => (39, "addresses in the data of an object of functions"),
+            LinkFault::Packet { fault, .. } => (fault.number(), fault.text()),
+            LinkFault::Unsettled => (60, "use of the packet's struct can't be followed"),
+            LinkFault::Context { .. } => (55, "entry takes the kernel's own struct of a packet"),
             LinkFault::Types(fault) | LinkFault::Map { fault, .. } => btf_row(fault),
         }
     }
 
-    /// The number that is printed after E, 1 to 39, and 40 to 54 of BTF; that of a program's fault
-    /// is 25.
+    /// The number that is printed after E, 1 to 60, those of BTF 40 to 54, and those of a
+    /// packet's struct 56 to 59; that of a program's fault is 25.
     pub fn number(self) -> u8
         ensures { result ≡ (link_fault self).0 }
     {

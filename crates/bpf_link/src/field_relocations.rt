@@ -36,7 +36,7 @@ const NO_FIELDS: FieldRelocations = FieldRelocations {
 };
 
 /// The section that lists relocations of fields.
-fn ext_found(plan: &Plan<'_>) -> Found
+pub fn ext_found(plan: &Plan<'_>) -> Found
     ensures value { result ≡ ext_found plan.now }
     ensures within { FoundBelow (length plan.now.object.sections) result }
 {
@@ -45,7 +45,7 @@ fn ext_found(plan: &Plan<'_>) -> Found
 
 /// A place at which at most 255 bytes of a name stand, as it is; in place of another the file's end,
 /// where no name stands. So a name is compared with each block of a list in a moment.
-fn short_name(bytes: &[u8], at: usize) -> usize
+pub fn short_name(bytes: &[u8], at: usize) -> usize
     requires { at ≤ length bytes.now }
     ensures value { result ≡ short_name bytes.now at }
     ensures inside { result ≤ length bytes.now }

@@ -1,6 +1,7 @@
 //! Words of a program from a relocatable ELF object.
 #![tactic(auto)]
 
+mod contexts;
 mod data_sections;
 mod entry;
 mod fault;
@@ -16,6 +17,7 @@ mod map_types;
 mod missing;
 mod names;
 mod object;
+mod packets;
 mod parts;
 mod patch;
 mod placed;
@@ -29,6 +31,7 @@ mod sources;
 mod stub_lists;
 mod stubs;
 mod tables;
+mod undefined;
 mod words;
 
 pub use data_sections::is_among;

@@ -1,12 +1,12 @@
 //! The linker: from an object to the words of a program.
-ghost use Rattle.std.specs.Prelude.{◌≡◌, ◌≤◌, ◌<◌, ◌+◌, ◌*◌, List, [], length, false, IfOk, IfErr, Ok};
+ghost use Rattle.std.specs.Prelude.{◌≡◌, ◌≤◌, ◌<◌, ◌+◌, ◌*◌, List, length, IfOk, IfErr, Ok};
 ghost use Rattle.bpf_isa.specs.Checker.{IsRefused, most_slots};
 ghost use Rattle.bpf_isa.specs.declared.maps.MapShape.{MapShape};
 ghost use Rattle.bpf_isa.specs.Maps.{IsShape, most_maps};
 ghost use Rattle.bpf_link.specs.Data.{AllBelow, HasMaps, numbered};
 ghost use Rattle.bpf_link.specs.Links.{AllShapes, MemoryOr, planned, program_of, program_words, plain_maps, least_maps, data_shape, data_shapes, helper_fault, told_of};
 ghost use Rattle.bpf_link.specs.declared.fault.LinkFault.TheVariants.{Memory};
-ghost use Rattle.bpf_link.specs.Programs.{HasOwnMaps, IsLinked, IsLinkRefusal, IsLinkedAs, IsMade, IsProgram, IsShaped, made_of};
+ghost use Rattle.bpf_link.specs.Programs.{HasOwnMaps, IsLinked, IsLinkRefusal, IsLinkedAs, IsMade, IsProgram, IsShaped, asked_of, made_of, plainly};
 ghost use Rattle.bpf_link.specs.Parts.{slots_in};
 ghost use Rattle.bpf_link.specs.Pruned.{flow_of};
 ghost use Rattle.bpf_link.specs.Reach.{IsReach};
@@ -20,6 +20,7 @@ use crate::fields::u32_at;
 use crate::map_names::map_names;
 use crate::missing::others_in;
 use crate::object::open;
+use crate::packets::with_context;
 use crate::placed::Placed;
 use crate::plan::{Plan, plan_of};
 use crate::pruned::{blanked, flow_of, kept_of, pruned};
@@ -29,11 +30,13 @@ use crate::setup::{stores_of, with_setup};
 use crate::shapes::all_shapes;
 use crate::sources::source_of;
 use crate::stubs::{Stub, answered, answers};
+use crate::undefined::all_told;
 use crate::words::{maps_of, words_of};
 use arrayvec::ArrayVec;
 use bpf_isa::{
     LoadFault, MOST_ENTRIES, MOST_MAPS, MOST_SLOTS, MapShape, MapTable, PieceFault, check,
 };
+use bpf_packet::Packet;
 use std::alloc::Global;
 
 /// What is asked of a link.
@@ -50,6 +53,9 @@ pub struct LinkOptions<'a> {
     /// Whether relocations of fields (CO-RE) may be left undone: the words then have these fields
     /// where the headers had them with which the object was compiled.
     pub as_compiled: bool,
+    /// The kernel's struct that the entry takes, by which it is given the packet that is the machine's
+    /// context; without one its context is the machine's.
+    pub packet: Option<Packet>,
 }
 
 /// The program of a plan, whose maps have no shapes yet.
@@ -309,25 +315,29 @@ fn with_shapes(alloc: Global, plan: &Plan<'_>, program: Program) -> Result<Linke
 /// aren't zeros at the start, slot 0 jumps to a setup behind the code, which stores them and goes
 /// on at the entry. In both cases the code begins at slot 1. The words pass the checker, for maps
 /// that have at least one byte. Relocations of fields are done in none: where there are some, the
-/// object is refused unless it is asked for that they are left as compiled. Takes time in
-/// proportion to the length of the object, and to the number of stubs.
+/// object is refused unless it is asked for that they are left as compiled. An entry that takes the
+/// kernel's own struct of a packet, by its BTF, is refused unless that is asked for: then the words
+/// are those of `on_packet`. Takes time in proportion to the length of the object, and to the number
+/// of stubs.
 pub fn link_with(
     alloc: Global,
     object: &[u8],
     options: &LinkOptions<'_>,
 ) -> Result<Linked, LinkFault>
-    ensures ok { IfOk result (IsLinkedAs object.now options.now.section.now options.now.entry.now
-        options.now.stubs.now options.now.as_compiled) }
-    ensures err { IfErr result (IsLinkRefusal object.now options.now.section.now
-        options.now.entry.now options.now.stubs.now options.now.as_compiled) }
+    ensures ok { IfOk result (IsLinkedAs (asked_of object.now options.now)) }
+    ensures err { IfErr result (IsLinkRefusal (asked_of object.now options.now)) }
 {
     let linked = match link_words(alloc, object, options) {
         Ok(linked) => linked,
         Err(fault) => return Err(fault),
     };
-    match fields_as_compiled(alloc, object, options.section, options.as_compiled) {
-        Ok(fields) => Ok(Linked {
-            words: linked.words,
+    let fields = match fields_as_compiled(alloc, object, options.section, options.as_compiled) {
+        Ok(fields) => fields,
+        Err(fault) => return Err(fault),
+    };
+    match with_context(alloc, object, options, linked.words) {
+        Ok(words) => Ok(Linked {
+            words,
             maps: linked.maps,
             data_maps: linked.data_maps,
             answered: linked.answered,
@@ -354,7 +364,7 @@ fn link_plan(
 {
     let program = match program_of(alloc, plan, slot, reach, stubs) {
         Ok(program) => program,
-        Err(fault) => return Err(fault),
+        Err(fault) => return Err(all_told(plan, fault)),
     };
     match check(
         alloc,
@@ -447,8 +457,8 @@ fn told_of(plan: &Plan<'_>, words: &[u8], fault: LoadFault) -> LinkFault
 
 /// The program of a code section: that of `link_with`, where nothing but the section is asked for.
 pub fn link(alloc: Global, object: &[u8], section: &[u8]) -> Result<Linked, LinkFault>
-    ensures ok { IfOk result (IsLinkedAs object.now section.now [] [] false) }
-    ensures err { IfErr result (IsLinkRefusal object.now section.now [] [] false) }
+    ensures ok { IfOk result (IsLinkedAs (plainly object.now section.now)) }
+    ensures err { IfErr result (IsLinkRefusal (plainly object.now section.now)) }
 {
     link_with(
         alloc,
@@ -458,6 +468,7 @@ pub fn link(alloc: Global, object: &[u8], section: &[u8]) -> Result<Linked, Link
             entry: &[],
             stubs: &[],
             as_compiled: false,
+            packet: None,
         },
     )
 }

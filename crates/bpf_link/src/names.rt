@@ -1,5 +1,5 @@
 //! The names that a fault of an object tells.
-ghost use Rattle.std.specs.Prelude.{◌≡◌, ◌≤◌, ◌<◌, ◌+◌, ◌*◌, ◌++◌, [], length};
+ghost use Rattle.std.specs.Prelude.{◌≡◌, ◌≤◌, ◌<◌, ◌+◌, ◌*◌, ◌++◌, [], length, take};
 ghost use Rattle.bpf_link.specs.Links.{planned};
 ghost use Rattle.bpf_link.specs.Objects.{opened};
 ghost use Rattle.bpf_link.specs.Names.{cut, short_at, with_place, built, with_code, code_places, is_listed, with_function, function_places, source_places, fault_places, parted, name_of, with_name, names_at, fault_names};
@@ -36,7 +36,7 @@ pub fn short_at(object: &[u8], at: usize) -> &[u8]
 }
 
 /// Places with one more, of which the first 17 are kept.
-fn with_place(at: usize, mut places: ArrayVec<usize, 17>) -> ArrayVec<usize, 17>
+pub fn with_place(at: usize, mut places: ArrayVec<usize, 17>) -> ArrayVec<usize, 17>
     ensures { result.items ≡ with_place at places.items }
 {
     if !places.is_full() {
@@ -145,6 +145,15 @@ fn source_places(source: Option<Source>) -> ArrayVec<usize, 17>
     }
 }
 
+/// The first so many of some places.
+fn first_of(places: &[usize; 17], count: usize) -> ArrayVec<usize, 17>
+    ensures { result.items ≡ take count places.now }
+{
+    let mut first = ArrayVec::new();
+    let _all = first.try_extend_from_slice(&places[..count.min(17)]);
+    first
+}
+
 /// Where the names stand that a fault tells.
 fn fault_places(object: &[u8], section: &[u8], fault: &LinkFault) -> ArrayVec<usize, 17>
     ensures { result.items ≡ fault_places object.now section.now fault.now }
@@ -153,9 +162,12 @@ fn fault_places(object: &[u8], section: &[u8], fault: &LinkFault) -> ArrayVec<us
         LinkFault::Map { at, .. } => only(*at),
         LinkFault::Fields { at, .. } => only(*at),
         LinkFault::Relocation { at, .. } => only(*at),
+        LinkFault::Context { at } => only(*at),
+        LinkFault::Undefined { count, places, .. } => first_of(places, *count),
         LinkFault::Pointer { at } => only(*at),
         LinkFault::Program { source, .. } => source_places(*source),
         LinkFault::Helper { source, .. } => source_places(*source),
+        LinkFault::Packet { source, .. } => source_places(*source),
         LinkFault::NoSection => code_places(object),
         LinkFault::ManySections => code_places(object),
         LinkFault::ManyPrograms => function_places(object, section, true),

@@ -418,6 +418,7 @@ impl RingKeeper {
             return None;
         }
         cpu.revert_text(text);
+        self.invariant();
         self.make_room(weight);
         self.append(text, is_marked(text), true);
         Some(text[2])
@@ -467,7 +468,7 @@ impl RingKeeper {
     /// Drops the fewest oldest entries that leave room for so many bytes.
     #[inline(always)]
     pub(crate) fn make_room(&mut self, room: usize)
-        requires { room ≤ 1008 }
+        requires { room + 16 ≤ self.old.ring.size }
         ensures { MakesRoom self.old self.new room }
     {
         let most = self.ring.size() - room;
@@ -485,6 +486,7 @@ impl RingKeeper {
             (keep kept_weight self.old.ring.size ks (entry.now, mark)) }
     {
         let weight = weight_in(entry);
+        self.invariant();
         self.make_room(weight);
         let mut text = [0u8; GREATEST];
         entry.write(&mut text, mark);
@@ -518,6 +520,7 @@ impl RingKeeper {
         ensures { RecordsStep cpu.old cpu.new self.old self.new mark }
     {
         cpu.invariant();
+        self.invariant();
         entries_fit();
         let weight = cpu.entry_weight(change);
         self.make_room(weight);

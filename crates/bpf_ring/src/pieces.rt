@@ -19,10 +19,16 @@ use bpf_machine::Cpu;
 use bpf_machine::laws::entries_fit;
 
 /// The most steps of a piece.
-const STEPS: u64 = 42;
+const STEPS: u64 = 128;
 
-/// The most bytes that their entries have, 24 each: less than the smallest ring.
-pub(crate) const BYTES: usize = 1_008;
+/// The most bytes that their entries have.
+pub(crate) const BYTES: usize = 4_096;
+
+/// Those of a piece of steps that are repeated, of which few come at once.
+const FEW: usize = 1_344;
+
+/// The fewest bytes that a ring has beside a piece.
+const SPARE: usize = 16;
 
 /// How far a run came by pieces.
 #[derive(Clone, Copy)]
@@ -33,6 +39,25 @@ pub(crate) struct Pieced {
     pub(crate) is_over: bool,
     /// How many steps the last piece had.
     pub(crate) last: u64,
+}
+
+/// A piece that was kept.
+#[derive(Clone, Copy)]
+pub(crate) struct Piece {
+    /// How many steps it has.
+    pub(crate) count: u64,
+    /// Whether a single step has to take the next one.
+    is_rare: bool,
+}
+
+impl Piece {
+    /// Whether no other piece is begun behind it.
+    #[inline(always)]
+    fn ends(&self) -> bool
+        ensures { result ≡ false → 1 ≤ self.now.count }
+    {
+        self.is_rare || self.count == 0
+    }
 }
 
 impl RingKeeper {
@@ -48,27 +73,27 @@ impl RingKeeper {
     ) -> Pieced
         requires goes { GoesOn cpu.old taken }
         requires most { taken ≤ most }
-        requires room { length room.old ≡ 1008 }
+        requires room { length room.old ≡ 4096 }
         ensures { RunsByPieces (T.test test.now) most taken (beside cpu.old self.old)
             (beside cpu.new self.new) room.new result }
     {
         let mut reached = taken;
         while reached < most {
             let left = (most - reached).min(STEPS);
-            let count = self.keep_piece(cpu, left, test, room);
-            reached += count;
-            if is_last(cpu, test, count) {
+            let piece = self.keep_piece(cpu, left, test, room);
+            reached += piece.count;
+            if is_last(cpu, test, piece.count) {
                 return Pieced {
                     taken: reached,
                     is_over: true,
-                    last: count,
+                    last: piece.count,
                 };
             }
-            if count < STEPS {
+            if piece.ends() {
                 return Pieced {
                     taken: reached,
                     is_over: reached == most,
-                    last: count,
+                    last: piece.count,
                 };
             }
         }
@@ -79,34 +104,44 @@ impl RingKeeper {
         }
     }
 
-    /// Takes a piece of common steps, at most so many, and keeps them. Answers how many.
+    /// Takes a piece of common steps, at most so many, and keeps them.
     fn keep_piece<T: StopTest>(
         &mut self,
         cpu: &mut Cpu,
         most: u64,
         test: &T,
         room: &mut [u8],
-    ) -> u64
+    ) -> Piece
         requires runs { has_ended cpu.old.status ≡ false }
-        requires few { most ≤ 42 }
-        requires room { length room.old ≡ 1008 }
-        ensures { KeepsPiece (T.test test.now) most cpu.old cpu.new self.old self.new room.new
-            result }
+        requires few { most ≤ 128 }
+        ensures piece { KeepsPiece (T.test test.now) most cpu.old cpu.new self.old self.new
+            result.count }
+        ensures room { length room.new ≡ length room.old }
     {
         entries_fit();
         self.invariant();
-        let kept = cpu.keep(most, test.marks(), test.overlooks_stores(), room);
+        let size = (self.ring.size() - SPARE).min(room.len());
+        let kept = cpu.keep(
+            most,
+            test.marks(),
+            test.overlooks_stores(),
+            test.overlooks_calls(),
+            &mut room[..size],
+        );
         self.drop_in_place(kept.len);
         self.make_room(kept.len);
         self.append_steps(&room[..kept.len], kept.taken as usize);
-        kept.taken
+        Piece {
+            count: kept.taken,
+            is_rare: kept.is_rare,
+        }
     }
 
     /// Drops oldest entries, as far as the block has them in one piece and they are unmarked ones of
     /// steps, until there is room for so many bytes.
     #[inline(always)]
     fn drop_in_place(&mut self, room: usize)
-        requires { room ≤ 1008 }
+        requires { room + 16 ≤ self.old.ring.size }
         ensures size { self.new.ring.size ≡ self.old.ring.size }
         ensures left { (ks : List Kept) → RingHolds self.old ks →
             Left self.new.ring self.new.counts (self.old.ring.size - room) ks }
@@ -117,7 +152,7 @@ impl RingKeeper {
         self.counts = self.counts.with_entries(entries);
     }
 
-    /// Takes common steps, at most so many and at most 42, and keeps each without a mark: up to one
+    /// Takes common steps, at most so many and at most 128, and keeps each without a mark: up to one
     /// that is none of the common ones, or behind one that leads to a slot that `marks` has, by the
     /// slot's remainder. Answers how many, maybe none. It takes no memory.
     pub fn repeat(&mut self, cpu: &mut Cpu, most: u64, marks: &[bool; 8192]) -> u64
@@ -126,16 +161,16 @@ impl RingKeeper {
         if cpu.status().has_ended() {
             return 0;
         }
-        let mut room = [0u8; BYTES];
-        let taken = self.keep_piece(cpu, most.min(STEPS), &Unstopped { marks }, &mut room);
-        taken
+        let mut room = [0u8; FEW];
+        let piece = self.keep_piece(cpu, most.min(STEPS), &Unstopped { marks }, &mut room);
+        piece.count
     }
 
     /// Appends the texts of the entries of so many steps, without marks, for which there must be
     /// room.
     fn append_steps(&mut self, text: &[u8], count: usize)
         requires room { length self.old.ring.bytes + length text.now ≤ self.old.ring.size }
-        requires few { count ≤ 42 }
+        requires few { count ≤ 128 }
         ensures size { self.new.ring.size ≡ self.old.ring.size }
         ensures held { (ks : List Kept) (x : State) → RingHolds self.old ks →
             AllFit (entries_of count x) → text.now ≡ ring_of (entries_of count x) →
@@ -171,6 +206,11 @@ impl<'a> StopTest for Unstopped<'a> {
 
     #[inline(always)]
     fn overlooks_stores(&self) -> bool {
+        true
+    }
+
+    #[inline(always)]
+    fn overlooks_calls(&self) -> bool {
         true
     }
 }

@@ -35,6 +35,12 @@ impl<'a> StopTest for Halting<'a> {
         self.watches.sees_nothing(self.seen)
     }
 
+    #[tactic(auto, using(crate::proofs::Halts::forgot))]
+    #[inline(always)]
+    fn overlooks_calls(&self) -> bool {
+        self.floor == 0
+    }
+
     #[inline(always)]
     fn holds(&self, cpu: &Cpu, replaced: bool) -> bool {
         if self.breaks.has(cpu.pc()) {

@@ -9,3 +9,5 @@ pub mod Arms
 pub mod Running
 pub mod Writing
 pub mod EntryParts
+pub mod Turning
+pub mod TurnTexts

@@ -220,7 +220,7 @@ fn copy(run: &mut [u8], bytes: &[u8])
 
 /// Makes the n bytes of a run zero.
 #[tactic(auto, unfolding(crate::specs::Regions::zeros))]
-fn clear(run: &mut [u8], n: usize)
+pub fn clear(run: &mut [u8], n: usize)
     requires { length run.old ≡ n }
     ensures { run.new ≡ zeros n }
 {

@@ -10,3 +10,4 @@ pub mod Shares
 pub mod Tests
 pub mod Told
 pub mod Trimming
+pub mod Covering

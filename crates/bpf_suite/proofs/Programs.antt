@@ -12,6 +12,7 @@ use Rattle.bpf_steps.specs.declared.frame.Frame.{Frame}
 use Rattle.bpf_session.specs.Plain.{plain_end, plain_steps}
 use Rattle.bpf_suite.specs.Benches.{Loads, RefusesProgram}
 use Rattle.bpf_suite.specs.Outcomes.{Comes, IsProgramOf, Outcome, Refuses}
+use Rattle.bpf_suite.specs.Tests.{limited}
 use Rattle.bpf_suite.specs.declared.refusal.Refusal.{Refusal}
 use Rattle.bpf_suite.specs.declared.refusal.Refusal.TheVariants.{Maps, Listing, Load, Open, NoCell}
 use Rattle.bpf_suite.specs.declared.setting.Setting.{Setting}
@@ -74,3 +75,10 @@ RefusesProgram-same t u (NoCell map index) s r = absurd r
 pub Loads-same : (t u : Setting) (machine : Outcome) → SameProgram t u → Loads t machine → Loads u machine
 Loads-same t u (Ok x) s loads = IsProgramOf-same t u x.program s loads
 Loads-same t u (Err refusal) s loads = (RefusesProgram-same t u refusal s loads.0, loads.1)
+
+-- whatever its limit
+pub Loads-limited : (n : ℕ) (t : Setting) (machine : Outcome) → Loads (limited n t) machine → Loads t machine
+Loads-limited n t machine loads = Loads-same (limited n t) t machine (record { maps = refl; listing = refl; program = refl }) loads
+
+pub limited-Loads : (n : ℕ) (t : Setting) (machine : Outcome) → Loads t machine → Loads (limited n t) machine
+limited-Loads n t machine loads = Loads-same t (limited n t) machine (record { maps = refl; listing = refl; program = refl }) loads

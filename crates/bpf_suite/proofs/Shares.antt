@@ -10,7 +10,7 @@ use Rattle.bpf_suite.specs.Faults.{has_part}
 use Rattle.bpf_suite.specs.Images.{HasImage}
 use Rattle.bpf_suite.specs.Kinds.{is_part}
 use Rattle.bpf_suite.specs.Outcomes.{Outcome, Reads}
-use Rattle.bpf_suite.specs.Tests.{body_for, cells, has_listing, is_listing, maps, program, section_for, setting, text_or_bytes}
+use Rattle.bpf_suite.specs.Tests.{body_for, cells, has_listing, is_listing, limited, maps, program, section_for, setting, text_or_bytes}
 use Rattle.bpf_suite.specs.Verdicts.{wrong_cells, wrong_lines}
 use Rattle.bpf_suite.specs.declared.cells.CellLine.{CellLine}
 use Rattle.bpf_suite.specs.declared.image.Image.{Image}
@@ -19,7 +19,7 @@ use Rattle.bpf_suite.specs.declared.kind.Part.TheVariants as part
 use Rattle.bpf_suite.specs.declared.section.Section.{Section}
 use Rattle.bpf_suite.specs.declared.setting.Setting.{Setting}
 use Rattle.bpf_suite.proofs.Lists.{find-append, or_else}
-use Rattle.bpf_suite.proofs.Programs.{Loads-same, SameProgram, other-way}
+use Rattle.bpf_suite.proofs.Programs.{Loads-limited, Loads-same, limited-Loads, SameProgram, other-way}
 
 -- what no element of a list is is found in the list behind it
 or-false : (a b : Bool) → (a || b) ≡ false → (a ≡ false) × (b ≡ false)
@@ -106,23 +106,23 @@ wrong-chosen own shared has mine theirs lines outcome e is other here =
     ap (λ ls. wrong_lines ls outcome) (lines-chosen part.CellsAfter own shared has mine theirs lines e is other here)
 
 -- the image of the cells that tests share is that of a test's cells, where it has none of its own
-pub cells-shared : (own shared : List Section) (has : Bool) (t : Setting) → has ≡ has_part part.Cells own → has ≡ false → t ≡ setting (own ++ shared) → cells shared ≡ t.cells
+pub cells-shared : {n : ℕ} (own shared : List Section) (has : Bool) (t : Setting) → has ≡ has_part part.Cells own → has ≡ false → t ≡ limited n (setting (own ++ shared)) → cells shared ≡ t.cells
 cells-shared own shared has t is none same =
     ap cells_of (sym (body_for-shared part.Cells own shared (sym is ∙ none))) ∙ ap (λ (u : Setting). u.cells) (sym same)
 
 -- a bench behind a test that was run on it
-pub bench-after : (own shared : List Section) (read : List ℕ) (words : Result (List ℕ) AsmFault) (given after : List CellLine) (kept kept' : Option Image)
+pub bench-after : {n : ℕ} (own shared : List Section) (read : List ℕ) (words : Result (List ℕ) AsmFault) (given after : List CellLine) (kept kept' : Option Image)
     (before mine : Option (List ℕ)) (old new : Outcome) (t : Setting)
-    → shares_program own ≡ true → IsBench shared read words given after kept before old → HasImage (cells shared) kept' → mine ≡ maps own → t ≡ setting (own ++ shared)
+    → shares_program own ≡ true → IsBench shared read words given after kept before old → HasImage (cells shared) kept' → mine ≡ maps own → t ≡ limited n (setting (own ++ shared))
     → Loads t new → IsBench shared read words given after kept' mine new
-bench-after own shared read words given after kept kept' before mine old new t e bench image is same loads = record {
+bench-after {n = n} own shared read words given after kept kept' before mine old new t e bench image is same loads = record {
   text = bench.text;
   reads = bench.reads;
   values = bench.values;
   wanted = bench.wanted;
   image = image;
   loads = subst (λ (m : Option (List ℕ)). Loads (with_maps m (setting shared)) new) (sym is)
-      (loads-shared own shared new e (subst (λ (u : Setting). Loads u new) same loads));
+      (loads-shared own shared new e (Loads-limited n (setting (own ++ shared)) new (subst (λ (u : Setting). Loads u new) same loads)));
 }
 
 -- or behind one with a program of its own
@@ -139,16 +139,30 @@ bench-alone shared read words given after kept kept' before machine bench image 
 }
 
 -- the machine of the test before is that of a test, where both have the same maps of their own
-pub loads-again : (own shared : List Section) (read : List ℕ) (words : Result (List ℕ) AsmFault) (given after : List CellLine) (kept : Option Image)
+pub loads-again : {n : ℕ} (own shared : List Section) (read : List ℕ) (words : Result (List ℕ) AsmFault) (given after : List CellLine) (kept : Option Image)
     (before mine : Option (List ℕ)) (machine : Outcome) (t : Setting)
-    → shares_program own ≡ true → IsBench shared read words given after kept before machine → before ≡ mine → mine ≡ maps own → t ≡ setting (own ++ shared) → Loads t machine
-loads-again own shared read words given after kept before mine machine t e bench alike is same =
+    → shares_program own ≡ true → IsBench shared read words given after kept before machine → before ≡ mine → mine ≡ maps own
+    → t ≡ limited n (setting (own ++ shared)) → Loads t machine
+loads-again {n = n} own shared read words given after kept before mine machine t e bench alike is same =
     subst (λ (u : Setting). Loads u machine) (sym same)
-    (loads-own own shared machine e (subst (λ (m : Option (List ℕ)). Loads (with_maps m (setting shared)) machine) (alike ∙ is) bench.loads))
+    (limited-Loads n (setting (own ++ shared)) machine (loads-own own shared machine e (subst (λ (m : Option (List ℕ)). Loads (with_maps m (setting shared)) machine) (alike ∙ is) bench.loads)))
 
 -- the words of its program
-pub words-again : (own shared : List Section) (read : List ℕ) (words : Result (List ℕ) AsmFault) (given after : List CellLine) (kept : Option Image)
+pub words-again : {n : ℕ} (own shared : List Section) (read : List ℕ) (words : Result (List ℕ) AsmFault) (given after : List CellLine) (kept : Option Image)
     (before : Option (List ℕ)) (machine : Outcome) (t : Setting)
-    → shares_program own ≡ true → IsBench shared read words given after kept before machine → t ≡ setting (own ++ shared) → Reads t.is_listing t.program words
+    → shares_program own ≡ true → IsBench shared read words given after kept before machine → t ≡ limited n (setting (own ++ shared)) → Reads t.is_listing t.program words
 words-again own shared read words given after kept before machine t e bench same =
     subst (λ (u : Setting). Reads u.is_listing u.program words) (sym same) (reads-own own shared words e bench.reads)
+
+-- a bench whose machine went on
+pub bench-gone-on : (shared : List Section) (read : List ℕ) (words : Result (List ℕ) AsmFault) (given after : List CellLine) (kept : Option Image)
+    (before : Option (List ℕ)) (old new : Outcome) → IsBench shared read words given after kept before old → ((t : Setting) → Loads t old → Loads t new)
+    → IsBench shared read words given after kept before new
+bench-gone-on shared read words given after kept before old new bench on = record {
+  text = bench.text;
+  reads = bench.reads;
+  values = bench.values;
+  wanted = bench.wanted;
+  image = bench.image;
+  loads = on (with_maps before (setting shared)) bench.loads;
+}

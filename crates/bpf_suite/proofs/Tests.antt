@@ -2,7 +2,7 @@
 use Rattle.std.proofs.Common.{ℕ, ◌≡◌, ◌<◌, ◌+◌, true, false, List, [], ◌∷◌, ◌++◌, append_assoc, drop, length, get_or, refl, sym, ap, ◌∙◌, arith}
 use Rattle.std.proofs.lemmas.List.{drop_more}
 use Rattle.bpf_suite.specs.Faults.{fault_at, first_fault, or_next, same_test}
-use Rattle.bpf_suite.specs.Files.{begins_name, named, or_alone, own_of, tests, until_name, with_shared}
+use Rattle.bpf_suite.specs.Files.{begins_name, named, or_alone, or_none, own_of, tests, until_name, with_shared}
 use Rattle.bpf_suite.specs.Kinds.{is_name}
 use Rattle.bpf_suite.specs.declared.section.Section.{Section}
 
@@ -57,3 +57,12 @@ pub first_fault-at : (shared earlier earlier' sections : List Section) (at : ℕ
 first_fault-at shared earlier earlier' sections at d h e =
     let more = drop_more sections at d h in
     rw (more, e) refl
+
+-- or its own sections are none
+pub or_none-none : (own : List Section) (found tests : List (List Section)) → found ≡ tests → length found ≡ 0 → own ≡ [] → found ++ own ∷ [] ≡ or_none tests
+or_none-none own found [] e none nothing = rw (e, nothing) refl
+or_none-none own found (test ∷ tests) e none nothing = absurd (let long = ap length e in omega (arith, none, long))
+
+pub or_none-some : (found tests : List (List Section)) → found ≡ tests → 0 < length found → found ≡ or_none tests
+or_none-some found [] e some = absurd (let long = ap length e in omega (arith, some, long))
+or_none-some found (test ∷ tests) e some = e

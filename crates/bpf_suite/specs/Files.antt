@@ -74,3 +74,11 @@ or_alone shared (test ∷ more) = with_shared shared (test ∷ more)
 
 abbrev pub tests : List Section → List (List Section)
 tests s = or_alone (until_name s) (named s)
+
+-- The own sections of each test; a file without a name is one test, which has none.
+abbrev pub or_none : List (List Section) → List (List Section)
+or_none [] = [] ∷ []
+or_none (own ∷ more) = own ∷ more
+
+abbrev pub own_tests : List Section → List (List Section)
+own_tests s = or_none (named s)

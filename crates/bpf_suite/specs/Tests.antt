@@ -80,3 +80,11 @@ setting sections = record {
   cells = cells sections;
   limit = limit sections;
 }
+
+-- The same with another limit of steps.
+abbrev pub limited : ℕ → Setting → Setting
+limited n t = record t { limit = n }
+
+-- The line of the section in which its program stands.
+abbrev pub program_line : List Section → ℕ
+program_line sections = option_map_or (λ section. section.line) (section_for part.Program sections) 0

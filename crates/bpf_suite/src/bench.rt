@@ -1,15 +1,20 @@
 //! The program that tests of a file share, and the machine that they run on, one after another.
-ghost use Rattle.std.specs.Prelude.{◌≡◌, ◌++◌, IfOk, List, Ok, OnErr, OnOk, filter_map, false, if◌then◌else◌, true};
+ghost use Rattle.std.specs.Prelude.{◌≡◌, ◌++◌, IfOk, List, None, Ok, OnErr, Option, OnOk, filter_map, false, if◌then◌else◌, true, unwrap_or};
+ghost use Rattle.bpf_isa.specs.Programs.{Checked};
+ghost use Rattle.bpf_steps.specs.State.{State};
+ghost use Rattle.bpf_cover.specs.Coverage.{covered};
 ghost use Rattle.bpf_suite.specs.Benches.{IsReady, Loads, ReasonOf, outcome_by, shares_program};
 ghost use Rattle.bpf_suite.specs.Cells.{cell_lines, cell_of};
+ghost use Rattle.bpf_suite.specs.Covers.{Finds, IsFound, Notes};
 ghost use Rattle.bpf_suite.specs.Images.{HasImage};
 ghost use Rattle.bpf_suite.specs.Outcomes.{Comes, Reads};
 ghost use Rattle.bpf_suite.specs.Reports.{AreTold};
-ghost use Rattle.bpf_suite.specs.Tests.{body_for, cells as cells_of, has_listing, program as program_of, setting};
+ghost use Rattle.bpf_suite.specs.Tests.{body_for, cells as cells_of, has_listing, limit, limited, program as program_of, program_line, setting};
 ghost use Rattle.bpf_suite.specs.Verdicts.{wrong_cells};
 ghost use Rattle.bpf_suite.specs.declared.cells.Cell.{Cell};
 ghost use Rattle.bpf_suite.specs.declared.kind.Part.TheVariants as part;
 ghost use Rattle.bpf_suite.specs.declared.section.Section.{Section};
+ghost use Rattle.bpf_suite.specs.declared.setting.Setting.{Setting};
 
 use crate::cells::{CellLine, Cells};
 use crate::ending::Wanted;
@@ -23,6 +28,8 @@ use crate::setting::{Setting, setting_of};
 use crate::test::{Test, has_part, lines_in, maps_in};
 use crate::values::{WrongCells, wrong_cells};
 use crate::words::{Words, words_of};
+use bpf_cover::Coverage;
+use bpf_isa::Program;
 use bpf_machine::Cpu;
 use bpf_text::AsmFault;
 use std::alloc::{AllocError, Global};
@@ -47,6 +54,9 @@ pub struct Bench<'b, 'a> {
 }
 
 impl<'b, 'a> Model for Bench<'b, 'a> {
+    ghost use Rattle.bpf_isa.specs.Programs.{Checked};
+    ghost use Rattle.bpf_steps.specs.State.{State};
+    ghost use Rattle.bpf_cover.specs.Coverage.{covered};
     ghost use Rattle.bpf_suite.specs.Benches.{IsBench, Shared};
 
     ghost Value = { Shared };
@@ -124,28 +134,16 @@ impl<'b, 'a> Bench<'b, 'a> {
         wrong_for(alloc, own, &mut self.wanted, &self.machine)
     }
 
-    /// Runs a test of the shared program on the machine, which is made anew where it has other maps
-    /// than the test before. Answers why the test is refused, if it is and others aren't; else the
-    /// machine is what it came to.
+    /// Runs a test of the shared program on the machine. Answers why the test is refused, if it is
+    /// and others aren't; else the machine is what it came to.
     pub fn run(&mut self, alloc: Global, own: &Own<'b, 'a>) -> Result<Option<Refusal>, AllocError>
         requires { shares_program own.now ≡ true }
         ensures comes { IfOk result (λ refusal.
             Comes (setting (own.now ++ self.old.sections)) (outcome_by self.new.machine refusal)) }
         ensures sections { self.new.sections ≡ self.old.sections }
     {
-        let test = self.test(own);
-        let context = test.context(alloc)?;
-        let has_own = has_part(own.sections, Part::Cells);
-        let own_cells = lines_in(alloc, own.sections, Part::Cells)?;
-        let lines = chosen(has_own, own_cells.as_slice(), self.cells.as_slice());
-        let cells = Cells { lines };
-        let setting = setting_of(&test, self.program.as_slice(), context.as_slice(), cells);
-        let maps = maps_in(own.sections);
-        let stands = are_same(&self.maps, &maps);
-        bring(alloc, &mut self.machine, stands, &setting, &self.words)?;
-        self.maps = maps;
-        let shares = gets_shared(has_own, self.cells.as_slice());
-        run_on(alloc, &mut self.machine, &setting, shares, &mut self.image)
+        let limit = self.limit(own);
+        self.run_for(alloc, own, limit)
     }
 
     /// What a test with a program of its own comes to.
@@ -157,6 +155,107 @@ impl<'b, 'a> Bench<'b, 'a> {
         ensures comes { IfOk result (Comes (setting (own.now ++ self.old.sections))) }
         ensures sections { self.new.sections ≡ self.old.sections }
     {
+        let limit = self.limit(own);
+        self.run_alone_for(alloc, own, limit)
+    }
+
+    /// The most steps that a test takes.
+    fn limit(&self, own: &Own<'b, 'a>) -> u64
+        ensures { result ≡ limit (own.now ++ self.now.sections) }
+    {
+        self.test(own).limit()
+    }
+
+    /// The line of the section in which a test's program stands.
+    pub fn program_line(&self, own: &Own<'b, 'a>) -> usize
+        ensures { result ≡ program_line (own.now ++ self.now.sections) }
+    {
+        self.test(own).program_line()
+    }
+
+    /// Runs a test of the shared program from its first step on, and marks what runs, for which memory
+    /// is taken where it is the first that isn't refused.
+    pub fn cover(
+        &mut self,
+        alloc: Global,
+        own: &Own<'b, 'a>,
+        found: &mut Option<Coverage>,
+    ) -> Result<(), AllocError>
+        requires { shares_program own.now ≡ true }
+        ensures found { OnOk result
+            (Finds (own.now ++ self.old.sections) found.old found.new) }
+        ensures sections { self.new.sections ≡ self.old.sections }
+    {
+        let limit = self.limit(own);
+        match self.run_for(alloc, own, 0) {
+            Ok(None) => note(alloc, &mut self.machine, limit, found),
+            Ok(Some(_)) => Ok(()),
+            Err(fault) => Err(fault),
+        }
+    }
+
+    /// Runs a test with a program of its own, and answers what of that ran; None where it is refused.
+    pub fn cover_alone(
+        &mut self,
+        alloc: Global,
+        own: &Own<'b, 'a>,
+    ) -> Result<Option<Coverage>, AllocError>
+        ensures found { IfOk result (Finds (own.now ++ self.old.sections) None) }
+        ensures sections { self.new.sections ≡ self.old.sections }
+    {
+        let limit = self.limit(own);
+        let mut machine = self.run_alone_for(alloc, own, 0)?;
+        let mut found = None;
+        note(alloc, &mut machine, limit, &mut found)?;
+        Ok(found)
+    }
+
+    /// Runs a test of the shared program, for at most so many steps, on the machine, which is made
+    /// anew where it has other maps than the test before.
+    fn run_for(
+        &mut self,
+        alloc: Global,
+        own: &Own<'b, 'a>,
+        limit: u64,
+    ) -> Result<Option<Refusal>, AllocError>
+        requires { shares_program own.now ≡ true }
+        ensures comes { IfOk result (λ refusal.
+            Comes (limited limit (setting (own.now ++ self.old.sections)))
+            (outcome_by self.new.machine refusal)) }
+        ensures sections { self.new.sections ≡ self.old.sections }
+    {
+        let test = self.test(own);
+        let context = test.context(alloc)?;
+        let has_own = has_part(own.sections, Part::Cells);
+        let own_cells = lines_in(alloc, own.sections, Part::Cells)?;
+        let lines = chosen(has_own, own_cells.as_slice(), self.cells.as_slice());
+        let cells = Cells { lines };
+        let setting = setting_of(
+            &test,
+            self.program.as_slice(),
+            context.as_slice(),
+            cells,
+            limit,
+        );
+        let maps = maps_in(own.sections);
+        let stands = are_same(&self.maps, &maps);
+        bring(alloc, &mut self.machine, stands, &setting, &self.words)?;
+        self.maps = maps;
+        let shares = gets_shared(has_own, self.cells.as_slice());
+        run_on(alloc, &mut self.machine, &setting, shares, &mut self.image)
+    }
+
+    /// What a test with a program of its own comes to in at most so many steps.
+    fn run_alone_for(
+        &mut self,
+        alloc: Global,
+        own: &Own<'b, 'a>,
+        limit: u64,
+    ) -> Result<Result<Cpu, Refusal>, AllocError>
+        ensures comes { IfOk result
+            (Comes (limited limit (setting (own.now ++ self.old.sections)))) }
+        ensures sections { self.new.sections ≡ self.old.sections }
+    {
         let test = self.test(own);
         let program = test.program(alloc)?;
         let words = words_of(alloc, test.has_listing(), program.as_slice())?;
@@ -165,9 +264,56 @@ impl<'b, 'a> Bench<'b, 'a> {
         let own_cells = lines_in(alloc, own.sections, Part::Cells)?;
         let lines = chosen(has_own, own_cells.as_slice(), self.cells.as_slice());
         let cells = Cells { lines };
-        let setting = setting_of(&test, program.as_slice(), context.as_slice(), cells);
+        let setting = setting_of(&test, program.as_slice(), context.as_slice(), cells, limit);
         let shares = gets_shared(has_own, self.cells.as_slice());
         outcome_of(alloc, &setting, &words, shares, &mut self.image)
+    }
+}
+
+/// Runs a machine, if there is one, for at most so many steps, and marks what runs of its program.
+fn note(
+    alloc: Global,
+    machine: &mut Result<Cpu, Refusal>,
+    limit: u64,
+    found: &mut Option<Coverage>,
+) -> Result<(), AllocError>
+    ensures found { OnOk result (Notes limit machine.old found.old found.new) }
+    ensures loads { (t : Setting) → Loads t machine.old → Loads t machine.new }
+{
+    match machine {
+        Ok(cpu) => note_run(alloc, cpu, limit, found),
+        Err(_) => Ok(()),
+    }
+}
+
+/// Runs a machine for at most so many steps, and marks what runs of its program.
+fn note_run(
+    alloc: Global,
+    cpu: &mut Cpu,
+    limit: u64,
+    found: &mut Option<Coverage>,
+) -> Result<(), AllocError>
+    ensures found { OnOk result (Notes limit (Ok cpu.old) found.old found.new) }
+    ensures program { cpu.new.program ≡ cpu.old.program }
+{
+    let mut coverage = found_or_begun(alloc, found.take(), cpu.program())?;
+    coverage.run(cpu, limit);
+    *found = Some(coverage);
+    Ok(())
+}
+
+/// What was found of a program; nothing of this one, where nothing was.
+fn found_or_begun(
+    alloc: Global,
+    found: Option<Coverage>,
+    program: &Program,
+) -> Result<Coverage, AllocError>
+    ensures { IfOk result (λ coverage. (known : Option Checked) (xs : List State)
+        → IsFound known xs found → coverage ≡ covered (unwrap_or known program.now) xs) }
+{
+    match found {
+        Some(coverage) => Ok(coverage),
+        None => Coverage::of(alloc, program),
     }
 }
 
@@ -230,7 +376,8 @@ fn machine_of(
     ensures { IfOk result (Loads (setting test.now)) }
 {
     let context = test.context(alloc)?;
-    let setting = setting_of(test, program, context.as_slice(), Cells { lines });
+    let limit = test.limit();
+    let setting = setting_of(test, program, context.as_slice(), Cells { lines }, limit);
     loaded(alloc, &setting, words)
 }
 

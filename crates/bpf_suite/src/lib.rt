@@ -4,6 +4,7 @@
 mod bench;
 mod body;
 mod cells;
+mod cover;
 mod ending;
 mod fault;
 mod image;

@@ -1,6 +1,6 @@
 //! What a test says of its program.
 ghost use Rattle.std.specs.Prelude.{◌≡◌};
-ghost use Rattle.bpf_suite.specs.Tests.{cells as cells_of, context as context_of, program as program_of, setting};
+ghost use Rattle.bpf_suite.specs.Tests.{cells as cells_of, context as context_of, program as program_of, limited, setting};
 
 use crate::cells::Cells;
 use crate::section::Text;
@@ -21,17 +21,18 @@ pub struct Setting<'a, 'x> {
     pub limit: u64,
 }
 
-/// What a test says of its program, by what was read of it.
+/// What a test says of its program, by what was read of it, with another limit.
 pub fn setting_of<'a, 'x>(
     test: &Test<'_, 'a>,
     program: &'x [u8],
     context: &'x [u8],
     cells: Cells<'x, 'a>,
+    limit: u64,
 ) -> Setting<'a, 'x>
     requires program { program.now ≡ program_of test.now }
     requires context { context.now ≡ context_of test.now }
     requires cells { cells ≡ cells_of test.now }
-    ensures { result ≡ setting test.now }
+    ensures { result ≡ limited limit (setting test.now) }
 {
     Setting {
         maps: test.maps(),
@@ -39,6 +40,6 @@ pub fn setting_of<'a, 'x>(
         program: Text { bytes: program },
         context: Text { bytes: context },
         cells,
-        limit: test.limit(),
+        limit,
     }
 }

@@ -1,8 +1,9 @@
 //! A test file without a fault.
 ghost use Rattle.std.specs.Prelude.{◌≡◌, ◌≤◌, ◌<◌, ◌∷◌, ◌++◌, drop, List, None, IfErr, IfOk, OnOk, get_or, is_some, length, slice_range, []};
 ghost use Rattle.bpf_suite.specs.Bodies.{bytes_of, is_pattern, solid};
+ghost use Rattle.bpf_suite.specs.Covers.{Covers, own_named};
 ghost use Rattle.bpf_suite.specs.Faults.{IsFaultOf, alone_fault, fault_at, fault_of, file_fault, first_fault, is_well_formed, same_test, sections_fault};
-ghost use Rattle.bpf_suite.specs.Files.{begins_name, named, own_of, sections, tests, until_name};
+ghost use Rattle.bpf_suite.specs.Files.{begins_name, named, own_of, own_tests, sections, tests, until_name};
 ghost use Rattle.bpf_suite.specs.declared.section.Section.{Section};
 
 use crate::body::{
@@ -10,6 +11,7 @@ use crate::body::{
     trimmed,
 };
 use crate::cells::{are_cells, are_patterns};
+use crate::cover::cover_text;
 use crate::fault::{FileFault, SectionFault};
 use crate::kind::{Kind, Part};
 use crate::list::{Own, TestList};
@@ -60,6 +62,52 @@ impl<'a> Suite<'a> {
     {
         tests(alloc, self.sections.as_slice())
     }
+
+    /// The tables of what ran of its programs, over its tests, or over those of a name.
+    pub fn cover(&self, alloc: Global, only: Option<&str>) -> Result<Vec<u8>, AllocError>
+        ensures { IfOk result (λ text. let shared = until_name self.now in
+            Covers shared (own_named only.entry shared (own_tests self.now)) text.items) }
+    {
+        let sections = self.sections.as_slice();
+        let shared = until_name(sections);
+        let own = own_named(own_tests(alloc, sections)?, shared, only);
+        cover_text(alloc, shared, own.as_slice())
+    }
+}
+
+/// The own sections of each test of sections; of one without any where none has a name.
+fn own_tests<'b, 'a>(
+    alloc: Global,
+    sections: &'b [Section<'a>],
+) -> Result<Vec<Own<'b, 'a>>, AllocError>
+    ensures { IfOk result (λ own. own.items ≡ own_tests sections.now) }
+{
+    let mut own = named(alloc, sections)?;
+    if own.is_empty() {
+        push_own(&mut own, &sections[..0])?;
+    }
+    Ok(own)
+}
+
+/// Of these own sections those of the tests of a name; all where none is named.
+fn own_named<'b, 'a>(
+    mut own: Vec<Own<'b, 'a>>,
+    shared: &'b [Section<'a>],
+    only: Option<&str>,
+) -> Vec<Own<'b, 'a>>
+    ensures { result.items ≡ own_named only.entry shared.now own.entry.items }
+{
+    let Some(name) = only else {
+        return own;
+    };
+    own.retain(|own| {
+        let test = Test {
+            own: own.sections,
+            shared,
+        };
+        test.is_named(name.as_bytes())
+    });
+    own
 }
 
 /// The tests of sections.

@@ -3,7 +3,7 @@ ghost use Rattle.std.specs.Prelude.{◌≡◌, ◌++◌, IfOk, [], unwrap_or};
 ghost use Rattle.std.specs.Option.{option_map};
 ghost use Rattle.bpf_suite.specs.Bodies.{bytes_of, trimmed};
 ghost use Rattle.bpf_suite.specs.Cells.{cell_lines as cell_lines_of};
-ghost use Rattle.bpf_suite.specs.Tests.{body_for, context, first_line, has_listing, is_listing, is_named, limit, maps, program, section_for, text_or_bytes, title};
+ghost use Rattle.bpf_suite.specs.Tests.{body_for, context, first_line, has_listing, is_listing, is_named, limit, maps, program, program_line, section_for, text_or_bytes, title};
 ghost use Rattle.bpf_suite.specs.Faults.{has_part, lack};
 
 use crate::body::{bytes_of, limit_of, trimmed};
@@ -189,6 +189,16 @@ impl<'b, 'a> Test<'b, 'a> {
         ensures { result ≡ maps self.now }
     {
         trimmed_body(self.section(Part::Maps))
+    }
+
+    /// The line of the section in which its program stands.
+    pub fn program_line(&self) -> usize
+        ensures { result ≡ program_line self.now }
+    {
+        match self.section(Part::Program) {
+            Some(section) => section.line,
+            None => 0,
+        }
     }
 
     /// The most steps that it takes.

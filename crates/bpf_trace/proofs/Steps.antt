@@ -19,10 +19,12 @@ use Rattle.bpf_machine.proofs.Fitting.{change_fits}
 use Rattle.bpf_origin.specs.Writes.{written}
 use Rattle.bpf_origin.specs.declared.place.Part.TheVariants as part
 use Rattle.bpfdb_replies.specs.Texts.{text_at}
-use Rattle.bpf_trace.specs.Lines.{parts_by, register_by}
+use Rattle.bpf_trace.specs.Taken.{Took, parts_by, register_by}
 use Rattle.bpf_trace.specs.Texts.{slot_text, texts_of}
 use Rattle.bpf_trace.specs.Traces.{step_line, written_text}
+use Rattle.bpf_trace.specs.declared.taken.Taken.{Taken}
 use Rattle.bpf_trace.proofs.Making.{text_there}
+use Rattle.bpf_trace.proofs.Stepping.{next-program}
 
 -- how many bytes a run that is present has
 found_long : (m : Image) → IsImage m → (a n : ℕ) (found : Option ℕ) → index_of m a n ≡ found → IsSome found → length (unwrap_or (run_at m a n) []) ≡ n
@@ -84,3 +86,16 @@ whole_line k x y told line text more all is e named parts wrote ends =
     ∙ sym (append_assoc told line (rest ++ codes "\n"))
     ∙ ap (λ (t : List ℕ). t ++ (rest ++ codes "\n")) lead
     ∙ joined (decimal k) (text_at x.program x.pc) _ _ same
+
+-- the line of a step that was taken
+pub taken_line : (k : ℕ) (x y : State) (taken : Taken) → Took x y taken
+    → (((decimal k ++ codes " ") ++ text_at y.program taken.slot) ++ flat_map (written_text y) (parts_by y taken.change)) ++ codes "\n" ≡ step_line k x
+taken_line k x y taken t =
+    let text = text_at y.program taken.slot in
+    let line = decimal k ++ codes " " ++ text in
+    let wrote = flat_map (written_text y) (parts_by y taken.change) in
+    let named : text ≡ text_at x.program x.pc =
+    ap (λ (p : Checked). text_at p taken.slot) (ap (λ (z : State). z.program) t.next ∙ next-program x) ∙ ap (text_at x.program) t.slot in
+    let parts : line ++ wrote ≡ line ++ flat_map (written_text y) (parts_by y (change x)) =
+    ap (λ (c : Change). line ++ flat_map (written_text y) (parts_by y c)) t.change in
+    whole_line k x y [] line text (line ++ wrote) ((line ++ wrote) ++ codes "\n") t.is t.next named refl parts refl

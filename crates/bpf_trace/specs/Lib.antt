@@ -6,3 +6,4 @@ pub mod Branches
 pub mod Texts
 pub mod Lines
 pub mod Tellings
+pub mod Taken

@@ -9,9 +9,11 @@ mod line;
 mod parts;
 mod profile;
 mod step;
+mod taken;
 mod texts;
 mod trace;
 
-pub use ending::put_limit;
+pub use ending::{put_end, put_limit};
 pub use profile::{Profile, put_profile};
+pub use taken::{Taken, put_taken};
 pub use trace::{Shown, TraceFault, write_trace};

@@ -5,7 +5,7 @@ ghost use Rattle.bpf_origin.specs.Places.{depth_for, value};
 ghost use Rattle.bpf_origin.specs.Texts.{bytes_value, register_name, value_text};
 ghost use Rattle.bpf_origin.specs.declared.place.Part.TheVariants as part;
 ghost use Rattle.bpf_origin.specs.declared.place.Place.TheVariants as place;
-ghost use Rattle.bpf_trace.specs.Lines.{parts_by, register_by};
+ghost use Rattle.bpf_trace.specs.Taken.{parts_by, register_by};
 ghost use Rattle.bpf_trace.specs.Traces.{written_text};
 
 use crate::line::Line;

@@ -15,10 +15,11 @@ pub ends_plan_with : {R W E : Type 0} (reader : Stream R) (writer : Stream W) (e
     (at_terminal : Bool) (plan : Plan) (status : ℕ) → DoesPlan bytes_at at_terminal plan reader writer errors status → status ≢ 2
     → EndsPlanWith plan status
 ends_plan_with reader writer errors bytes_at at_terminal plan status (Unread fault why same kept told two) other = absurd (other two)
-ends_plan_with reader writer errors bytes_at at_terminal plan status (Done of_file of_path of_other job are is does) other = record {
+ends_plan_with reader writer errors bytes_at at_terminal plan status (Done of_file of_path of_other of_further job are is does) other = record {
   of_file = of_file;
   of_path = of_path;
   of_other = of_other;
+  of_further = of_further;
   job = job;
   is = is;
   ends = ends_with reader writer (record errors { new = does.told }) job.subcommand job status does.does other;

@@ -25,8 +25,8 @@ pub data DoesPlan {R W E : Type 0} (bytes_at : List ℕ → Option (List ℕ)) (
     (errors : Stream E) (status : ℕ) : Type 0 where
   Unread : (fault : JobFault) → IsUnread bytes_at plan fault → reader.new ≡ reader.old → writer.new ≡ writer.old → Told errors (line_of fault)
       → status ≡ 2 → DoesPlan bytes_at at_terminal plan reader writer errors status
-  Done : (of_file of_path of_other : List ℕ) → (job : Job) → AreRead bytes_at plan of_file of_path of_other
-      → IsJobOf plan of_file of_path of_other job → DoesHinted at_terminal job reader writer errors status
+  Done : (of_file of_path of_other : List ℕ) → (of_further : List (List ℕ)) → (job : Job)
+      → AreRead bytes_at plan of_file of_path of_other of_further → IsJobOf plan of_file of_path of_other of_further job → DoesHinted at_terminal job reader writer errors status
       → DoesPlan bytes_at at_terminal plan reader writer errors status
 
 -- A status other than 2 is that of its job, over some bytes of its files.
@@ -34,8 +34,9 @@ pub record EndsPlanWith (plan : Plan) (status : ℕ) : Type 0 where
   pub of_file : List ℕ
   pub of_path : List ℕ
   pub of_other : List ℕ
+  pub of_further : List (List ℕ)
   pub job : Job
-  pub is : IsJobOf plan of_file of_path of_other job
+  pub is : IsJobOf plan of_file of_path of_other of_further job
   pub ends : EndsWith job.subcommand job status
 
 -- A text was written as help; or a beginning of it; or memory ran out, and nothing was written.

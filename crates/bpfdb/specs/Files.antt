@@ -1,5 +1,6 @@
 -- What the files of a plan hold, and what a fault of one tells.
-use Rattle.std.specs.Prelude.{ℕ, ◌≡◌, ◌||◌, Bool, if◌then◌else◌, List, [], ◌∷◌, Option, Some, None, ⊤}
+use Rattle.std.specs.Prelude.{ℕ, zero, suc, ◌≡◌, ◌<◌, ◌||◌, Bool, if◌then◌else◌, List, [], ◌∷◌, ◌++◌, Vec, Option, Some, None, get_or, length, map, ⊤}
+use Rattle.std.specs.declared.alloc.Global.{Global}
 use Rattle.std.specs.Borrow.{Bor}
 use Rattle.bpfdb_cli.specs.declared.plans.Plan.{Plan}
 use Rattle.bpfdb_files.specs.Reading.{Gives}
@@ -37,11 +38,31 @@ abbrev pub NamesGiven : Option (Bor (List ℕ)) → JobFault → Type 0
 NamesGiven (Some path) fault = Names path.now fault
 NamesGiven None fault = ⊥
 
--- The bytes of FILE, of PATH and of the other file, where the bytes of files are known.
-pub record AreRead (bytes_at : List ℕ → Option (List ℕ)) (plan : Plan) (of_file of_path of_other : List ℕ) : Type 0 where
+-- The texts of paths, and the contents of files.
+abbrev pub texts : List (Bor (List ℕ)) → List (List ℕ)
+texts paths = map (λ path. path.now) paths
+
+abbrev pub contents : List (Vec ℕ Global) → List (List ℕ)
+contents all = map (λ bytes. bytes.items) all
+
+-- What is read of the files of the first n of some paths.
+abbrev pub GivesFirst : (List ℕ → Option (List ℕ)) → FileKind → List (List ℕ) → ℕ → List (List ℕ) → Type 0
+GivesFirst bytes_at kind paths zero all = all ≡ []
+GivesFirst bytes_at kind paths (suc n) all = (before : List (List ℕ)) × GivesFirst bytes_at kind paths n before
+    × (bytes : List ℕ) × Gives kind (bytes_at (get_or paths n [])) (Some bytes) × (all ≡ before ++ bytes ∷ [])
+
+-- One of the paths is that of a file which can't be read, where those before it can; or memory ran out.
+abbrev pub NamesOne : (List ℕ → Option (List ℕ)) → FileKind → List (List ℕ) → JobFault → Type 0
+NamesOne bytes_at kind paths fault = (n : ℕ) × (n < length paths) × (all : List (List ℕ)) × GivesFirst bytes_at kind paths n all
+    × Names (get_or paths n []) fault
+
+-- The bytes of FILE, of PATH, of the other file and of the further ones, where the bytes of files are known.
+pub record AreRead (bytes_at : List ℕ → Option (List ℕ)) (plan : Plan) (of_file of_path of_other : List ℕ) (of_further : List (List ℕ))
+    : Type 0 where
   pub file : Gives (kind_of plan) (bytes_at plan.file.now) (Some of_file)
   pub context : GivesNamed bytes_at Context plan.memory of_path
   pub other : GivesNamed bytes_at Source plan.other of_other
+  pub further : GivesFirst bytes_at Source (texts plan.further.items) (length plan.further.items) of_further
 
 -- Why they aren't read: by the first of them that can't be.
 pub data IsUnread (bytes_at : List ℕ → Option (List ℕ)) (plan : Plan) (fault : JobFault) : Type 0 where
@@ -50,6 +71,9 @@ pub data IsUnread (bytes_at : List ℕ → Option (List ℕ)) (plan : Plan) (fau
       → IsUnread bytes_at plan fault
   OfOther : (of_file of_path : List ℕ) → Gives (kind_of plan) (bytes_at plan.file.now) (Some of_file)
       → GivesNamed bytes_at Context plan.memory of_path → NamesGiven plan.other fault → IsUnread bytes_at plan fault
+  OfFurther : (of_file of_path of_other : List ℕ) → Gives (kind_of plan) (bytes_at plan.file.now) (Some of_file)
+      → GivesNamed bytes_at Context plan.memory of_path → GivesNamed bytes_at Source plan.other of_other
+      → NamesOne bytes_at Source (texts plan.further.items) fault → IsUnread bytes_at plan fault
 
 -- The program that is built in: r0 = 42, and the end.
 abbrev pub first_program : List ℕ

@@ -3,6 +3,7 @@ use Rattle.std.specs.Prelude.{ℕ, ◌≡◌, List, Option, Some, None}
 use Rattle.std.specs.Borrow.{Bor}
 use Rattle.bpfdb_cli.specs.declared.plans.Plan.{Plan}
 use Rattle.bpfdb_jobs.specs.declared.job.Job.{Job}
+use Rattle.bpfdb.specs.Files.{contents}
 
 -- The bytes of a file, where one is named.
 abbrev pub IsNamed : Option (Bor (List ℕ)) → List ℕ → Option (Bor (List ℕ)) → Type 0
@@ -10,12 +11,14 @@ IsNamed None bytes given = given ≡ None
 IsNamed (Some path) bytes None = ⊥
 IsNamed (Some path) bytes (Some given) = given.now ≡ bytes
 
--- It has the plan's subcommand and options, the name of FILE and its bytes, those of PATH, and those of the other file, if there is one.
-pub record IsJobOf (plan : Plan) (of_file of_path of_other : List ℕ) (job : Job) : Type 0 where
+-- It has the plan's subcommand and options, the name of FILE and its bytes, those of PATH, those of the other file, if there is one, and those of
+-- the further ones.
+pub record IsJobOf (plan : Plan) (of_file of_path of_other : List ℕ) (of_further : List (List ℕ)) (job : Job) : Type 0 where
   pub subcommand : job.subcommand ≡ plan.subcommand
   pub name : job.name.now ≡ plan.file.now
   pub file : job.file.now ≡ of_file
   pub context : job.context.now ≡ of_path
   pub other : IsNamed plan.other of_other job.other
+  pub further : contents job.further.now ≡ of_further
   pub shapes : job.shapes ≡ None
   pub options : job.options ≡ plan.options

@@ -1,13 +1,14 @@
 //! What is done of a command line, over any files, reader and writers.
 ghost use Rattle.std.specs.Prelude.{◌≤◌};
 ghost use Rattle.bpfdb.specs.Done.{DoesHinted, DoesPlan, Helps};
+ghost use Rattle.bpfdb.specs.Files.{contents};
 ghost use Rattle.bpfdb.specs.Jobs.{IsJobOf};
 ghost use Rattle.bpfdb_jobs.specs.declared.job.Job.{Job};
 ghost use Rattle.bpfdb_limits.specs.Limits.{IsLimit};
 ghost use Rattle.counted_io.specs.Writing.{Writes};
 ghost use Rattle.bpfdb_faults.specs.Streams.{stream};
 
-use crate::files::{kind_of, read_given, read_named};
+use crate::files::{kind_of, read_each, read_given, read_named};
 use crate::job::job_of;
 use bpfdb_cli::Plan;
 use bpfdb_faults::{JobFault, give_up};
@@ -18,8 +19,8 @@ use counted_io::{Counted, WriteFault, write_text};
 use std::alloc::Global;
 use std::io::{Read, Write};
 
-/// Reads the files of a plan, FILE before PATH is opened, and that before the other one; then does its
-/// job. Where standard error is a terminal, the job's hint follows, if there is one. Answers the exit
+/// Reads the files of a plan, FILE before PATH is opened, that before the other one, and that before
+/// the further ones; then does its job. Where standard error is a terminal, the job's hint follows, if there is one. Answers the exit
 /// status.
 pub fn do_plan<F: Opener, R: Read, W: Write, E: Write>(
     alloc: Global,
@@ -48,12 +49,17 @@ pub fn do_plan<F: Opener, R: Read, W: Write, E: Write>(
         Ok(other) => other,
         Err(fault) => return give_up(errors, &fault),
     };
+    let further = match read_each(alloc, files, plan.further.as_slice(), FileKind::Source) {
+        Ok(further) => further,
+        Err(fault) => return give_up(errors, &fault),
+    };
     do_read(
         alloc,
         plan,
         file.as_slice(),
         context.as_slice(),
         other.as_slice(),
+        further.as_slice(),
         at_terminal,
         reader,
         writer,
@@ -61,26 +67,27 @@ pub fn do_plan<F: Opener, R: Read, W: Write, E: Write>(
     )
 }
 
-/// Does the job of a plan, with the bytes of FILE, those of PATH and those of the other file, and adds
-/// its hint.
+/// Does the job of a plan, with the bytes of its files, and adds its hint.
 fn do_read<R: Read, W: Write, E: Write>(
     alloc: Global,
     plan: &Plan<'_>,
     file: &[u8],
     context: &[u8],
     other: &[u8],
+    further: &[Vec<u8>],
     at_terminal: bool,
     reader: &mut Counted<R>,
     writer: &mut Counted<W>,
     errors: &mut Counted<E>,
 ) -> u8
     requires limit { IsLimit plan.now.options.limit }
-    ensures does { (job : Job) × IsJobOf plan.now file.now context.now other.now job
+    ensures does { (job : Job) × IsJobOf plan.now file.now context.now other.now
+        (contents further.now) job
         × DoesHinted at_terminal job (stream R.remaining reader.old reader.new)
         (stream W.contents writer.old writer.new) (stream E.contents errors.old errors.new) result }
     ensures status { result ≤ 2 }
 {
-    let job = job_of(plan, file, context, other);
+    let job = job_of(plan, file, context, other, further);
     let status = tool(alloc, &job, reader, writer, errors);
     add_hint(alloc, &job, at_terminal, status, errors);
     status

@@ -1,6 +1,6 @@
 //! FILE, PATH and the other file: files by their names.
-ghost use Rattle.std.specs.Prelude.{◌≡◌, IfErr, IfOk, Some};
-ghost use Rattle.bpfdb.specs.Files.{GivesNamed, Names, NamesGiven, kind_of};
+ghost use Rattle.std.specs.Prelude.{◌≡◌, IfErr, IfOk, Some, length};
+ghost use Rattle.bpfdb.specs.Files.{GivesFirst, GivesNamed, Names, NamesGiven, NamesOne, contents, kind_of, texts};
 ghost use Rattle.bpfdb_files.specs.Reading.{Gives};
 
 use bpfdb_cli::Plan;
@@ -67,6 +67,31 @@ pub fn read_given<'a, F: Opener>(
         Some(path) => read_named(alloc, files, path, kind),
         None => Ok(Vec::new(alloc)),
     }
+}
+
+/// The bytes of the files of several paths, read as ones of a kind.
+pub fn read_each<'a, F: Opener>(
+    alloc: Global,
+    files: &F,
+    paths: &[&'a str],
+    kind: FileKind,
+) -> Result<Vec<Vec<u8>>, JobFault<'a>>
+    ensures ok { IfOk result (λ all. GivesFirst (F.bytes_at files.now) kind (texts paths.now)
+        (length paths.now) (contents all.items)) }
+    ensures err { IfErr result (NamesOne (F.bytes_at files.now) kind (texts paths.now)) }
+{
+    let mut all = Vec::new(alloc);
+    for k in 0..paths.len() {
+        let bytes = match read_named(alloc, files, paths[k], kind) {
+            Ok(bytes) => bytes,
+            Err(fault) => return Err(fault),
+        };
+        match all.push(bytes) {
+            Ok(()) => {}
+            Err(_) => return Err(JobFault::Memory),
+        }
+    }
+    Ok(all)
 }
 
 /// Why a file's bytes aren't there.

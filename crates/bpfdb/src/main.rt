@@ -24,7 +24,7 @@ use clap::Error;
 use counted_io::Counted;
 use doing::{do_plan, show_help};
 use input::is_closed;
-use opening::{BuiltIn, FIRST_PLAN, SystemFiles};
+use opening::{BuiltIn, SystemFiles, first_plan};
 use prompt::{FIRST_GREETING, GREETING, Prompting};
 use std::io;
 use std::io::{BufReader, BufWriter, IsTerminal, Read, Stderr, Write};
@@ -65,7 +65,7 @@ fn obey_words(rt: &HostRuntime, words: &[String], errors: &mut Errors) -> u8
     ensures status { result ≤ 2 }
 {
     if words.len() < 2 {
-        return do_over_streams(rt, &BuiltIn, &FIRST_PLAN, FIRST_GREETING, errors);
+        return do_over_streams(rt, &BuiltIn, &first_plan(), FIRST_GREETING, errors);
     }
     let Some(texts) = texts_of(rt.alloc(), words) else {
         return give_up(errors, &JobFault::Memory);

@@ -1,8 +1,11 @@
 //! What files are opened: those of the system; or, where the command line has no word, a program that
 //! is built in.
-ghost use Rattle.std.specs.Prelude.{Some, None};
+ghost use Rattle.std.specs.Prelude.{◌≡◌, Some, None};
 ghost use Rattle.bpfdb.specs.Files.{first_program};
+ghost use Rattle.bpfdb_limits.specs.Limits.{IsLimit};
+ghost use Rattle.bpfdb_options.specs.declared.subcommand.Subcommand.TheVariants.{Debug};
 
+use arrayvec::ArrayVec;
 use bpfdb_cli::Plan;
 use bpfdb_files::{Opener, Retrying};
 use bpfdb_options::{NO_OPTIONS, Subcommand};
@@ -42,13 +45,19 @@ const FIRST_PROGRAM: &[u8] = &[
 ];
 
 /// The plan of that, with every option absent.
-pub const FIRST_PLAN: Plan<'static> = Plan {
-    subcommand: Subcommand::Debug,
-    file: "",
-    memory: None,
-    other: None,
-    options: NO_OPTIONS,
-};
+pub fn first_plan() -> Plan<'static>
+    ensures subcommand { result.subcommand ≡ Debug }
+    ensures limit { IsLimit result.options.limit }
+{
+    Plan {
+        subcommand: Subcommand::Debug,
+        file: "",
+        memory: None,
+        other: None,
+        further: ArrayVec::new(),
+        options: NO_OPTIONS,
+    }
+}
 
 /// A file of that program under any path.
 #[derive(Clone, Copy)]

@@ -1,7 +1,7 @@
--- The command line as `clap` is told of it: twelve subcommands, the options of each, and FILE.
+-- The command line as `clap` is told of it: thirteen subcommands, the options of each, and FILE.
 use Rattle.std.specs.Prelude.{[], ◌∷◌, Some, true, codes}
 use Rattle.clap.specs.Words.{App, Rule, Text, new_app, new_rule, with_rule, with_subcommand}
-use Rattle.clap.specs.declared.builder.action.ArgAction.TheVariants.{SetTrue}
+use Rattle.clap.specs.declared.builder.action.ArgAction.TheVariants.{Append, SetTrue}
 use Rattle.clap.specs.declared.builder.value_parser.ValueParser.TheVariants as vp
 use Rattle.bpfdb_limits.specs.Limits.{greatest_count}
 
@@ -87,9 +87,13 @@ stub_rule = record (new_rule (codes "stub")) { long = Some (codes "stub"); value
 abbrev pub as_compiled_rule : Rule
 as_compiled_rule = record (new_rule (codes "as-compiled")) { long = Some (codes "as-compiled"); action = Some SetTrue }
 
--- `--with OBJECT`: an object with functions that answer calls.
+-- `--packet KIND`: the kernel's struct of a packet that the entry takes.
+abbrev pub packet_rule : Rule
+packet_rule = record (new_rule (codes "packet")) { long = Some (codes "packet"); value_names = 1 }
+
+-- `--with OBJECT`: objects with functions that answer calls, one each time.
 abbrev pub with_functions_rule : Rule
-with_functions_rule = record (new_rule (codes "with")) { long = Some (codes "with"); value_names = 1 }
+with_functions_rule = record (new_rule (codes "with")) { long = Some (codes "with"); value_names = 1; action = Some Append }
 
 -- `--joined`: the object that is linked is written.
 abbrev pub joined_rule : Rule
@@ -127,6 +131,18 @@ only_rule = record (new_rule (codes "only")) { long = Some (codes "only"); value
 -- `--show PART`: a part of the one test that is asked for.
 abbrev pub show_rule : Rule
 show_rule = record (new_rule (codes "show")) { long = Some (codes "show"); value_names = 1 }
+
+-- `--other-mem PATH`: a file, whose bytes are the second context.
+abbrev pub other_mem_rule : Rule
+other_mem_rule = record (new_rule (codes "other-mem")) { long = Some (codes "other-mem"); value_names = 1 }
+
+-- OTHER, behind FILE: the second program.
+abbrev pub other_rule : Rule
+other_rule = record (new_rule (codes "other")) { index = Some 2; value_names = 1 }
+
+-- `--cover`: what ran of the programs is told.
+abbrev pub cover_rule : Rule
+cover_rule = record (new_rule (codes "cover")) { long = Some (codes "cover"); action = Some SetTrue }
 
 -- WHAT, behind FILE: what is asked about.
 abbrev pub what_rule : Rule
@@ -167,16 +183,16 @@ abbrev pub disasm_app : App
 disasm_app = with_rule (with_file_kinds (with_rule (new_app (codes "disasm")) maps_rule)) file_rule
 
 abbrev pub lines_app : App
-lines_app = with_rule (new_app (codes "lines")) file_rule
+lines_app = with_rule (with_rule (with_link_rules (with_rule (new_app (codes "lines")) object_rule)) with_functions_rule) file_rule
 
 abbrev pub check_app : App
 check_app = with_rule (with_file_kinds (with_rule (new_app (codes "check")) maps_rule)) file_rule
 
 abbrev pub link_app : App
-link_app = with_rule (with_rule (with_rule (with_link_rules (new_app (codes "link"))) with_functions_rule) joined_rule) file_rule
+link_app = with_rule (with_rule (with_rule (with_rule (with_link_rules (new_app (codes "link"))) packet_rule) with_functions_rule) joined_rule) file_rule
 
 abbrev pub test_app : App
-test_app = with_rule (with_rule (with_rule (new_app (codes "test")) only_rule) show_rule) file_rule
+test_app = with_rule (with_rule (with_rule (with_rule (new_app (codes "test")) only_rule) show_rule) cover_rule) file_rule
 
 -- `gdb` opens a session as `debug` does, over a larger journal.
 abbrev pub gdb_app : App
@@ -193,11 +209,16 @@ abbrev pub whynot_app : App
 whynot_app = with_rule (with_rule (with_rule (with_rule (with_rule (with_file_kinds (with_rule (with_rule (with_rule (with_rule (with_rule (new_app (codes "whynot"))
     mem_rule) maps_rule) gdb_journal_rule) steps_rule) script_rule)) lines_rule) addresses_rule) alone_rule) goal_rule) file_rule
 
+-- `diff` runs two programs, or one on two contexts, as `run` does.
+abbrev pub diff_app : App
+diff_app = with_rule (with_rule (with_file_kinds (with_rule (with_rule (with_rule (with_rule (new_app (codes "diff"))
+    mem_rule) other_mem_rule) maps_rule) steps_rule)) other_rule) file_rule
+
 -- The command without its subcommands: it can't stand without one, and it tells its version.
 abbrev pub bare_app : App
 bare_app = record (new_app (codes "bpfdb")) { top = record (new_app (codes "bpfdb")).top { subcommand_required = true; has_version = true } }
 
 -- The command with its subcommands.
 unfoldable pub command_app : App
-command_app = with_subcommand (with_subcommand (with_subcommand (with_subcommand (with_subcommand (with_subcommand (with_subcommand (with_subcommand (with_subcommand (with_subcommand (with_subcommand (with_subcommand bare_app
-    run_app.top) trace_app.top) debug_app.top) origin_app.top) whynot_app.top) gdb_app.top) asm_app.top) disasm_app.top) lines_app.top) check_app.top) link_app.top) test_app.top
+command_app = with_subcommand (with_subcommand (with_subcommand (with_subcommand (with_subcommand (with_subcommand (with_subcommand (with_subcommand (with_subcommand (with_subcommand (with_subcommand (with_subcommand (with_subcommand bare_app
+    run_app.top) trace_app.top) debug_app.top) origin_app.top) whynot_app.top) diff_app.top) gdb_app.top) asm_app.top) disasm_app.top) lines_app.top) check_app.top) link_app.top) test_app.top

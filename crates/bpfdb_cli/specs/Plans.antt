@@ -1,9 +1,9 @@
 -- What a plan says, by what `clap`'s exact matches give for the words.
-use Rattle.std.specs.Prelude.{◌≡◌, ◌⊎◌, ◌<◌, ◌^◌, ◌||◌, ◌&&◌, ℕ, Bool, true, false, not, if◌then◌else◌, List, [], Option, Some, None, is_some, option_map, codes}
+use Rattle.std.specs.Prelude.{◌≡◌, ◌⊎◌, ◌<◌, ◌≤◌, ◌^◌, ◌||◌, ◌&&◌, ℕ, Bool, true, false, not, if◌then◌else◌, List, [], Option, Some, None, is_some, option_map, unwrap_or, codes, drop, length, map}
 use Rattle.std.specs.Option.{option_map_or}
 use Rattle.std.specs.Str.{bytes_eq}
 use Rattle.std.specs.Str.Parse.{IsNumeral, digits_value, without_leading_plus}
-use Rattle.clap.specs.Words.{IsAmong, Row, Text, fault_of, first_of, kind_of, subcommand_of}
+use Rattle.clap.specs.Words.{IsAmong, Row, Text, all_of, fault_of, first_of, kind_of, subcommand_of}
 use Rattle.clap.specs.declared.error.Error.{Error}
 use Rattle.clap.specs.declared.error.kind.ErrorKind.{ErrorKind}
 use Rattle.clap.specs.declared.error.kind.ErrorKind.TheVariants as kind
@@ -11,8 +11,10 @@ use Rattle.bpfdb_cli.specs.CommandLine.{command_app}
 use Rattle.bpfdb_cli.specs.declared.plans.Plan.{Plan}
 use Rattle.bpfdb_cli.specs.declared.plans.PlanFault.{PlanFault}
 use Rattle.bpfdb_cli.specs.declared.plans.PlanFault.TheVariants.{Usage, Memory}
+use Rattle.bpf_packet.specs.Names.{packet_name}
+use Rattle.bpf_packet.specs.declared.packet.Packet.{Packet}
 use Rattle.bpfdb_limits.specs.Limits.{IsLimit, default_journal, default_limit, greatest_count}
-use Rattle.bpfdb_options.specs.Lines.{default_lines}
+use Rattle.bpfdb_options.specs.Lines.{default_lines, most_further}
 use Rattle.bpfdb_options.specs.Registers.{registers_name}
 use Rattle.bpfdb_options.specs.Subcommands.{subcommand_name}
 use Rattle.bpfdb_options.specs.TestParts.{test_part_name}
@@ -41,6 +43,12 @@ NamesPart None part = part ≡ None
 NamesPart (Some text) None = ⊥
 NamesPart (Some text) (Some part) = test_part_name part ≡ text
 
+-- The kernel's struct of that name, none where the option has no text.
+abbrev pub NamesPacket : Option Text → Option Packet → Type 0
+NamesPacket None packet = packet ≡ None
+NamesPacket (Some text) None = ⊥
+NamesPacket (Some text) (Some packet) = packet_name packet ≡ text
+
 -- Options say what a subcommand's matches say.
 pub record Chooses (rows : List Row) (options : Options) : Type 0 where
   pub maps : option_map (λ s. s.now) options.maps ≡ first_of (codes "maps") rows
@@ -56,22 +64,31 @@ pub record Chooses (rows : List Row) (options : Options) : Type 0 where
   pub entry : option_map (λ s. s.now) options.entry ≡ first_of (codes "entry") rows
   pub stubs : option_map (λ s. s.now) options.stubs ≡ first_of (codes "stub") rows
   pub as_compiled : options.as_compiled ≡ is_given (first_of (codes "as-compiled") rows)
+  pub packet : NamesPacket (first_of (codes "packet") rows) options.packet
   pub joined : options.is_joined ≡ is_given (first_of (codes "joined") rows)
   pub registers : NamesRegisters (first_of (codes "registers") rows) options.registers
   pub what : option_map (λ s. s.now) options.what ≡ first_of (codes "what") rows
   pub lines : options.lines ≡ number_or default_lines (first_of (codes "lines") rows)
   pub addresses : options.addresses ≡ is_given (first_of (codes "addresses") rows)
   pub alone : options.alone ≡ is_given (first_of (codes "alone") rows)
+  pub context : options.other_is_context ≡ is_some (first_of (codes "other-mem") rows)
   pub only : option_map (λ s. s.now) options.only ≡ first_of (codes "only") rows
   pub show : NamesPart (first_of (codes "show") rows) options.show
+  pub covers : options.covers ≡ is_given (first_of (codes "cover") rows)
 
--- The other file: a script, or an object with functions. No subcommand takes both.
+-- The other file: a script, an object with functions, a second context or a second program. No subcommand takes two of them but `diff`,
+-- and none is given both.
 abbrev pub given_or : Option Text → Option Text → Option Text
 given_or (Some text) other = Some text
 given_or None other = other
 
 abbrev pub other_in : List Row → Option Text
-other_in rows = given_or (first_of (codes "script") rows) (first_of (codes "with") rows)
+other_in rows = given_or (given_or (first_of (codes "script") rows) (first_of (codes "with") rows))
+    (given_or (first_of (codes "other-mem") rows) (first_of (codes "other") rows))
+
+-- The objects behind the first one: so many uses of `--with` there may be besides the first.
+abbrev pub further_in : List Row → List Text
+further_in rows = drop 1 (unwrap_or (all_of (codes "with") rows) [])
 
 -- A plan says what they say.
 pub record Says (name : Text) (rows : List Row) (plan : Plan) : Type 0 where
@@ -79,6 +96,8 @@ pub record Says (name : Text) (rows : List Row) (plan : Plan) : Type 0 where
   pub file : first_of (codes "file") rows ≡ Some plan.file.now
   pub memory : option_map (λ s. s.now) plan.memory ≡ first_of (codes "mem") rows
   pub other : option_map (λ s. s.now) plan.other ≡ other_in rows
+  pub further : map (λ s. s.now) plan.further.items ≡ further_in rows
+  pub few : length (further_in rows) ≤ most_further
   pub options : Chooses rows plan.options
 
 -- A number that is given is one below 2^64.
@@ -99,13 +118,23 @@ pub record AreInRange (rows : List Row) (options : Options) : Type 0 where
 -- Something is asked of the link of an object.
 abbrev pub asks_of_link : List Row → Bool
 asks_of_link rows = is_some (first_of (codes "section") rows) || (is_some (first_of (codes "entry") rows)
-    || (is_some (first_of (codes "stub") rows) || is_given (first_of (codes "as-compiled") rows)))
+    || (is_some (first_of (codes "stub") rows) || (is_given (first_of (codes "as-compiled") rows) || is_some (first_of (codes "with") rows))))
 
--- Options go together: an object is no listing and has maps of its own, and of a link is asked only where an object is linked.
-abbrev pub go_together : Text → List Row → Bool
-go_together name rows = if is_given (first_of (codes "object") rows)
+-- One other run is named: by a second context; or by a second program, which isn't linked.
+abbrev pub names_other : List Row → Bool
+names_other rows = if is_some (first_of (codes "other") rows)
+    then not (is_some (first_of (codes "other-mem") rows)) && not (is_given (first_of (codes "object") rows))
+    else is_some (first_of (codes "other-mem") rows)
+
+-- Options go together: an object is no listing and has maps of its own, of a link is asked only where an object is linked, and `diff` is told
+-- of one other run.
+abbrev pub link_fits : Text → List Row → Bool
+link_fits name rows = if is_given (first_of (codes "object") rows)
     then not (is_given (first_of (codes "listing") rows)) && not (is_some (first_of (codes "maps") rows))
     else bytes_eq name (codes "link") || not (asks_of_link rows)
+
+abbrev pub go_together : Text → List Row → Bool
+go_together name rows = if bytes_eq name (codes "diff") then names_other rows && link_fits name rows else link_fits name rows
 
 -- A plan says what a subcommand's matches say, with numbers in their ranges and options that go together.
 pub record IsPlanOf (name : Text) (rows : List Row) (plan : Plan) : Type 0 where

@@ -82,13 +82,32 @@ fn argument_of<'a>(alloc: Global, option: CliOption) -> Arg<'a>
             text_option(alloc, "script", "PATH", help::SCRIPT, help::SCRIPT_LONG)
         }
         CliOption::AsCompiled => flag(alloc, "as-compiled", help::AS_COMPILED),
-        CliOption::With => text_option(alloc, "with", "OBJECT", help::WITH, help::WITH_LONG),
+        CliOption::Packet => {
+            text_option(alloc, "packet", "KIND", help::PACKET, help::PACKET_LONG)
+        }
+        CliOption::With => text_option(alloc, "with", "OBJECT", help::WITH, help::WITH_LONG).action(
+            ArgAction::Append,
+        ),
         CliOption::Joined => flag(alloc, "joined", help::JOINED),
         CliOption::Lines => lines_option(alloc),
         CliOption::Addresses => flag(alloc, "addresses", help::ADDRESSES),
         CliOption::Alone => flag(alloc, "alone", help::ALONE),
         CliOption::Only => text_option(alloc, "only", "NAME", help::ONLY, help::ONLY_LONG),
         CliOption::Show => text_option(alloc, "show", "PART", help::SHOW, help::SHOW_LONG),
+        CliOption::OtherMem => {
+            text_option(
+                alloc,
+                "other-mem",
+                "PATH",
+                help::OTHER_MEM,
+                help::OTHER_MEM_LONG,
+            )
+        }
+        CliOption::Other => Arg::new(alloc, "other")
+            .index(2)
+            .value_name("OTHER")
+            .help(help::OTHER),
+        CliOption::Cover => flag(alloc, "cover", help::COVER),
         CliOption::What => Arg::new(alloc, "what")
             .index(2)
             .value_name("WHAT")

@@ -32,9 +32,9 @@ pub const BPFDB_EXAMPLE: &str = "Example:
   2 back; done; at 0: add r0, 1
 
 Exit status: 0; 1 where `run` or `trace` ends in a fault or at the limit of
-steps, a test fails or an answer of `origin` or `whynot` is cut; 2 where the
-command line or the program is refused, input or output fails, or memory runs
-out.
+steps, a test fails, an answer of `origin` or `whynot` is cut, or the runs of
+`diff` part; 2 where the command line or the program is refused, input or output
+fails, or memory runs out.
 Results go to standard output, and so do the replies of a session, refusals
 among them.
 Where it ends with 1 or 2 a line on standard error says why; but `trace`,
@@ -160,6 +160,33 @@ pub const WHYNOT_EXAMPLE: &str = "Example:
   at 0: jeq r1, 0, L3
   left r1 = 0x0; at the opening";
 
+pub const DIFF: &str = "Runs two programs, or one on two contexts, and shows where they part";
+
+pub const DIFF_LONG: &str = "Runs two programs, or one on two contexts, and shows where they part.
+
+Reads FILE and the context, and a second program, OTHER, or a second context
+(--other-mem). Both runs go forward step by step, each to its end or to the
+limit of steps; OTHER is of FILE's kind, and has the same maps.
+
+Writes to standard output the first step of both at one slot that wrote to other
+places or other values, then the first step at which one is at another slot, or
+is over, and then how each ended. A line of FILE's run begins with '<', one of
+the other with '>'; lines of steps are those of `trace`. Where no step differs,
+and both end alike, it says after how many steps and how. The exit status is 0
+where they end alike without a difference, 1 where they part or come to the
+limit of steps.";
+
+pub const DIFF_EXAMPLE: &str = "Example:
+  $ bpfdb diff --listing -m four.bin --other-mem five.bin port.s
+  step 1 wrote otherwise
+  < 1 0: ldxb r2, [r1+0]; r2 = 0x4
+  > 1 0: ldxb r2, [r1+0]; r2 = 0x5
+  step 3 went elsewhere
+  < 3 2: mov r0, 1; r0 = 0x1
+  > 3 3: exit
+  < exited at 3: r0 0x1
+  > exited at 3: r0 0x0";
+
 pub const ASM: &str = "Assembles a listing to raw words";
 
 pub const ASM_LONG: &str = "Assembles a listing to raw words.
@@ -186,14 +213,17 @@ pub const DISASM_EXAMPLE: &str = "Example:
   jlt r0, 3, L0
   exit";
 
-pub const LINES: &str = "Shows the line of each instruction of a listing";
+pub const LINES: &str = "Shows the line of each instruction of a listing or an object";
 
-pub const LINES_LONG: &str = "Shows the line of each instruction of a listing.
+pub const LINES_LONG: &str = "Shows the line of each instruction of a listing or an object.
 
 Reads the listing FILE. Writes one line an instruction to standard output, with
 blanks between: its slot, the line of FILE in which it stands, counted from 1,
-and the labels that stand at it. If something is wrong with FILE, a line on
-standard error says what and where, and the exit status is 2.";
+and the labels that stand at it. With --object FILE is linked, as by link, and
+behind the slot stand FILE:LINE of the source, which an object has if it was
+compiled with -g, and the function: a hyphen for what the object doesn't tell.
+If something is wrong with FILE, a line on standard error says what and where,
+and the exit status is 2.";
 
 pub const LINES_EXAMPLE: &str = "Example:
   $ bpfdb lines count.s
@@ -224,7 +254,7 @@ of maps the maps' numbers, 0 for the one that stands first in its section. If
 debug information (-g) or the section maps has the maps' sizes, they are printed
 on standard error as an option --maps. The first thing that is wrong is one line
 on standard error, with its number; then the exit status is 2.
-With --joined FILE and the object of --with are written as one object, for gdb
+With --joined FILE and the objects of --with are written as one object, for gdb
 or to link again.";
 
 pub const LINK_EXAMPLE: &str = "Example:
@@ -357,6 +387,14 @@ its number or its name in the kernel, an =, and -2147483648 to
 2147483647. Nothing else happens at such a call.
 Example: --stub 5=0,get_current_pid_tgid=-1";
 
+/// `--packet`.
+pub const PACKET: &str = "Takes an xdp or tc program of the kernel's as it is";
+
+pub const PACKET_LONG: &str = "What an unchanged program of the kernel's is given: xdp, its struct
+xdp_md, or tc, its __sk_buff. The words before the program make that
+struct of the packet that is the context, and what goes by its address
+is rewritten. Example: --packet xdp";
+
 /// `--with`.
 pub const WITH: &str = "Object with functions that FILE's code calls";
 
@@ -364,7 +402,8 @@ pub const WITH_LONG: &str = "Object with functions that answer what FILE's code 
 helper of the kernel becomes a call of its function of the helper's
 name, as bpf_ktime_get_ns, and a symbol that FILE leaves undefined is
 its symbol of that name. If it has bpf_map_lookup_elem, maps of any
-kind are data of its own. Example: --with bpfdb-linux.o";
+kind are data of its own. Up to 16 times: the first one that has a
+function answers. Example: --with mock.o --with bpfdb-linux.o";
 
 /// `--joined`.
 pub const JOINED: &str = "Writes FILE and --with as one object, no program";
@@ -395,6 +434,15 @@ pub const ADDRESSES: &str = "Follows the registers that make addresses, too";
 /// `--alone`.
 pub const ALONE: &str = "Leaves out where the compared values came from";
 
+/// `--other-mem PATH`.
+pub const OTHER_MEM: &str = "Second context, a file of 0 to 65536 bytes";
+
+pub const OTHER_MEM_LONG: &str = "Second context, a file of 0 to 65536 bytes: the program runs on
+it, too. It can't be used with OTHER";
+
+/// OTHER.
+pub const OTHER: &str = "Second program: words, or a listing with --listing";
+
 /// `--only NAME`.
 pub const ONLY: &str = "Runs the tests of this name alone";
 
@@ -412,6 +460,9 @@ The test is the one that --only names, or the only one of FILE.
 `bpfdb-show NAME FILE` makes files of all four, and says how to debug
 the test. Example: --show program";
 
+/// `--cover`.
+pub const COVER: &str = "Tells which instructions and branches no test ran";
+
 /// WHAT.
 pub const WHAT: &str = "r0 to r9, or ADDRESS:COUNT; without it r0, or a fault's address";
 
@@ -423,7 +474,7 @@ pub const PROGRAM: &str = "Program: raw words, with --listing a listing, with --
 
 pub const LISTING_FILE: &str = "Listing to be assembled";
 
-pub const LINES_FILE: &str = "Listing (docs/LISTING.md)";
+pub const LINES_FILE: &str = "Listing (docs/LISTING.md), with --object an object";
 
 pub const OBJECT_FILE: &str = "Relocatable ELF object for BPF";
 

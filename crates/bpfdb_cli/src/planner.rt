@@ -1,15 +1,18 @@
 //! From the words of a command line to a plan.
-ghost use Rattle.std.specs.Prelude.{◌≡◌, ◌<◌, ◌^◌, IfErr, IfNone, IfOk, IfSome, MatchOption, OnErr, OnOk, OnSome, Option, Some, List, codes, false, is_some, map, not, option_map, true, ◌&&◌};
+ghost use Rattle.std.specs.Prelude.{◌≡◌, ◌≤◌, ◌<◌, ◌^◌, IfErr, IfNone, IfOk, IfSome, MatchOption, OnErr, OnOk, OnSome, Option, Some, List, codes, drop, false, is_some, length, map, not, option_map, true, ◌&&◌};
 ghost use Rattle.std.specs.Str.Parse.{IsNumeral, digits_value, without_leading_plus};
 ghost use Rattle.clap.specs.Words.{Row, Text, first_of, found_of, rows_of, subcommand_rows_of};
 ghost use Rattle.bpfdb_limits.specs.Limits.{IsLimit};
+ghost use Rattle.bpfdb_options.specs.Lines.{most_further};
 ghost use Rattle.bpfdb_cli.specs.Scaffolding.{AskAlike};
-ghost use Rattle.bpfdb_cli.specs.Plans.{AreInRange, Chooses, HasKindIfTold, IsFaultOf, IsPlan, IsPlanOf, NamesPart, NamesRegisters, Says, Tells, asks_of_link, go_together, is_given, number_or, other_in};
+ghost use Rattle.bpfdb_cli.specs.Plans.{AreInRange, Chooses, HasKindIfTold, IsFaultOf, IsPlan, IsPlanOf, NamesPart, NamesRegisters, Says, Tells, asks_of_link, go_together, is_given, link_fits, names_other, number_or, other_in, given_or, NamesPacket, further_in};
 
 use crate::command_line::command_line;
 use crate::plans::{Plan, PlanFault};
+use arrayvec::ArrayVec;
+use bpf_packet::Packet;
 use bpfdb_limits::{DEFAULT_JOURNAL, DEFAULT_LIMIT, GREATEST_COUNT, is_limit};
-use bpfdb_options::{DEFAULT_LINES, Options, Registers, Subcommand, TestPart};
+use bpfdb_options::{DEFAULT_LINES, MOST_FURTHER, Options, Registers, Subcommand, TestPart};
 use clap::error::ErrorKind;
 use clap::{ArgMatches, Command, Error};
 use std::alloc::Global;
@@ -23,7 +26,17 @@ const OBJECT_AND_LISTING: &str = "the argument '--object' cannot be used with '-
 
 const OBJECT_AND_MAPS: &str = "the argument '--object' cannot be used with '--maps <VxN,VxN>'";
 
+const TWO_OTHERS: &str = "the argument '[OTHER]' cannot be used with '--other-mem <PATH>'";
+
+const OBJECT_AND_OTHER: &str = "the argument '--object' cannot be used with '[OTHER]'";
+
+const NO_OTHER: &str = "a second program, '[OTHER]', or '--other-mem <PATH>' is needed";
+
+const MANY_OBJECTS: &str = "the argument '--with <OBJECT>' is used more than 16 times";
+
 const NO_OBJECT: &str = "'--section', '--entry', '--stub' and '--as-compiled' need '--object'";
+
+const WITH_NO_OBJECT: &str = "'--with' needs '--object'";
 
 /// The plan of a command line, of which the first word is the program's name.
 pub fn plan<'a>(alloc: Global, words: &'a [&'a str]) -> Result<Plan<'a>, PlanFault>
@@ -128,11 +141,16 @@ fn plan_in<'a>(name: &'a str, found: &ArgMatches<'a>) -> Result<Plan<'a>, &'stat
         Some(why) => return Err(why),
         None => {}
     }
+    let further = match further_of(found) {
+        Some(further) => further,
+        None => return Err(MANY_OBJECTS),
+    };
     Ok(Plan {
         subcommand,
         file,
         memory: text_of(found, "mem"),
         other: other_of(found),
+        further,
         options,
     })
 }
@@ -143,12 +161,46 @@ fn misfit_in(name: &str, found: &ArgMatches<'_>) -> Option<&'static str>
     ensures none { IfNone result (go_together name.now (rows_of (found_of found.now)) ≡ true) }
     ensures some { OnSome result (go_together name.now (rows_of (found_of found.now)) ≡ false) }
 {
+    if name == "diff" {
+        match misfit_of_other(found) {
+            Some(why) => Some(why),
+            None => misfit_of_link(name, found),
+        }
+    } else {
+        misfit_of_link(name, found)
+    }
+}
+
+/// Why the other run is none, if it isn't.
+fn misfit_of_other(found: &ArgMatches<'_>) -> Option<&'static str>
+    ensures { is_some result ≡ not (names_other (rows_of (found_of found.now))) }
+{
+    if text_of(found, "other").is_some() {
+        if text_of(found, "other-mem").is_some() {
+            Some(TWO_OTHERS)
+        } else if is_given(text_of(found, "object")) {
+            Some(OBJECT_AND_OTHER)
+        } else {
+            None
+        }
+    } else if text_of(found, "other-mem").is_some() {
+        None
+    } else {
+        Some(NO_OTHER)
+    }
+}
+
+/// Why what is asked of a link doesn't go together with the rest, if it doesn't.
+fn misfit_of_link(name: &str, found: &ArgMatches<'_>) -> Option<&'static str>
+    ensures none { IfNone result (link_fits name.now (rows_of (found_of found.now)) ≡ true) }
+    ensures some { OnSome result (link_fits name.now (rows_of (found_of found.now)) ≡ false) }
+{
     if is_given(text_of(found, "object")) {
         misfit_with_object(found)
     } else if name == "link" {
         None
     } else if asks_of_link(found) {
-        Some(NO_OBJECT)
+        Some(without_object(found))
     } else {
         None
     }
@@ -168,13 +220,22 @@ fn misfit_with_object(found: &ArgMatches<'_>) -> Option<&'static str>
     }
 }
 
+/// What is said of something that is asked of a link where no object is linked.
+fn without_object(found: &ArgMatches<'_>) -> &'static str {
+    if text_of(found, "with").is_some() {
+        WITH_NO_OBJECT
+    } else {
+        NO_OBJECT
+    }
+}
+
 /// Whether something is asked of the link of an object.
 fn asks_of_link(found: &ArgMatches<'_>) -> bool
     ensures { result ≡ asks_of_link (rows_of (found_of found.now)) }
 {
     let chooses = text_of(found, "section").is_some() || text_of(found, "entry").is_some();
-    let leaves = text_of(found, "stub").is_some() || is_given(text_of(found, "as-compiled"));
-    chooses || leaves
+    let leaves = is_given(text_of(found, "as-compiled")) || text_of(found, "with").is_some();
+    chooses || (text_of(found, "stub").is_some() || leaves)
 }
 
 /// The options of a subcommand's matches. None where a number is out of its range, or a name none
@@ -192,6 +253,7 @@ fn options_in<'a>(found: &ArgMatches<'a>) -> Option<Options<'a>>
     let from = number_or(text_of(found, "from"), 1)?;
     let count = number_or(text_of(found, "count"), GREATEST_COUNT)?;
     let registers = registers_of(text_of(found, "registers"))?;
+    let packet = packet_of(text_of(found, "packet"))?;
     let show = part_of(text_of(found, "show"))?;
     if !is_limit(limit) {
         return None;
@@ -213,24 +275,43 @@ fn options_in<'a>(found: &ArgMatches<'a>) -> Option<Options<'a>>
         entry: text_of(found, "entry"),
         stubs: text_of(found, "stub"),
         as_compiled: is_given(text_of(found, "as-compiled")),
+        packet,
         is_joined: is_given(text_of(found, "joined")),
         registers,
         what: text_of(found, "what"),
         lines,
         addresses: is_given(text_of(found, "addresses")),
         alone: is_given(text_of(found, "alone")),
+        other_is_context: text_of(found, "other-mem").is_some(),
         only: text_of(found, "only"),
         show,
+        covers: is_given(text_of(found, "cover")),
     })
 }
 
-/// The path of the other file: of the script, or of the object with functions.
+/// The path of the other file: of the script, of the object with functions, of the second context or
+/// of the second program.
 fn other_of<'a>(found: &ArgMatches<'a>) -> Option<&'a str>
     ensures { option_map (λ text. text.now) result ≡ other_in (rows_of (found_of found.now)) }
 {
     match text_of(found, "script") {
         Some(path) => Some(path),
-        None => text_of(found, "with"),
+        None => match text_of(found, "with") {
+            Some(path) => Some(path),
+            None => second_of(found),
+        },
+    }
+}
+
+/// The path of the second context, or of the second program.
+fn second_of<'a>(found: &ArgMatches<'a>) -> Option<&'a str>
+    ensures { option_map (λ text. text.now) result ≡ given_or
+        (first_of (codes "other-mem") (rows_of (found_of found.now)))
+        (first_of (codes "other") (rows_of (found_of found.now))) }
+{
+    match text_of(found, "other-mem") {
+        Some(path) => Some(path),
+        None => text_of(found, "other"),
     }
 }
 
@@ -243,6 +324,21 @@ fn registers_of(text: Option<&str>) -> Option<Registers>
     match text {
         None => Some(Registers::X86),
         Some(text) => Registers::named(text),
+    }
+}
+
+/// The kernel's struct of this name, none where none is named. None where none has the name.
+fn packet_of(text: Option<&str>) -> Option<Option<Packet>>
+    ensures found { IfSome result (NamesPacket (option_map (λ t. t.now) text.entry)) }
+    ensures none { IfNone result ((packet : Option Packet) →
+        NamesPacket (option_map (λ t. t.now) text.entry) packet → ⊥) }
+{
+    match text {
+        None => Some(None),
+        Some(text) => match Packet::named(text) {
+            Some(packet) => Some(Some(packet)),
+            None => None,
+        },
     }
 }
 
@@ -267,6 +363,34 @@ fn text_of<'a>(found: &ArgMatches<'a>, id: &str) -> Option<&'a str>
         ≡ first_of id.now (rows_of (found_of found.now)) }
 {
     found.get_str(id)
+}
+
+/// The paths of the objects behind the first one. None where they are too many.
+fn further_of<'a>(found: &ArgMatches<'a>) -> Option<ArrayVec<&'a str, MOST_FURTHER>>
+    ensures found { IfSome result (λ further. map (λ path. path.now) further.items
+        ≡ further_in (rows_of (found_of found.now))) }
+    ensures few { OnSome result (length (further_in (rows_of (found_of found.now))) ≤ most_further) }
+    ensures none { IfNone result (most_further < length (further_in (rows_of (found_of found.now)))) }
+{
+    match found.get_strs("with") {
+        Some(paths) => behind_first(paths),
+        None => Some(ArrayVec::new()),
+    }
+}
+
+/// The texts behind the first one. None where they are too many.
+fn behind_first<'a>(texts: &[&'a str]) -> Option<ArrayVec<&'a str, MOST_FURTHER>>
+    ensures found { IfSome result (λ further. further.items ≡ drop 1 texts.now) }
+    ensures few { OnSome result (length (drop 1 texts.now) ≤ most_further) }
+    ensures none { IfNone result (most_further < length (drop 1 texts.now)) }
+{
+    let behind = &texts[texts.len().min(1)..];
+    if behind.len() > MOST_FURTHER {
+        return None;
+    }
+    let mut further = ArrayVec::new();
+    let _all = further.try_extend_from_slice(behind);
+    Some(further)
 }
 
 /// The number of an option; None where its text is no number below 2^64.

@@ -2,21 +2,25 @@
 ghost use Rattle.std.specs.Prelude.{◌≡◌};
 ghost use Rattle.bpfdb_cli.specs.Plans.{status_of};
 
-use bpfdb_options::{Options, Subcommand};
+use arrayvec::ArrayVec;
+use bpfdb_options::{MOST_FURTHER, Options, Subcommand};
 use clap::Error;
 use clap::error::ErrorKind;
 
 /// What a command line asks for.
-#[derive(Clone, Copy)]
+#[derive(Drop)]
 pub struct Plan<'a> {
     pub subcommand: Subcommand,
     /// FILE, the path of the program, of the listing or of the object.
     pub file: &'a str,
     /// The path of the file whose bytes are the context; without one the context is empty.
     pub memory: Option<&'a str>,
-    /// The path of the other file: of the script that is obeyed before `origin` asks, or of the
-    /// object with functions that `link` joins to FILE.
+    /// The path of the other file: of the script that is obeyed before `origin` asks, of the
+    /// object with functions that `link` joins to FILE, or of the second program or context of
+    /// `diff`.
     pub other: Option<&'a str>,
+    /// The paths of further such objects.
+    pub further: ArrayVec<&'a str, MOST_FURTHER>,
     pub options: Options<'a>,
 }
 

@@ -38,6 +38,8 @@ pub(crate) enum CliOption {
     Script,
     /// `--as-compiled`.
     AsCompiled,
+    /// `--packet STRUCT`.
+    Packet,
     /// `--with OBJECT`.
     With,
     /// `--joined`.
@@ -52,6 +54,12 @@ pub(crate) enum CliOption {
     Only,
     /// `--show PART`.
     Show,
+    /// `--other-mem PATH`.
+    OtherMem,
+    /// OTHER, behind FILE.
+    Other,
+    /// `--cover`.
+    Cover,
     /// WHAT, behind FILE.
     What,
     /// WHAT of `whynot`, which needs it.
@@ -70,7 +78,7 @@ pub(crate) struct CliSubcommand<'a> {
 }
 
 /// The subcommands, as help lists them.
-pub(crate) const SUBCOMMANDS: [CliSubcommand<'static>; 12] = [
+pub(crate) const SUBCOMMANDS: [CliSubcommand<'static>; 13] = [
     CliSubcommand {
         name: "run",
         about: help::RUN,
@@ -178,6 +186,26 @@ pub(crate) const SUBCOMMANDS: [CliSubcommand<'static>; 12] = [
         file: help::PROGRAM,
     },
     CliSubcommand {
+        name: "diff",
+        about: help::DIFF,
+        long_about: help::DIFF_LONG,
+        example: help::DIFF_EXAMPLE,
+        options: &[
+            CliOption::Mem,
+            CliOption::OtherMem,
+            CliOption::Maps,
+            CliOption::Steps,
+            CliOption::Listing,
+            CliOption::Object,
+            CliOption::Section,
+            CliOption::Entry,
+            CliOption::Stub,
+            CliOption::AsCompiled,
+            CliOption::Other,
+        ],
+        file: help::PROGRAM,
+    },
+    CliSubcommand {
         name: "gdb",
         about: help::GDB,
         long_about: help::GDB_LONG,
@@ -226,7 +254,14 @@ pub(crate) const SUBCOMMANDS: [CliSubcommand<'static>; 12] = [
         about: help::LINES,
         long_about: help::LINES_LONG,
         example: help::LINES_EXAMPLE,
-        options: &[],
+        options: &[
+            CliOption::Object,
+            CliOption::Section,
+            CliOption::Entry,
+            CliOption::Stub,
+            CliOption::AsCompiled,
+            CliOption::With,
+        ],
         file: help::LINES_FILE,
     },
     CliSubcommand {
@@ -255,6 +290,7 @@ pub(crate) const SUBCOMMANDS: [CliSubcommand<'static>; 12] = [
             CliOption::Entry,
             CliOption::Stub,
             CliOption::AsCompiled,
+            CliOption::Packet,
             CliOption::With,
             CliOption::Joined,
         ],
@@ -265,7 +301,7 @@ pub(crate) const SUBCOMMANDS: [CliSubcommand<'static>; 12] = [
         about: help::TEST,
         long_about: help::TEST_LONG,
         example: help::TEST_EXAMPLE,
-        options: &[CliOption::Only, CliOption::Show],
+        options: &[CliOption::Only, CliOption::Show, CliOption::Cover],
         file: help::TEST_FILE,
     },
 ];

@@ -1,5 +1,5 @@
 -- Why a job isn't done, as a line on standard error. bpfdb's own choice.
-use Rattle.std.specs.Prelude.{ℕ, Bool, false, List, [], ◌∷◌, ◌++◌, Option, Some, None, codes, decimal, get_or, length, if◌then◌else◌}
+use Rattle.std.specs.Prelude.{ℕ, ◌+◌, ◌==◌, min, Bool, false, List, [], ◌∷◌, ◌++◌, Option, Some, None, codes, decimal, get_or, length, if◌then◌else◌}
 use Rattle.bpf_link.specs.Faults.{link_fault}
 use Rattle.bpf_link.specs.Helpers.{helper_name}
 use Rattle.bpf_link.specs.Names.{built}
@@ -18,7 +18,7 @@ use Rattle.shown_text.specs.Shown.{shown}
 use Rattle.bpfdb_faults.specs.declared.fault.JobFault.{JobFault}
 use Rattle.bpfdb_faults.specs.declared.fault.JobFault.TheVariants.{Unreadable, NotText, Refused, Input, Output, Memory, StepLimit}
 use Rattle.bpfdb_faults.specs.declared.refusal.JobRefusal.{JobRefusal}
-use Rattle.bpfdb_faults.specs.declared.refusal.JobRefusal.TheVariants.{Maps, Listing, Load, Open, Journal, What, Object, Functions, Tests, NoTest, ManyTests, Script, Goal}
+use Rattle.bpfdb_faults.specs.declared.refusal.JobRefusal.TheVariants.{Maps, Listing, Load, Open, OtherRun, Journal, What, Object, Functions, Tests, NoTest, ManyTests, Script, Goal}
 
 -- The line of a refusal: a letter and a number, its line if it has one, and a text.
 abbrev pub refused_line : List ℕ → ℕ → Option ℕ → List ℕ → List ℕ
@@ -49,6 +49,11 @@ abbrev pub helpers_text : ℕ → List Bool → List ℕ
 helpers_text helper others =
     codes " " ++ label_text helper (helper_name helper) ++ others_text others ++ answer_text helper (helper_name helper)
 
+-- Of an entry that takes the kernel's own struct it is what gives it one of the machine's.
+abbrev pub hint_of : LinkFault → List ℕ
+hint_of (linking.Context at) = codes ": link --packet, or clang -include bpfdb.h, gives it one of the machine's"
+hint_of fault = []
+
 -- Of relocations of fields it is how many there are, and the option that leaves them; else the option that chooses a section or a function.
 abbrev pub more_of : LinkFault → List ℕ
 more_of (linking.Helper slot helper source others) = helpers_text helper others
@@ -61,9 +66,11 @@ more_of fault = []
 abbrev pub slot_of_words : LinkFault → Option ℕ
 slot_of_words (linking.Symbol slot) = Some slot
 slot_of_words (linking.Relocation fault slot at) = Some slot
+slot_of_words (linking.Undefined slot count places) = Some slot
 slot_of_words (linking.Program fault source) = slot_of fault
 slot_of_words (linking.Helper slot helper source others) = Some slot
 slot_of_words (linking.Fields count slot at) = Some slot
+slot_of_words (linking.Packet fault slot source) = Some slot
 slot_of_words fault = None
 
 -- The name of what is wrong with an object, or those of what there is.
@@ -79,12 +86,13 @@ source_text None = []
 abbrev pub origin_text : LinkFault → List ℕ
 origin_text (linking.Program fault source) = source_text source
 origin_text (linking.Helper slot helper source others) = source_text source
+origin_text (linking.Packet fault slot source) = source_text source
 origin_text fault = []
 
 abbrev pub object_text : LinkFault → List ℕ → List ℕ
 object_text fault name =
     text_of_refusal (codes "refused E") (link_fault fault).0 (codes " at slot ") (slot_of_words fault) (link_fault fault).1
-    ++ more_of fault ++ name_text name ++ origin_text fault
+    ++ more_of fault ++ hint_of fault ++ name_text name ++ origin_text fault
 
 -- A name that no test has.
 abbrev pub no_test_line : List ℕ → List ℕ
@@ -99,13 +107,20 @@ session_line (Open fault) = refusal_text (program.Open fault) ++ codes "\n"
 session_line (Journal fault) = refused_line (codes "refused J") (journal_fault fault).0 None (journal_fault fault).1
 session_line refusal = []
 
+-- Which object of `--with` it is, where it isn't the first one.
+abbrev pub functions_end : ℕ → List ℕ
+functions_end before =
+    if before == 0 then codes " (--with)\n"
+    else (codes " (--with, object " ++ decimal (min (before + 1) 18446744073709551615) ++ codes ")\n")
+
 -- The line of each refusal.
 abbrev pub refusal_line : JobRefusal → List ℕ
+refusal_line (OtherRun refusal) = refusal_text refusal ++ codes " (the other run)\n"
 refusal_line (Script refusal) = commands.refusal_text refusal
 refusal_line (What fault) = refused_line (codes "refused V") (what_fault fault).0 None (what_fault fault).1
 refusal_line (Goal fault) = refused_line (codes "refused V") (goal_fault fault).0 None (goal_fault fault).1
 refusal_line (Object fault name) = object_text fault name.now ++ codes "\n"
-refusal_line (Functions fault name) = object_text fault name.now ++ codes " (--with)\n"
+refusal_line (Functions fault before name) = object_text fault name.now ++ functions_end before
 refusal_line (Tests fault line) = refused_line (codes "refused T") (section_fault fault).0 (Some line) (section_fault fault).1
 refusal_line (NoTest name) = no_test_line name.now
 refusal_line ManyTests = codes "refused T8: more than one test is asked for\n"

@@ -3,7 +3,7 @@ ghost use Rattle.std.specs.Prelude.{◌≡◌, ◌≤◌, ◌++◌, codes, lengt
 ghost use Rattle.counted_io.specs.Writing.{WritesAfter};
 ghost use Rattle.bpf_link.specs.Helpers.{helper_name};
 ghost use Rattle.bpf_suite.specs.Refusals.{refusal_text};
-ghost use Rattle.bpfdb_faults.specs.Faults.{answer_text, helpers_text, label_text, line_of, more_of, name_text, object_text, origin_text, other_text, others_text, refusal_line, refused_line, slot_of_words, source_text};
+ghost use Rattle.bpfdb_faults.specs.Faults.{answer_text, helpers_text, label_text, line_of, hint_of, more_of, name_text, object_text, origin_text, other_text, others_text, refusal_line, refused_line, slot_of_words, source_text, functions_end};
 
 use crate::fault::JobFault;
 use crate::refusal::JobRefusal;
@@ -51,6 +51,7 @@ fn put_refusal<E: Write>(
         JobRefusal::Listing(fault) => put_program(errors, so_far, &Refusal::Listing(*fault)),
         JobRefusal::Load(fault) => put_program(errors, so_far, &Refusal::Load(*fault)),
         JobRefusal::Open(fault) => put_program(errors, so_far, &Refusal::Open(*fault)),
+        JobRefusal::OtherRun(refusal) => put_other_run(errors, so_far, refusal),
         JobRefusal::Journal(fault) => {
             let (number, text) = (fault.number(), fault.text());
             put_refused(errors, so_far, b"refused J", number, None, text)
@@ -65,8 +66,8 @@ fn put_refusal<E: Write>(
             put_refused(errors, so_far, b"refused V", number, None, text)
         }
         JobRefusal::Object(fault, name) => put_object(errors, so_far, fault, name, b"\n"),
-        JobRefusal::Functions(fault, name) => {
-            put_object(errors, so_far, fault, name, b" (--with)\n")
+        JobRefusal::Functions(fault, before, name) => {
+            put_functions(errors, so_far, fault, *before, name)
         }
         JobRefusal::Tests(fault, line) => {
             let (number, text) = (fault.number(), fault.text());
@@ -98,6 +99,19 @@ fn put_program<E: Write>(
 {
     let said = bpf_suite::put_refusal(errors, so_far, refusal);
     put(errors, said, b"\n")
+}
+
+/// Writes the line of a refusal of the other run.
+fn put_other_run<E: Write>(
+    errors: &mut Counted<E>,
+    so_far: Result<(), WriteFault>,
+    refusal: &Refusal,
+) -> Result<(), WriteFault>
+    ensures { WritesAfter E.contents errors.old so_far errors.new result
+        (refusal_text refusal.now ++ codes " (the other run)\n") }
+{
+    let said = bpf_suite::put_refusal(errors, so_far, refusal);
+    put(errors, said, b" (the other run)\n")
 }
 
 /// Writes the line of a refusal: how it begins, its number, its line if it has one, and its text.
@@ -139,9 +153,44 @@ fn put_object<E: Write>(
         text,
     );
     let said = put_more(errors, begun, fault);
-    let named = put_named(errors, said, name);
+    let hinted = put_hint(errors, said, fault);
+    let named = put_named(errors, hinted, name);
     let placed = put_origin(errors, named, fault);
     put(errors, placed, end)
+}
+
+/// Writes the line of the fault of an object of `--with`, the one behind so many others.
+fn put_functions<E: Write>(
+    errors: &mut Counted<E>,
+    so_far: Result<(), WriteFault>,
+    fault: &LinkFault,
+    before: usize,
+    name: &[u8],
+) -> Result<(), WriteFault>
+    ensures { WritesAfter E.contents errors.old so_far errors.new result
+        (object_text fault.now name.now ++ functions_end before) }
+{
+    let said = put_object(errors, so_far, fault, name, b"");
+    put_place(errors, said, before)
+}
+
+/// Writes which object of `--with` has a fault, the one behind so many others.
+fn put_place<E: Write>(
+    errors: &mut Counted<E>,
+    so_far: Result<(), WriteFault>,
+    before: usize,
+) -> Result<(), WriteFault>
+    ensures { WritesAfter E.contents errors.old so_far errors.new result (functions_end before) }
+{
+    if before == 0 {
+        return put(errors, so_far, b" (--with)\n");
+    }
+    let pieces = [
+        Piece::Text(b" (--with, object "),
+        Piece::Decimal((before as u64).saturating_add(1)),
+        Piece::Text(b")\n"),
+    ];
+    put_all(errors, so_far, &pieces)
 }
 
 /// Writes the slot of a section from which the slot of an object's fault comes, if there is one.
@@ -155,6 +204,7 @@ fn put_origin<E: Write>(
     match fault {
         LinkFault::Program { source, .. } => put_source(errors, so_far, *source),
         LinkFault::Helper { source, .. } => put_source(errors, so_far, *source),
+        LinkFault::Packet { source, .. } => put_source(errors, so_far, *source),
         _ => put(errors, so_far, b""),
     }
 }
@@ -190,6 +240,24 @@ fn put_named<E: Write>(
             let begun = put(errors, so_far, b": ");
             put_shown(errors, begun, name)
         }
+    }
+}
+
+/// Writes what gives a program of the kernel's its packet, if that is the fault.
+fn put_hint<E: Write>(
+    errors: &mut Counted<E>,
+    so_far: Result<(), WriteFault>,
+    fault: &LinkFault,
+) -> Result<(), WriteFault>
+    ensures { WritesAfter E.contents errors.old so_far errors.new result (hint_of fault.now) }
+{
+    match fault {
+        LinkFault::Context { .. } => put(
+            errors,
+            so_far,
+            b": link --packet, or clang -include bpfdb.h, gives it one of the machine's",
+        ),
+        _ => put(errors, so_far, b""),
     }
 }
 
@@ -330,9 +398,11 @@ fn slot_of_words(fault: &LinkFault) -> Option<usize>
     match fault {
         LinkFault::Symbol(slot) => Some(*slot),
         LinkFault::Relocation { slot, .. } => Some(*slot),
+        LinkFault::Undefined { slot, .. } => Some(*slot),
         LinkFault::Program { fault, .. } => slot_of(fault),
         LinkFault::Helper { slot, .. } => Some(*slot),
         LinkFault::Fields { slot, .. } => Some(*slot),
+        LinkFault::Packet { slot, .. } => Some(*slot),
         _ => None,
     }
 }

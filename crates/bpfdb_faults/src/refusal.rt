@@ -4,7 +4,7 @@ use bpf_link::LinkFault;
 use bpf_machine::OpenFault;
 use bpf_origin::WhatFault;
 use bpf_ring::JournalFault;
-use bpf_suite::SectionFault;
+use bpf_suite::{Refusal as ProgramRefusal, SectionFault};
 use bpf_text::AsmFault;
 use bpf_whynot::GoalFault;
 use bpfdb_commands::Refusal;
@@ -20,6 +20,8 @@ pub enum JobRefusal<'a> {
     Load(LoadFault),
     /// The machine can't be opened on it and the context.
     Open(OpenFault),
+    /// The other run of `diff` can't be made, by its program or its context.
+    OtherRun(ProgramRefusal),
     /// The journal can't be opened.
     Journal(JournalFault),
     /// A line of the script is refused.
@@ -31,8 +33,8 @@ pub enum JobRefusal<'a> {
     /// No program is made of the object; the name of what is wrong, or those of what there is, as
     /// they stand in the object, or nothing.
     Object(LinkFault, &'a [u8]),
-    /// The object with functions isn't joined; names as they stand in it.
-    Functions(LinkFault, &'a [u8]),
+    /// An object with functions isn't joined, the one behind so many others; names as they stand in it.
+    Functions(LinkFault, usize, &'a [u8]),
     /// A test file has this fault, in this line.
     Tests(SectionFault, usize),
     /// No test of the file has the name that is asked for.

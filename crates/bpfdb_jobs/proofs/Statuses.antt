@@ -1,5 +1,5 @@
 -- The exit status of a job that was done.
-use Rattle.std.proofs.Common.{ℕ, ◌≡◌, ◌≢◌, Bool, true, false, Option, Some, None}
+use Rattle.std.proofs.Common.{ℕ, ◌≡◌, ◌≢◌, Bool, true, false, Option, Some, None, inl, inr, subst, sym}
 use Rattle.bpf_isa.specs.Programs.{Checked}
 use Rattle.bpf_session.specs.declared.fault.RunFault.{RunFault}
 use Rattle.bpfdb_faults.specs.Streams.{Stream}
@@ -13,8 +13,29 @@ use Rattle.bpfdb_jobs.specs.Statuses.{EndsAs, EndsPlainWith, EndsSessionWith, En
 use Rattle.bpfdb_jobs.specs.Suites as tests
 use Rattle.bpfdb_jobs.specs.declared.job.Job.{Job}
 use Rattle.bpfdb_options.specs.declared.subcommand.Subcommand.{Subcommand}
-use Rattle.bpfdb_options.specs.declared.subcommand.Subcommand.TheVariants.{Run, Trace, Debug, Origin, Whynot, Gdb, Asm, Disasm, Lines, Check, Link, Test}
+use Rattle.bpfdb_options.specs.declared.subcommand.Subcommand.TheVariants.{Run, Trace, Debug, Origin, Whynot, Diff, Gdb, Asm, Disasm, Lines, Check, Link, Test}
 use Rattle.bpfdb_options.specs.declared.test_part.TestPart.{TestPart}
+
+-- the status of a report, and of one behind which stands what ran
+reported_with : {W E : Type 0} (writer : Stream W) (errors : Stream E) (job : Job) (status : ℕ) → tests.EndsTests job writer errors status → status ≢ 2
+    → EndsTestWith None job status
+reported_with writer errors job status (tests.Reported asked outcomes are came out err is) other = (asked, outcomes, are, came, is)
+reported_with writer errors job status (tests.Refused refusal why w told two) other = absurd (other two)
+reported_with writer errors job status (tests.Exhausted w told two) other = absurd (other two)
+reported_with writer errors job status (tests.BrokenOff why asked are breaks told two) other = absurd (other two)
+
+tables_with : {W E : Type 0} (writer : Stream W) (errors : Stream E) (job : Job) (reported status : ℕ) → tests.EndsTables job reported writer errors status
+    → status ≢ 2 → EndsTestWith None job reported → EndsTestWith None job status
+tables_with writer errors job reported status (tests.Covered text covers out err is) other same = subst (EndsTestWith None job) (sym is) same
+tables_with writer errors job reported status (tests.Unfound w told two) other same = absurd (other two)
+tables_with writer errors job reported status (tests.Lost text covers out told two) other same = absurd (other two)
+
+cover_with : {W E : Type 0} (writer : Stream W) (errors : Stream E) (covers : Bool) (job : Job) (status : ℕ) → tests.EndsCover covers job writer errors status
+    → status ≢ 2 → EndsTestWith None job status
+cover_with writer errors false job status ends other = reported_with writer errors job status ends other
+cover_with writer errors true job status (inl two) other = absurd (other two.1)
+cover_with writer errors true job status (inr both) other =
+    tables_with _ _ job both.reported status both.tables other (reported_with _ _ job both.reported both.report both.sound)
 
 module _ {R W E : Type 0} (reader : Stream R) (writer : Stream W) (errors : Stream E) where
   session_with : (job : Job) (Serves : Checked → Type 0) (Breaks : Checked → RunFault → Type 0) (status : ℕ)
@@ -25,10 +46,7 @@ module _ {R W E : Type 0} (reader : Stream R) (writer : Stream W) (errors : Stre
 
   test_with : (show : Option TestPart) (job : Job) (status : ℕ) → EndsTest show job writer errors status → status ≢ 2
       → EndsTestWith show job status
-  test_with None job status (tests.Reported asked outcomes are came out err is) other = (asked, outcomes, are, came, is)
-  test_with None job status (tests.Refused refusal why w told two) other = absurd (other two)
-  test_with None job status (tests.Exhausted w told two) other = absurd (other two)
-  test_with None job status (tests.BrokenOff why asked are breaks told two) other = absurd (other two)
+  test_with None job status ends other = cover_with writer errors job.options.covers job status ends other
   test_with (Some part) job status (shown.Shown test bytes are shows out err is) other = (test, bytes, are, shows, is)
   test_with (Some part) job status (shown.Refused refusal why w told two) other = absurd (other two)
   test_with (Some part) job status (shown.Exhausted w told two) other = absurd (other two)
@@ -51,6 +69,7 @@ module _ {R W E : Type 0} (reader : Stream R) (writer : Stream W) (errors : Stre
   plain_with Trace job status does other = printed_with Trace job status does.1 other
   plain_with Origin job status does other = printed_with Origin job status does.1 other
   plain_with Whynot job status does other = printed_with Whynot job status does.1 other
+  plain_with Diff job status does other = printed_with Diff job status does.1 other
   plain_with Asm job status does other = printed_with Asm job status does.1 other
   plain_with Disasm job status does other = printed_with Disasm job status does.1 other
   plain_with Lines job status does other = printed_with Lines job status does.1 other

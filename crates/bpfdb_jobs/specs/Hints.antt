@@ -64,10 +64,11 @@ pub data IsHintOf (job : Job) (hint : Option Hint) : Type 0 where
   Unchecked : is_check job.subcommand ≡ false → hint ≡ None → IsHintOf job hint
   Linked : job.options.is_object ≡ true → hint ≡ None → IsHintOf job hint
   Accepted : (code : Checked) → IsProgramOf job code → hint ≡ None → IsHintOf job hint
-  Looks : (refusal : JobRefusal) → is_check job.subcommand ≡ true → job.options.is_listing ≡ false → RefusesProgram job refusal
-      → hint ≡ look_after refusal job.file.now → IsHintOf job hint
-  Stands : (refusal : JobRefusal) (table : List ℕ) → is_check job.subcommand ≡ true → job.options.is_listing ≡ true → RefusesProgram job refusal
-      → IsLineTable job.file.now table → hint ≡ place_after refusal table → IsHintOf job hint
+  Looks : (refusal : JobRefusal) → is_check job.subcommand ≡ true → job.options.is_object ≡ false → job.options.is_listing ≡ false
+      → RefusesProgram job refusal → hint ≡ look_after refusal job.file.now → IsHintOf job hint
+  Stands : (refusal : JobRefusal) (table : List ℕ) → is_check job.subcommand ≡ true → job.options.is_object ≡ false
+      → job.options.is_listing ≡ true → RefusesProgram job refusal → IsLineTable job.file.now table
+      → hint ≡ place_after refusal table → IsHintOf job hint
   Untold : (why : AsmFault) → job.options.is_listing ≡ true → IsFaultOf job.file.now why → hint ≡ None → IsHintOf job hint
 
 -- Its line on standard error.

@@ -2,18 +2,21 @@
 use Rattle.std.specs.Prelude.{◌≡◌, ◌≤◌, ℕ, Bool, true, false, List, [], ◌++◌, Option, Some, None, Result, Ok, is_some, length, map, count_by, codes, decimal, if◌then◌else◌}
 use Rattle.std.specs.Borrow.{Bor}
 use Rattle.bpf_entries.specs.Keeping.{IsSize}
+use Rattle.bpf_diff.specs.Differences.{diff_text, end_alike}
 use Rattle.bpf_entries.specs.declared.status.Status.{Status}
 use Rattle.bpf_entries.specs.declared.status.Status.TheVariants as status
 use Rattle.bpf_isa.specs.Maps.{IsMapList, items_of, shape_of}
 use Rattle.bpf_isa.specs.Programs.{Checked, IsProgram}
 use Rattle.bpf_isa.specs.declared.maps.MapShape.{MapShape}
-use Rattle.bpf_join.specs.Joined.{IsJoined}
+use Rattle.bpf_join.specs.Chains.{IsChain, others}
 use Rattle.bpf_join.specs.declared.joined.Joined.{Joined}
-use Rattle.bpf_link.specs.Programs.{IsLinkedAs}
+use Rattle.bpf_link.specs.Programs.{Asked, IsLinkedAs}
 use Rattle.bpf_link.specs.StubLists.{stubs_in}
 use Rattle.bpf_link.specs.declared.fault.LinkFault.{LinkFault}
 use Rattle.bpf_link.specs.declared.linker.Linked.{Linked}
 use Rattle.bpf_link.specs.declared.stubs.Stub.{Stub}
+use Rattle.bpf_lines.specs.Objects.{AreLinesOf, joined_table, own_table}
+use Rattle.bpf_lines.specs.declared.objects.ObjectLines.{ObjectLines}
 use Rattle.bpf_steps.specs.Platform.{context_limit}
 use Rattle.bpf_steps.specs.State.{State, initial}
 use Rattle.bpf_origin.specs.Answers.{Answer}
@@ -38,7 +41,7 @@ use Rattle.bpfdb_jobs.specs.MapLines.{linked_told}
 use Rattle.bpfdb_jobs.specs.Origins.{Arrival, Asks, answer_by, arrival, found_text, question_by, status_of_extent}
 use Rattle.bpfdb_jobs.specs.declared.job.Job.{Job}
 use Rattle.bpfdb_options.specs.declared.subcommand.Subcommand.{Subcommand}
-use Rattle.bpfdb_options.specs.declared.subcommand.Subcommand.TheVariants.{Run, Trace, Debug, Origin, Whynot, Gdb, Asm, Disasm, Lines, Check, Link, Test}
+use Rattle.bpfdb_options.specs.declared.subcommand.Subcommand.TheVariants.{Run, Trace, Debug, Origin, Whynot, Diff, Gdb, Asm, Disasm, Lines, Check, Link, Test}
 
 -- The maps of an object that was linked; else the map table that a text names; no map where there is no text.
 abbrev pub AreMapsOf : Option (Bor (List MapShape)) → Option (Bor (List ℕ)) → List MapShape → Type 0
@@ -98,11 +101,26 @@ listed_stubs None = Ok []
 abbrev pub stubs_of : Job → Result (List Stub) LinkFault
 stubs_of job = listed_stubs job.options.stubs
 
+-- What the job says of stubs is a list of them.
+abbrev pub ListsStubs : Job → Type 0
+ListsStubs job = (stubs : List Stub) × (stubs_of job ≡ Ok stubs)
+
+-- What is asked of the link of an object.
+abbrev pub link_of : Job → List ℕ → List Stub → Asked
+link_of job object stubs = record {
+  object = object;
+  name = section_of job;
+  entry = entry_of job;
+  stubs = stubs;
+  as_compiled = job.options.as_compiled;
+  packet = job.options.packet;
+}
+
 -- The object that is linked: FILE, or what FILE and the functions come to, of which it is known how many fields are left.
 abbrev pub ObjectOf : Option (Bor (List ℕ)) → Job → List ℕ → Option ℕ → Type 0
 ObjectOf None job object counted = (object ≡ job.file.now) × (counted ≡ None)
 ObjectOf (Some functions) job object counted = (joined : Joined)
-    × IsJoined job.file.now functions.now (section_of job) job.options.as_compiled joined
+    × IsChain job.file.now (others functions.now job.further.now) (section_of job) job.options.as_compiled joined
     × (object ≡ joined.bytes.items) × (counted ≡ Some joined.fields)
 
 abbrev pub IsObjectOf : Job → List ℕ → Option ℕ → Type 0
@@ -117,7 +135,7 @@ pub record IsLinkedTo (job : Job) (object : List ℕ) (counted : Option ℕ) (pr
   pub stubs : List Stub
   pub asked : stubs_of job ≡ Ok stubs
   pub of_object : IsObjectOf job object counted
-  pub linked : IsLinkedAs object (section_of job) (entry_of job) stubs job.options.as_compiled program
+  pub linked : IsLinkedAs (link_of job object stubs) program
 
 -- How many calls are answered is told with the option alone.
 abbrev pub answered_if : Option (Bor (List ℕ)) → ℕ → Option ℕ
@@ -190,6 +208,25 @@ query_of job goals at = record { goals = goals; question = question_by job.optio
 abbrev pub whynot_print : Job → List ℕ → (ℕ → List ℕ → Bool) → Arrival → Print
 whynot_print job goals can at = origin_print at.point.state (why_not can (query_of job goals at) at.point.history at.point.state)
 
+-- `diff`: the job of the other run, which has the bytes of the other file for its program, or for its context.
+abbrev pub other_bytes : Option (Bor (List ℕ)) → List ℕ
+other_bytes (Some other) = other.now
+other_bytes None = []
+
+abbrev pub RunsOn : Bool → Job → Job → Type 0
+RunsOn true job other = (other.context.now ≡ other_bytes job.other) × (other ≡ record job { context = other.context })
+RunsOn false job other = (other.file.now ≡ other_bytes job.other) × (other ≡ record job { file = other.file })
+
+abbrev pub IsOtherRun : Job → Job → Type 0
+IsOtherRun job other = RunsOn job.options.other_is_context job other
+
+-- Where the two runs part, with status 0 where they don't.
+abbrev pub diff_status : Bool → ℕ
+diff_status same = if same then 0 else 1
+
+abbrev pub diff_print : ℕ → State → State → Print
+diff_print limit x y = record { out = Some (diff_text limit x y); err = None; status = diff_status (end_alike limit x y) }
+
 -- `check`: how many instructions, and in how many slots.
 unfoldable pub check_line : Checked → List ℕ
 check_line code =
@@ -207,7 +244,18 @@ link_print job object counted program = record (printed program.words.items) {
 abbrev pub LinkPrints : Bool → Job → Print → Type 0
 LinkPrints false job a = (object : List ℕ) × (counted : Option ℕ) × (program : Linked) × IsLinkedTo job object counted program
     × (a ≡ link_print job object counted program)
-LinkPrints true job a = (object : List ℕ) × (counted : Option ℕ) × IsObjectOf job object counted × (a ≡ printed object)
+LinkPrints true job a = ListsStubs job × (object : List ℕ) × (counted : Option ℕ) × IsObjectOf job object counted × (a ≡ printed object)
+
+-- `lines`: the table of a listing; or of the program to which an object is linked, alone or joined with functions.
+abbrev pub IsTableOf : Option (Bor (List ℕ)) → Job → List ℕ → List ℕ → Type 0
+IsTableOf None job words table = (own : ObjectLines) × AreLinesOf job.file.now (section_of job) own × (table ≡ own_table words own)
+IsTableOf (Some functions) job words table = (own : ObjectLines) × (more : ObjectLines) × AreLinesOf job.file.now (section_of job) own
+    × AreLinesOf functions.now (codes ".text") more × (table ≡ joined_table words own more)
+
+abbrev pub IsTable : Bool → Job → List ℕ → Type 0
+IsTable false job table = IsLineTable job.file.now table
+IsTable true job table = (object : List ℕ) × (counted : Option ℕ) × (program : Linked) × IsLinkedTo job object counted program
+    × IsTableOf job.other job program.words.items table
 
 -- What a subcommand prints of a job that has what it needs: one that reads no standard input. (`test` has a definition of its own.)
 abbrev pub Prints : Subcommand → Job → Print → Type 0
@@ -219,10 +267,12 @@ Prints Origin job a = (code : Checked) × (at : Arrival) × (what : Option What)
 Prints Whynot job a = (code : Checked) × (at : Arrival) × (goals : List ℕ) × (can : ℕ → List ℕ → Bool) × OpensSession job code
     × (arrival_of job code ≡ Ok at) × (goals_in at.point.state.program (asked_of job) ≡ Ok goals)
     × TellsReach at.point.state.program goals can × (a ≡ whynot_print job goals can at)
+Prints Diff job a = (code : Checked) × (other : Job) × (second : Checked) × Opens job code × IsOtherRun job other × Opens other second
+    × (a ≡ diff_print job.options.limit (initial code job.context.now) (initial second other.context.now))
 Prints Gdb job a = ⊥
 Prints Test job a = ⊥
 Prints Asm job a = (words : List ℕ) × IsListing job.file.now words × (a ≡ printed words)
 Prints Disasm job a = (code : Checked) × IsProgramOf job code × (a ≡ printed (canon code))
-Prints Lines job a = (table : List ℕ) × IsLineTable job.file.now table × (a ≡ printed table)
+Prints Lines job a = (table : List ℕ) × IsTable job.options.is_object job table × (a ≡ printed table)
 Prints Check job a = (code : Checked) × IsProgramOf job code × (a ≡ printed (check_line code))
 Prints Link job a = LinkPrints job.options.is_joined job a

@@ -5,7 +5,7 @@ use Rattle.bpf_link.specs.Programs.{IsLinkedAs}
 use Rattle.bpf_link.specs.declared.fault.LinkFault.{LinkFault}
 use Rattle.bpf_link.specs.declared.linker.Linked.{Linked}
 use Rattle.bpf_link.specs.declared.stubs.Stub.{Stub}
-use Rattle.bpfdb_jobs.specs.Jobs.{entry_of, section_of, stubs_of}
+use Rattle.bpfdb_jobs.specs.Jobs.{link_of, stubs_of}
 use Rattle.bpfdb_jobs.specs.Refusals.{RefusesLink, RefusesStubs}
 use Rattle.bpfdb_jobs.specs.declared.job.Job.{Job}
 use Rattle.bpfdb_options.specs.declared.subcommand.Subcommand.{Subcommand}
@@ -27,7 +27,7 @@ links_first subcommand job = is_check subcommand && job.options.is_object
 pub record LinksTo (job : Job) (program : Linked) : Type 0 where
   pub stubs : List Stub
   pub asked : stubs_of job ≡ Ok stubs
-  pub linked : IsLinkedAs job.file.now (section_of job) (entry_of job) stubs job.options.as_compiled program
+  pub linked : IsLinkedAs (link_of job job.file.now stubs) program
 
 -- Why there is none: the stubs first, then the object.
 abbrev pub RefusesLinking : Job → LinkFault → Type 0

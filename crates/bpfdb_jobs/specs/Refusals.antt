@@ -1,10 +1,11 @@
 -- Why a job is refused, in this order: its maps, its listing, its program, its context, its journal; its script, what it asks about; its stubs,
 -- its object, the fields of that; or its tests.
-use Rattle.std.specs.Prelude.{◌≡◌, ◌⊎◌, List, [], ℕ, Option, Some, None, Ok, Err, true, codes}
+use Rattle.std.specs.Prelude.{◌≡◌, ◌⊎◌, List, [], ℕ, Option, Some, None, Ok, Err, Bool, true, false, codes}
 use Rattle.std.specs.Borrow.{Bor}
 use Rattle.bpf_isa.specs.Checker.{IsRefused}
 use Rattle.bpf_isa.specs.Maps.{IsFirstBadMap, IsListFault}
-use Rattle.bpf_join.specs.Joined.{IsJoinFault}
+use Rattle.bpf_join.specs.Chains.{IsChainFault, others}
+use Rattle.bpf_join.specs.declared.chain.ChainFault.{ChainFault}
 use Rattle.bpf_join.specs.declared.fault.JoinFault.{JoinFault}
 use Rattle.bpf_join.specs.declared.fault.JoinFault.TheVariants.{First, Second}
 use Rattle.bpf_link.specs.declared.fault.LinkFault.{LinkFault}
@@ -14,22 +15,25 @@ use Rattle.bpf_isa.specs.declared.maps.MapShape.{MapShape}
 use Rattle.bpf_text.specs.Listing.{IsFaultOf}
 use Rattle.bpf_link.specs.Names.{fault_names}
 use Rattle.bpf_link.specs.Programs.{IsLinkRefusal}
+use Rattle.bpf_lines.specs.Objects.{IsLinesRefusal}
 use Rattle.bpf_link.specs.declared.stubs.Stub.{Stub}
 use Rattle.bpf_suite.specs.Faults as suite
 use Rattle.bpf_suite.specs.Files.{sections, tests}
 use Rattle.bpf_suite.specs.Tests.{chosen}
+use Rattle.bpf_suite.specs.declared.refusal.Refusal.{Refusal}
+use Rattle.bpf_suite.specs.declared.refusal.Refusal.TheVariants as program
 use Rattle.bpf_suite.specs.declared.section.Section.{Section}
 use Rattle.bpf_suite.specs.declared.fault.FileFault.TheVariants.{Line}
 use Rattle.bpf_steps.specs.Opening.{Refused}
 use Rattle.bpf_ring.specs.Opening.{RefusesSize}
 use Rattle.bpf_whynot.specs.Asked.{goals_in}
-use Rattle.bpfdb_jobs.specs.Jobs.{HasMaps, HasWords, IsObjectOf, IsProgramOf, Opens, OpensSession, arrival_of, asked_of, entry_of, section_of, stubs_of}
+use Rattle.bpfdb_jobs.specs.Jobs.{HasMaps, HasWords, IsObjectOf, IsProgramOf, ListsStubs, IsOtherRun, Opens, OpensSession, arrival_of, asked_of, link_of, section_of, stubs_of}
 use Rattle.bpfdb_jobs.specs.Origins.{Arrival, RefusesWhat}
 use Rattle.bpfdb_jobs.specs.declared.job.Job.{Job}
 use Rattle.bpfdb_faults.specs.declared.refusal.JobRefusal.{JobRefusal}
-use Rattle.bpfdb_faults.specs.declared.refusal.JobRefusal.TheVariants.{Maps, Listing, Load, Open, Journal, What, Goal, Object, Functions, Tests, NoTest, ManyTests, Script}
+use Rattle.bpfdb_faults.specs.declared.refusal.JobRefusal.TheVariants.{Maps, Listing, Load, Open, OtherRun, Journal, What, Goal, Object, Functions, Tests, NoTest, ManyTests, Script}
 use Rattle.bpfdb_options.specs.declared.subcommand.Subcommand.{Subcommand}
-use Rattle.bpfdb_options.specs.declared.subcommand.Subcommand.TheVariants.{Run, Trace, Debug, Origin, Whynot, Gdb, Asm, Disasm, Lines, Check, Link, Test}
+use Rattle.bpfdb_options.specs.declared.subcommand.Subcommand.TheVariants.{Run, Trace, Debug, Origin, Whynot, Diff, Gdb, Asm, Disasm, Lines, Check, Link, Test}
 
 -- The maps of an object that was linked are out of their limits; or the text of a map table is none.
 abbrev pub RefusesMaps : Option (Bor (List MapShape)) → Option (Bor (List ℕ)) → MapFault → Type 0
@@ -46,16 +50,17 @@ Refuses job (Load fault) = (shapes : List MapShape) × HasMaps job shapes
     × (words : List ℕ) × HasWords job.options.is_listing job.file.now words × IsRefused words shapes fault
 Refuses job (Open fault) = (code : Checked) × IsProgramOf job code × Refused job.context.now fault
 Refuses job (Journal fault) = (code : Checked) × Opens job code × RefusesSize job.options.journal fault
+Refuses job (OtherRun refusal) = ⊥
 Refuses job (Script refusal) = ⊥
 Refuses job (What fault) = ⊥
 Refuses job (Goal fault) = ⊥
 Refuses job (Object fault name) = ⊥
-Refuses job (Functions fault name) = ⊥
+Refuses job (Functions fault index name) = ⊥
 Refuses job (Tests fault line) = ⊥
 Refuses job (NoTest name) = ⊥
 Refuses job ManyTests = ⊥
 
--- Those that a subcommand looks at: `asm` and `lines` their listing alone and `link` its object, a program has no context, a run no journal.
+-- Those that a subcommand looks at: `asm` its listing alone and `link` its object, a program has no context, a run no journal.
 abbrev pub RefusesProgram : Job → JobRefusal → Type 0
 RefusesProgram job (Open fault) = ⊥
 RefusesProgram job (Journal fault) = ⊥
@@ -80,6 +85,18 @@ RefusesWhynot job (Goal fault) = (code : Checked) × (at : Arrival) × OpensSess
     × (goals_in at.point.state.program (asked_of job) ≡ Err fault)
 RefusesWhynot job refusal = RefusesArrival job refusal
 
+-- `diff` looks at FILE's machine, and then at that of the other run.
+abbrev pub RefusesOther : Job → Refusal → Type 0
+RefusesOther other (program.Maps fault) = RefusesMachine other (Maps fault)
+RefusesOther other (program.Listing fault) = RefusesMachine other (Listing fault)
+RefusesOther other (program.Load fault) = RefusesMachine other (Load fault)
+RefusesOther other (program.Open fault) = RefusesMachine other (Open fault)
+RefusesOther other (program.NoCell map index) = ⊥
+
+abbrev pub RefusesDiff : Job → JobRefusal → Type 0
+RefusesDiff job (OtherRun refusal) = (code : Checked) × (other : Job) × Opens job code × IsOtherRun job other × RefusesOther other refusal
+RefusesDiff job refusal = RefusesMachine job refusal
+
 abbrev pub RefusesListing : Job → JobRefusal → Type 0
 RefusesListing job (Listing fault) = IsFaultOf job.file.now fault
 RefusesListing job refusal = ⊥
@@ -88,28 +105,44 @@ RefusesListing job refusal = ⊥
 abbrev pub RefusesStubs : Job → LinkFault → Type 0
 RefusesStubs job fault = stubs_of job ≡ Err fault
 
-abbrev pub RefusesJoin : Option (Bor (List ℕ)) → Job → JoinFault → Type 0
-RefusesJoin None job fault = ⊥
-RefusesJoin (Some functions) job fault = IsJoinFault job.file.now functions.now (section_of job) job.options.as_compiled fault
+abbrev pub RefusesJoin : Option (Bor (List ℕ)) → Job → ChainFault → Type 0
+RefusesJoin None job told = ⊥
+RefusesJoin (Some functions) job told =
+    ListsStubs job × IsChainFault job.file.now (others functions.now job.further.now) (section_of job) job.options.as_compiled told
 
 abbrev pub RefusesLink : Job → List ℕ → LinkFault → Type 0
 RefusesLink job object fault = (stubs : List Stub) × (stubs_of job ≡ Ok stubs)
-    × IsLinkRefusal object (section_of job) (entry_of job) stubs job.options.as_compiled fault
+    × IsLinkRefusal (link_of job object stubs) fault
 
-abbrev pub OfFile : Job → LinkFault → List ℕ → Type 0
-OfFile job fault name =
-    (name ≡ fault_names job.file.now (section_of job) fault) × (RefusesStubs job fault ⊎ RefusesJoin job.other job (First fault))
+abbrev pub OfStubs : Job → LinkFault → List ℕ → Type 0
+OfStubs job fault name = (name ≡ fault_names job.file.now (section_of job) fault) × RefusesStubs job fault
+
+abbrev pub OfJoin : Job → JoinFault → ℕ → List ℕ → Type 0
+OfJoin job fault index name =
+    (told : ChainFault) × RefusesJoin job.other job told × (told.fault ≡ fault) × (told.index ≡ index) × (name ≡ told.names.items)
 
 abbrev pub OfObject : Job → LinkFault → List ℕ → Type 0
 OfObject job fault name =
     (object : List ℕ) × (counted : Option ℕ) × IsObjectOf job object counted × (name ≡ fault_names object (section_of job) fault) × RefusesLink job object fault
 
 abbrev pub RefusesObject : Job → JobRefusal → Type 0
-RefusesObject job (Object fault name) = OfFile job fault name.now ⊎ OfObject job fault name.now
-RefusesObject job (Functions fault name) =
-    (functions : Bor (List ℕ)) × (job.other ≡ Some functions) × (name.now ≡ fault_names functions.now (codes ".text") fault)
-    × RefusesJoin job.other job (Second fault)
+RefusesObject job (Object fault name) =
+    OfStubs job fault name.now ⊎ (((index : ℕ) × OfJoin job (First fault) index name.now) ⊎ OfObject job fault name.now)
+RefusesObject job (Functions fault index name) = OfJoin job (Second fault) index name.now
 RefusesObject job refusal = ⊥
+
+-- `lines` looks at a listing; or at what `link` looks at, and then at what each object tells of its lines.
+abbrev pub RefusesTable : Job → JobRefusal → Type 0
+RefusesTable job (Object fault name) =
+    (name.now ≡ fault_names job.file.now (section_of job) fault) × IsLinesRefusal job.file.now (section_of job) fault
+RefusesTable job (Functions fault index name) =
+    (functions : Bor (List ℕ)) × (job.other ≡ Some functions) × (index ≡ 0) × (name.now ≡ fault_names functions.now (codes ".text") fault)
+    × IsLinesRefusal functions.now (codes ".text") fault
+RefusesTable job refusal = ⊥
+
+abbrev pub RefusesLines : Bool → Job → JobRefusal → Type 0
+RefusesLines false job refusal = RefusesListing job refusal
+RefusesLines true job refusal = RefusesObject job refusal ⊎ RefusesTable job refusal
 
 -- No test has the name that is asked for.
 abbrev pub LacksName : Option (Bor (List ℕ)) → List (List Section) → JobRefusal → Type 0
@@ -128,10 +161,11 @@ RefusesAs Trace job refusal = RefusesMachine job refusal
 RefusesAs Debug job refusal = Refuses job refusal
 RefusesAs Origin job refusal = RefusesOrigin job refusal
 RefusesAs Whynot job refusal = RefusesWhynot job refusal
+RefusesAs Diff job refusal = RefusesDiff job refusal
 RefusesAs Gdb job refusal = Refuses job refusal
 RefusesAs Asm job refusal = RefusesListing job refusal
 RefusesAs Disasm job refusal = RefusesProgram job refusal
-RefusesAs Lines job refusal = RefusesListing job refusal
+RefusesAs Lines job refusal = RefusesLines job.options.is_object job refusal
 RefusesAs Check job refusal = RefusesProgram job refusal
 RefusesAs Link job refusal = RefusesObject job refusal
 RefusesAs Test job refusal = RefusesTests job refusal

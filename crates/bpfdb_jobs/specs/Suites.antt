@@ -1,7 +1,9 @@
 -- What `test` comes to.
-use Rattle.std.specs.Prelude.{ℕ, ◌≡◌, ◌<◌, Bool, true, false, List, ◌++◌, Option, Some, None, length}
+use Rattle.std.specs.Prelude.{ℕ, ◌≡◌, ◌≢◌, ◌<◌, ◌⊎◌, Bool, true, false, List, ◌++◌, Option, Some, None, length}
+use Rattle.counted_io.specs.Counted.{Tally}
+use Rattle.bpf_suite.specs.Covers.{Covers, own_named}
 use Rattle.bpf_suite.specs.Faults.{file_fault}
-use Rattle.bpf_suite.specs.Files.{sections, tests}
+use Rattle.bpf_suite.specs.Files.{own_tests, sections, tests, until_name}
 use Rattle.bpf_suite.specs.Outcomes.{Outcome}
 use Rattle.bpf_suite.specs.Reports.{AreOutcomes, BreaksOff, all_pass, plan, tests_text}
 use Rattle.bpf_suite.specs.declared.fault.FileFault.{FileFault}
@@ -11,7 +13,7 @@ use Rattle.bpf_suite.specs.declared.report.SuiteFault.TheVariants as suite
 use Rattle.bpf_suite.specs.Tests.{chosen}
 use Rattle.bpf_suite.specs.declared.section.Section.{Section}
 use Rattle.std.specs.Borrow.{Bor}
-use Rattle.bpfdb_faults.specs.Streams.{Gets, Stream, Told}
+use Rattle.bpfdb_faults.specs.Streams.{Gets, Loses, Stream, Told}
 use Rattle.bpfdb_faults.specs.Faults.{line_of}
 use Rattle.bpfdb_jobs.specs.Refusals.{RefusesTests}
 use Rattle.bpfdb_faults.specs.declared.fault.JobFault.{JobFault}
@@ -38,6 +40,11 @@ pub record AreTestsOf (job : Job) (asked : List (List Section)) : Type 0 where
   pub sound : file_fault job.file.now ≡ None
   pub asked_for : AreAsked job.options.only (tests (sections job.file.now)) asked
 
+-- The tables of what ran of the programs, over these tests.
+abbrev pub CoversTests : Job → List ℕ → Type 0
+CoversTests job text = let s = sections job.file.now in
+    Covers (until_name s) (own_named job.options.only (until_name s) (own_tests s)) text
+
 -- Why the tests of a file aren't run.
 abbrev pub fault_of_file : FileFault → JobFault
 fault_of_file (file.Line why line) = fault.Refused (Tests why line)
@@ -60,3 +67,25 @@ pub data EndsTests {W E : Type 0} (job : Job) (writer : Stream W) (errors : Stre
   BrokenOff : (why : SuiteFault) (asked : List (List Section)) → AreTestsOf job asked
       → BreaksOff writer.bytes why writer.old writer.new (plan (length asked)) job.name.now 1 asked
       → Told errors (line_of (fault_of_suite why)) → status ≡ 2 → EndsTests job writer errors status
+
+-- How a job ends that reported on tests, with this status, and then tells what ran: that was written; or memory ran out, and no more was written;
+-- or standard output failed, which got a beginning.
+pub data EndsTables {W E : Type 0} (job : Job) (reported : ℕ) (writer : Stream W) (errors : Stream E) (status : ℕ) : Type 0 where
+  Covered : (text : List ℕ) → CoversTests job text → Gets writer (Some text) → errors.new ≡ errors.old → status ≡ reported
+      → EndsTables job reported writer errors status
+  Unfound : writer.new ≡ writer.old → Told errors (line_of fault.Memory) → status ≡ 2 → EndsTables job reported writer errors status
+  Lost : (text : List ℕ) → CoversTests job text → Loses writer (Some text) → Told errors (line_of fault.Output) → status ≡ 2
+      → EndsTables job reported writer errors status
+
+-- How a job of `test` ends that tells what ran: behind the report, unless that has status 2.
+pub record EndsBoth {W E : Type 0} (job : Job) (writer : Stream W) (errors : Stream E) (status : ℕ) : Type 0 where
+  pub middle : Tally W
+  pub between : Tally E
+  pub reported : ℕ
+  pub report : EndsTests job (record writer { new = middle }) (record errors { new = between }) reported
+  pub sound : reported ≢ 2
+  pub tables : EndsTables job reported (record writer { old = middle }) (record errors { old = between }) status
+
+abbrev pub EndsCover : {W E : Type 0} → Bool → Job → Stream W → Stream E → ℕ → Type 0
+EndsCover false job writer errors status = EndsTests job writer errors status
+EndsCover true job writer errors status = (EndsTests job writer errors status × (status ≡ 2)) ⊎ EndsBoth job writer errors status

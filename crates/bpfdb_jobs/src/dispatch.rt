@@ -6,6 +6,7 @@ ghost use Rattle.bpfdb_faults.specs.Streams.{stream};
 
 use crate::check::check_job;
 use crate::debug::debug_job;
+use crate::diff::diff_job;
 use crate::gdb::gdb_job;
 use crate::job::Job;
 use crate::linked::{linked_tool, links_first};
@@ -22,9 +23,8 @@ use std::alloc::Global;
 use std::io::{Read, Write};
 
 /// Does a job, and answers the exit status: 0; 1 where `run` or `trace` ends in a fault of the
-/// program or at the limit of steps, where a test fails, and where an answer of `origin` or
-/// `whynot` is cut; 2
-/// where the job is refused, where input or output fails, and where memory runs out.
+/// program or at the limit of steps, where a test fails, where an answer of `origin` or `whynot` is
+/// cut, and where the runs of `diff` part; 2 where the job is refused, where input or output fails, and where memory runs out.
 ///
 /// Results, replies and answers go to the writer. A refusal, a fault or a limit is one line on
 /// `errors`, and so are the maps of an object that `link` links. The reader is read by `debug` and
@@ -67,6 +67,7 @@ pub fn plain_tool<R: Read, W: Write, E: Write>(
         Subcommand::Debug => debug_job(alloc, job, reader, writer, errors),
         Subcommand::Origin => origin_job(alloc, job, writer, errors),
         Subcommand::Whynot => whynot_job(alloc, job, writer, errors),
+        Subcommand::Diff => diff_job(alloc, job, writer, errors),
         Subcommand::Gdb => gdb_job(alloc, job, reader, writer, errors),
         Subcommand::Asm => asm_job(alloc, job, writer, errors),
         Subcommand::Disasm => disasm_job(alloc, job, writer, errors),

@@ -1,6 +1,6 @@
 //! A hint at a terminal behind a refusal: what FILE looks like where it isn't words, and the line of
 //! a slot where it is a listing.
-ghost use Rattle.std.specs.Prelude.{◌≡◌, option_map, true};
+ghost use Rattle.std.specs.Prelude.{false, ◌≡◌, option_map, true};
 ghost use Rattle.counted_io.specs.Lines.{lines};
 ghost use Rattle.counted_io.specs.Writing.{Writes};
 ghost use Rattle.bpfdb_faults.specs.Streams.{Told, stream};
@@ -69,6 +69,7 @@ fn hint_of(alloc: Global, job: &Job<'_>) -> Option<Hint>
 /// The hint behind a refusal of a job's program.
 fn hint_behind(alloc: Global, job: &Job<'_>, refusal: &JobRefusal<'_>) -> Option<Hint>
     requires checks { is_check job.now.subcommand ≡ true }
+    requires words { job.now.options.is_object ≡ false }
     requires refuses { RefusesProgram job.now refusal.now }
     ensures { IsHintOf job.now result }
 {

@@ -3,6 +3,7 @@
 
 mod check;
 mod debug;
+mod diff;
 mod dispatch;
 mod ending;
 mod gdb;
@@ -13,6 +14,7 @@ mod listing;
 mod look;
 mod maps;
 mod object;
+mod object_lines;
 mod opening;
 mod origin;
 mod row;

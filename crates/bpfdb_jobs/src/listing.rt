@@ -5,6 +5,7 @@ ghost use Rattle.bpfdb_options.specs.declared.subcommand.Subcommand.TheVariants.
 ghost use Rattle.bpfdb_faults.specs.Streams.{stream};
 
 use crate::job::Job;
+use crate::object_lines::object_lines_job;
 use crate::opening::program_of;
 use bpf_text::{assemble, disassemble, line_table};
 use bpfdb_faults::{JobFault, JobRefusal, ended, give_up, write_out};
@@ -43,6 +44,9 @@ pub fn lines_job<W: Write, E: Write>(
         (stream E.contents errors.old errors.new) result }
     ensures status { result ≤ 2 }
 {
+    if job.options.is_object {
+        return object_lines_job(alloc, job, writer, errors);
+    }
     match line_table(alloc, job.file) {
         Ok(table) => {
             let written = write_out(writer, table.as_slice());

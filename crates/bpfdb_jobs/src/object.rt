@@ -1,21 +1,20 @@
 //! What a job of `link` does.
-ghost use Rattle.std.specs.Prelude.{◌≡◌, ◌≤◌, ℕ, List, Some, codes, false, IfErr, IfOk, Ok, Err};
+ghost use Rattle.std.specs.Prelude.{◌≡◌, ◌≤◌, ℕ, List, codes, false, IfErr, IfOk, Ok, Err};
 ghost use Rattle.std.specs.Borrow.{Bor};
-ghost use Rattle.bpf_join.specs.Joined.{IsJoinFault};
 ghost use Rattle.bpf_link.specs.Names.{fault_names};
 ghost use Rattle.bpf_link.specs.Programs.{IsLinkRefusal, IsLinkedAs};
 ghost use Rattle.bpfdb_faults.specs.Streams.{Told, stream};
 ghost use Rattle.bpfdb_jobs.specs.Endings.{EndsPrinted};
 ghost use Rattle.bpfdb_faults.specs.Faults.{line_of};
-ghost use Rattle.bpfdb_jobs.specs.Jobs.{IsLinkedTo, IsObjectOf, answered_if, entry_of, fields_if, or_count, section_of, stubs_of};
-ghost use Rattle.bpfdb_jobs.specs.Refusals.{RefusesObject};
+ghost use Rattle.bpfdb_jobs.specs.Jobs.{IsLinkedTo, IsObjectOf, answered_if, entry_of, fields_if, link_of, or_count, section_of, stubs_of};
+ghost use Rattle.bpfdb_jobs.specs.Refusals.{RefusesObject, RefusesJoin};
 ghost use Rattle.bpfdb_faults.specs.declared.refusal.JobRefusal.{JobRefusal as WhyRefused};
 ghost use Rattle.bpfdb_options.specs.declared.subcommand.Subcommand.TheVariants.{Link};
 
 use crate::job::Job;
 use crate::maps::tell_linked;
 use arrayvec::ArrayVec;
-use bpf_join::{JoinFault, join};
+use bpf_join::{ChainFault, JoinFault, join_all};
 use bpf_link::{
     LinkFault, LinkOptions, Linked, MOST_STUBS, Stub, fault_names, link_with, stubs_in,
 };
@@ -26,7 +25,7 @@ use std::io::Write;
 
 /// Writes the words that an object's code section is linked to, and tells the maps that the object
 /// defines, their names, and how many calls are answered, and fields left, where that is asked for.
-/// Where there is an object with functions, that is joined to it first.
+/// Where there are objects with functions, these are joined to it first.
 pub fn link_job<W: Write, E: Write>(
     alloc: Global,
     job: &Job<'_>,
@@ -45,10 +44,11 @@ pub fn link_job<W: Write, E: Write>(
     let Some(functions) = job.other else {
         return put_object(alloc, job, job.file, None, named, writer, errors);
     };
-    match join(
+    match join_all(
         alloc,
         job.file,
         functions,
+        job.further,
         section_of(job),
         job.options.as_compiled,
     ) {
@@ -64,7 +64,7 @@ pub fn link_job<W: Write, E: Write>(
                 errors,
             )
         }
-        Err(fault) => refuse_join(job, functions, errors, fault),
+        Err(told) => refuse_join(job, errors, &told),
     }
 }
 
@@ -155,39 +155,38 @@ pub fn refuse<E: Write>(
     give_up(errors, &JobFault::Refused(JobRefusal::Object(fault, name)))
 }
 
-/// Tells why two objects aren't joined, and answers the exit status, 2.
-fn refuse_join<E: Write>(
-    job: &Job<'_>,
-    functions: &[u8],
-    errors: &mut Counted<E>,
-    fault: JoinFault,
-) -> u8
-    requires other { job.now.other ≡ Some functions }
-    requires why { IsJoinFault job.now.file.now functions.now (section_of job.now)
-        job.now.options.as_compiled fault }
+/// Tells why objects aren't joined, and answers the exit status, 2.
+pub fn refuse_join<E: Write>(job: &Job<'_>, errors: &mut Counted<E>, told: &ChainFault) -> u8
+    requires { RefusesJoin job.now.other job.now told.now }
     ensures value { result ≡ 2 }
     ensures told { (refusal : WhyRefused) × RefusesObject job.now refusal
         × Told (stream E.contents errors.old errors.new) (line_of (JobFault.Refused refusal)) }
 {
-    match fault {
-        JoinFault::First(fault) => refuse(job, job.file, errors, fault),
-        JoinFault::Second(fault) => refuse_functions(functions, errors, fault),
+    let names = told.names.as_slice();
+    match told.fault {
+        JoinFault::First(fault) => {
+            give_up(errors, &JobFault::Refused(JobRefusal::Object(fault, names)))
+        }
+        JoinFault::Second(fault) => give_up(
+            errors,
+            &JobFault::Refused(JobRefusal::Functions(fault, told.index, names)),
+        ),
     }
 }
 
-/// Tells why an object with functions isn't joined, and answers the exit status, 2.
-fn refuse_functions<E: Write>(functions: &[u8], errors: &mut Counted<E>, fault: LinkFault) -> u8
+/// Tells why the first object with functions has no table, and answers the exit status, 2.
+pub fn refuse_functions<E: Write>(functions: &[u8], errors: &mut Counted<E>, fault: LinkFault) -> u8
     ensures value { result ≡ 2 }
     ensures told { (name : Bor (List ℕ))
         × (name.now ≡ fault_names functions.now (codes ".text") fault)
         × Told (stream E.contents errors.old errors.new)
-        (line_of (JobFault.Refused (JobRefusal.Functions fault name))) }
+        (line_of (JobFault.Refused (JobRefusal.Functions fault 0 name))) }
 {
     let names = fault_names(functions, b".text", &fault);
     let name = names.as_slice();
     give_up(
         errors,
-        &JobFault::Refused(JobRefusal::Functions(fault, name)),
+        &JobFault::Refused(JobRefusal::Functions(fault, 0, name)),
     )
 }
 
@@ -198,10 +197,8 @@ pub fn linked_from(
     object: &[u8],
     stubs: &[Stub],
 ) -> Result<Linked, LinkFault>
-    ensures ok { IfOk result (IsLinkedAs object.now (section_of job.now) (entry_of job.now)
-        stubs.now job.now.options.as_compiled) }
-    ensures err { IfErr result (IsLinkRefusal object.now (section_of job.now)
-        (entry_of job.now) stubs.now job.now.options.as_compiled) }
+    ensures ok { IfOk result (IsLinkedAs (link_of job.now object.now stubs.now)) }
+    ensures err { IfErr result (IsLinkRefusal (link_of job.now object.now stubs.now)) }
 {
     link_with(
         alloc,
@@ -211,6 +208,7 @@ pub fn linked_from(
             entry: entry_of(job),
             stubs,
             as_compiled: job.options.as_compiled,
+            packet: job.options.packet,
         },
     )
 }
@@ -248,7 +246,7 @@ fn fields_if(job: &Job<'_>, count: u32) -> Option<u64>
 }
 
 /// The name of the section that is linked: empty where the only one is meant.
-fn section_of<'a>(job: &Job<'a>) -> &'a [u8]
+pub fn section_of<'a>(job: &Job<'a>) -> &'a [u8]
     ensures { result.now ≡ section_of job.now }
 {
     match job.options.section {

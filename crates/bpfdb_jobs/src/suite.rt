@@ -6,15 +6,15 @@ ghost use Rattle.bpfdb_faults.specs.Streams.{Told, stream};
 ghost use Rattle.bpfdb_faults.specs.Faults.{line_of};
 ghost use Rattle.bpfdb_jobs.specs.Refusals.{LacksName};
 ghost use Rattle.bpfdb_jobs.specs.Shown.{EndsTest};
-ghost use Rattle.bpfdb_jobs.specs.Suites.{AreAsked, EndsTests, fault_of_file, fault_of_suite, report, status_of};
+ghost use Rattle.bpfdb_jobs.specs.Suites.{AreAsked, CoversTests, EndsCover, EndsTables, EndsTests, fault_of_file, fault_of_suite, report, status_of};
 ghost use Rattle.counted_io.specs.Writing.{Writes};
 
 use crate::job::Job;
 use crate::show::show_job;
 use bpf_suite::{FileFault, Suite, SuiteFault, TestList, choose, run_tests, write_plan};
-use bpfdb_faults::{JobFault, JobRefusal, give_up};
+use bpfdb_faults::{JobFault, JobRefusal, give_up, write_out};
 use counted_io::{Counted, WriteFault};
-use std::alloc::Global;
+use std::alloc::{AllocError, Global};
 use std::io::Write;
 
 /// Runs the tests of a file, or those of a name, and reports on each, or shows a part of one.
@@ -29,8 +29,63 @@ pub fn test_job<W: Write, E: Write>(
     ensures status { result ≤ 2 }
 {
     match job.options.show {
-        None => report_job(alloc, job, writer, errors),
+        None => cover_job(alloc, job, writer, errors),
         Some(part) => show_job(alloc, job, part, writer, errors),
+    }
+}
+
+/// Runs the tests of a file, or those of a name, reports on each, and tells what ran of their
+/// programs, if that is asked.
+fn cover_job<W: Write, E: Write>(
+    alloc: Global,
+    job: &Job<'_>,
+    writer: &mut Counted<W>,
+    errors: &mut Counted<E>,
+) -> u8
+    ensures does { EndsCover job.now.options.covers job.now
+        (stream W.contents writer.old writer.new) (stream E.contents errors.old errors.new) result }
+    ensures status { result ≤ 2 }
+{
+    if !job.options.covers {
+        return report_job(alloc, job, writer, errors);
+    }
+    let reported = report_job(alloc, job, writer, errors);
+    if reported == 2 {
+        return reported;
+    }
+    tell_cover(alloc, job, reported, writer, errors)
+}
+
+/// Tells what ran of the programs of tests, which were reported on with this status.
+fn tell_cover<W: Write, E: Write>(
+    alloc: Global,
+    job: &Job<'_>,
+    reported: u8,
+    writer: &mut Counted<W>,
+    errors: &mut Counted<E>,
+) -> u8
+    requires { reported ≤ 2 }
+    ensures does { EndsTables job.now reported (stream W.contents writer.old writer.new)
+        (stream E.contents errors.old errors.new) result }
+    ensures status { result ≤ 2 }
+{
+    let text = match cover_of(alloc, job) {
+        Ok(text) => text,
+        Err(_) => return give_up(errors, &JobFault::Memory),
+    };
+    match write_out(writer, text.as_slice()) {
+        Ok(()) => reported,
+        Err(WriteFault) => give_up(errors, &JobFault::Output),
+    }
+}
+
+/// The tables of what ran of the programs of tests. (The file was read before: it has no fault.)
+fn cover_of(alloc: Global, job: &Job<'_>) -> Result<Vec<u8>, AllocError>
+    ensures { IfOk result (λ text. CoversTests job.now text.items) }
+{
+    match Suite::read(alloc, job.file) {
+        Ok(suite) => suite.cover(alloc, job.options.only),
+        Err(_) => Err(AllocError),
     }
 }
 

@@ -1,7 +1,7 @@
 -- The names of the subcommands.
 use Rattle.std.specs.Prelude.{ℕ, List, codes}
 use Rattle.bpfdb_options.specs.declared.subcommand.Subcommand.{Subcommand}
-use Rattle.bpfdb_options.specs.declared.subcommand.Subcommand.TheVariants.{Run, Trace, Debug, Origin, Whynot, Gdb, Asm, Disasm, Lines, Check, Link, Test}
+use Rattle.bpfdb_options.specs.declared.subcommand.Subcommand.TheVariants.{Run, Trace, Debug, Origin, Whynot, Diff, Gdb, Asm, Disasm, Lines, Check, Link, Test}
 
 -- As help lists them.
 abbrev pub subcommand_name : Subcommand → List ℕ
@@ -10,6 +10,7 @@ subcommand_name Trace = codes "trace"
 subcommand_name Debug = codes "debug"
 subcommand_name Origin = codes "origin"
 subcommand_name Whynot = codes "whynot"
+subcommand_name Diff = codes "diff"
 subcommand_name Gdb = codes "gdb"
 subcommand_name Asm = codes "asm"
 subcommand_name Disasm = codes "disasm"

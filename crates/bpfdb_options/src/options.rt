@@ -1,10 +1,14 @@
 //! The options that say how a job is done.
 use crate::registers::Registers;
 use crate::test_part::TestPart;
+use bpf_packet::Packet;
 use bpfdb_limits::{DEFAULT_JOURNAL, DEFAULT_LIMIT, GREATEST_COUNT};
 
 /// The most lines of an answer where no number is given.
 pub const DEFAULT_LINES: u64 = 1_000;
+
+/// The most objects that are joined to those of FILE and of the first `--with`.
+pub const MOST_FURTHER: usize = 15;
 
 /// Options. One that a subcommand doesn't have stands as when it is absent.
 #[derive(Clone, Copy)]
@@ -36,6 +40,8 @@ pub struct Options<'a> {
     pub stubs: Option<&'a str>,
     /// Relocations of fields are left undone: fields stay where they were when it was compiled.
     pub as_compiled: bool,
+    /// The kernel's struct that the entry of an object takes; without it its context is the machine's.
+    pub packet: Option<Packet>,
     /// The object that is linked is written, and not its program.
     pub is_joined: bool,
     /// The machine that gdb takes this one for.
@@ -49,10 +55,14 @@ pub struct Options<'a> {
     pub addresses: bool,
     /// An answer about slots leaves out where the values came from that decided it.
     pub alone: bool,
+    /// The other file is a second context, and not a second program.
+    pub other_is_context: bool,
     /// The name of the tests that are run; without it all are.
     pub only: Option<&'a str>,
     /// The part that is shown of the one test that is asked for; without it tests are run.
     pub show: Option<TestPart>,
+    /// What ran of the programs is told behind the report on tests.
+    pub covers: bool,
 }
 
 /// The options where each is absent.
@@ -70,12 +80,15 @@ pub const NO_OPTIONS: Options<'static> = Options {
     entry: None,
     stubs: None,
     as_compiled: false,
+    packet: None,
     is_joined: false,
     registers: Registers::X86,
     what: None,
     lines: DEFAULT_LINES,
     addresses: false,
     alone: false,
+    other_is_context: false,
     only: None,
     show: None,
+    covers: false,
 };

@@ -15,6 +15,8 @@ pub enum Subcommand {
     Origin,
     /// The program runs, and why it did not come to a slot is told.
     Whynot,
+    /// Two runs go in step, and where they part is told.
+    Diff,
     /// gdb is served.
     Gdb,
     /// A listing is assembled.
@@ -44,6 +46,7 @@ impl Subcommand {
             "debug" => Some(Subcommand::Debug),
             "origin" => Some(Subcommand::Origin),
             "whynot" => Some(Subcommand::Whynot),
+            "diff" => Some(Subcommand::Diff),
             "gdb" => Some(Subcommand::Gdb),
             "asm" => Some(Subcommand::Asm),
             "disasm" => Some(Subcommand::Disasm),

@@ -14,6 +14,8 @@ from client import Client, hold
 OVER = sys.argv[1]
 HERE = os.getcwd()
 OVERRUN, FAULT = os.path.join(HERE, 'overrun.c'), os.path.join(HERE, 'program.s')
+# The line where the program of overrun.c begins: of its name by BTF, of its body by DWARF.
+ENTRY = 29 if sys.argv[1:] == ['bpfdb'] else 30
 LOOP = 'mov r0, 0\nloop: add r0, 1\nja loop\nexit\n'
 STORIES = []
 
@@ -42,7 +44,7 @@ def left(editor):
 def readme():
     """README's session, at lines of C: the fault, back to the store, out of the loop, the good end, and both again."""
     editor, stop = started()
-    hold(stop, ('entry', 'entry', 30), 'the entry')
+    hold(stop, ('entry', 'entry', ENTRY), 'the entry')
     hold(editor.go('continue'), ('exception', 'size_of', 26), 'the fault')
     hold(editor.body['description'], 'fault access 0x10077656d at 25', 'its description')
     information = editor.ask('exceptionInfo', threadId=1)
@@ -266,7 +268,7 @@ def jump():
     before = editor.state()
     hold(editor.go('goto', targetId=targets[-1]['id'])[::2], ('goto', 34), 'the line')
     editor.hand('undo')
-    hold(editor.stop()[::2], ('step', 30), 'back')
+    hold(editor.stop()[::2], ('step', ENTRY), 'back')
     hold(editor.state(), before, 'the state')
     hold(editor.ask('gotoTargets', source=source, line=5)['targets'], [], 'a line without instructions')
     hold(editor.refused('goto', threadId=1, targetId=4000), 'refused Q8: no instruction starts there', 'no slot')
@@ -290,7 +292,7 @@ def by_hand():
     hold('size_of' in {one['label'] for one in editor.ask('completions', text='1 + si', column=7)['targets']}, True, 'completion of a name')
     editor.go('continue')
     editor.ask('restart')
-    hold(editor.stop(), ('entry', 'entry', 30), 'the entry again')
+    hold(editor.stop(), ('entry', 'entry', ENTRY), 'the entry again')
     hold(editor.hand('info history').split(',')[0], '0 moves', 'nothing has run')
     hold(editor.ask('threads')['threads'], [{'id': 1, 'name': 'overrun.o'}], 'the thread')
     hold([one['name'] for one in editor.ask('loadedSources')['sources']], ['overrun.c', 'overrun.o (instructions)'], 'sources')

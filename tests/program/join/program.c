@@ -58,6 +58,11 @@ SEC("kind") u64 of_kind(void *context)
 
 SEC("unanswered") u64 missing(void *context) { return bpf_get_smp_processor_id(); }
 
+/* what this object lacks: of one function two symbols, of the other one alone */
+extern u64 elsewhere(void);
+SEC("lacking") u64 lacks_two(void *context) { return elsewhere() + sum(1, 2) + elsewhere(); }
+SEC("lacking") u64 lacks_one(void *context) { return sum(1, 2); }
+
 /* the kernel's helpers 14, 5, 130 and 5 again, one without a name, and 211, the last one with a name */
 #define HELPER(number) ((u64 (*)(void))(long)(number))()
 SEC("several") u64 unknown(void *context)

@@ -1,6 +1,7 @@
-use Rattle.std.proofs.Common.{◌∙◌, inl, inr, length, sym, ap, subst}
+use Rattle.std.proofs.Common.{◌∙◌, inl, inr, length, refl, sym, ap, subst}
 use Rattle.bpf_isa.specs.Checker.{IsAccepted, IsRefused}
 use Rattle.bpf_link.specs.Links.{least_maps, told_of}
+use Rattle.bpf_link.specs.declared.fault.LinkFault.TheVariants.{Memory}
 use Rattle.bpf_link.proofs.linker.link_plan.Goals as goal
 
 pub told_of-requires : goal.told_of-requires
@@ -25,6 +26,9 @@ returns c =
         }),
       );
     }
+
+pub returns-in-Err-Memory-clause-err : goal.returns-in-Err-Memory-clause-err
+returns-in-Err-Memory-clause-err c = inl (Memory, inl refl, refl)
 
 pub returns-in-Ok-check-clause-err : goal.returns-in-Ok-check-clause-err
 returns-in-Ok-check-clause-err c =

@@ -1,6 +1,6 @@
 use Rattle.std.proofs.Common.{refl}
 use Rattle.bpfdb.specs.Done.{Done, Unread}
-use Rattle.bpfdb.specs.Files.{OfFile, OfPath, OfOther}
+use Rattle.bpfdb.specs.Files.{OfFile, OfFurther, OfOther, OfPath}
 use Rattle.bpfdb.proofs.doing.do_plan.Goals as goal
 
 pub returns-in-Err-clause-does : goal.returns-in-Err-clause-does
@@ -19,10 +19,23 @@ returns-in-Err-read_given-2-clause-does g c =
     (OfOther c.in-Ok.file.items c.in-Ok-read_given.context.items file c.in-Ok-read_given.ensures.ok c.in-Err-read_given-2.ensures.err) refl refl
     c.give_up-in-Err-read_given-2.ensures.told c.give_up-in-Err-read_given-2.ensures.value
 
+pub returns-in-Err-read_each-clause-does : goal.returns-in-Err-read_each-clause-does
+returns-in-Err-read_each-clause-does g c =
+    let file = rw c.kind_of.ensures at c.in-Ok.ensures.ok in
+    Unread c.in-Err-read_each.fault
+    (OfFurther c.in-Ok.file.items c.in-Ok-read_given.context.items c.in-Ok-read_given-2.other.items file c.in-Ok-read_given.ensures.ok
+    c.in-Ok-read_given-2.ensures.ok (rw c.as_slice.ensures.value at c.in-Err-read_each.ensures.err)) refl refl
+    c.give_up-in-Err-read_each.ensures.told c.give_up-in-Err-read_each.ensures.value
+
 pub returns-clause-does : goal.returns-clause-does
 returns-clause-does g c =
     let file = rw c.kind_of.ensures at c.in-Ok.ensures.ok in
     let does = c.do_read.ensures.does in
-    let is = rw (c.as_slice.ensures.value, c.as_slice-2.ensures.value, c.as_slice-3.ensures.value) at does.1 in
-    Done c.in-Ok.file.items c.in-Ok-read_given.context.items c.in-Ok-read_given-2.other.items does.0
-    (record { file = file; context = c.in-Ok-read_given.ensures.ok; other = c.in-Ok-read_given-2.ensures.ok }) is does.2
+    let is = rw (c.as_slice-2.ensures.value, c.as_slice-3.ensures.value, c.as_slice-4.ensures.value, c.as_slice-5.ensures.value) at does.1 in
+    Done c.in-Ok.file.items c.in-Ok-read_given.context.items c.in-Ok-read_given-2.other.items _ does.0
+    (record {
+      file = file;
+      context = c.in-Ok-read_given.ensures.ok;
+      other = c.in-Ok-read_given-2.ensures.ok;
+      further = rw c.as_slice.ensures.value at c.in-Ok-read_each.ensures.ok;
+    }) is does.2

@@ -5,7 +5,7 @@ pub returns-in-Object : goal.returns-in-Object
 returns-in-Object g c = rw c.in-Object.is (c.put_object.ensures)
 
 pub returns-in-Functions : goal.returns-in-Functions
-returns-in-Functions g c = rw c.in-Functions.is (c.put_object-in-Functions.ensures)
+returns-in-Functions g c = rw c.in-Functions.is c.put_functions.ensures
 
 pub returns-in-NoTest : goal.returns-in-NoTest
 returns-in-NoTest g c = λ first front known.

@@ -24,6 +24,11 @@ returns-in-Whynot-clause-does g c =
     subst (λ (s : Subcommand). DoesPlain s c.args.job.now (stream g.R.Read.remaining c.args.reader.now c.args.reader.now)
     (stream g.W.Write.contents c.args.writer.now c.whynot_job.new.writer) (stream g.E.Write.contents c.args.errors.now c.whynot_job.new.errors) c.whynot_job.result) (sym c.in-Whynot.is) (refl, c.whynot_job.ensures.does)
 
+pub returns-in-Diff-clause-does : goal.returns-in-Diff-clause-does
+returns-in-Diff-clause-does g c =
+    subst (λ (s : Subcommand). DoesPlain s c.args.job.now (stream g.R.Read.remaining c.args.reader.now c.args.reader.now)
+    (stream g.W.Write.contents c.args.writer.now c.diff_job.new.writer) (stream g.E.Write.contents c.args.errors.now c.diff_job.new.errors) c.diff_job.result) (sym c.in-Diff.is) (refl, c.diff_job.ensures.does)
+
 pub returns-in-Gdb-clause-does : goal.returns-in-Gdb-clause-does
 returns-in-Gdb-clause-does g c =
     subst (λ (s : Subcommand). DoesPlain s c.args.job.now (stream g.R.Read.remaining c.args.reader.now c.gdb_job.new.reader)

@@ -8,7 +8,7 @@ use Rattle.bpfdb_jobs.proofs.object.put_object.Goals as goal
 
 pub returns-then-job-clause-does : goal.returns-then-job-clause-does
 returns-then-job-clause-does g c =
-    out-printed Link c.args.job.now c.args.object.now c.write_out-written.result c.ended.result (subst (λ b. LinkPrints b c.args.job.now (printed c.args.object.now)) (sym c.if-job.true) (c.args.object.now, c.args.counted, c.requires.object, refl))
+    out-printed Link c.args.job.now c.args.object.now c.write_out-written.result c.ended.result (subst (λ b. LinkPrints b c.args.job.now (printed c.args.object.now)) (sym c.if-job.true) ((c.args.stubs.now, c.requires.stubs), c.args.object.now, c.args.counted, c.requires.object, refl))
     c.write_out-written.ensures c.ended.ensures.ok c.ended.ensures.err
 
 pub put_program-requires-clause-linked : goal.put_program-requires-clause-linked
@@ -19,4 +19,4 @@ pub returns-in-Err-clause-does : goal.returns-in-Err-clause-does
 returns-in-Err-clause-does g c =
     let told = c.refuse.ensures.told in
     Refused (Object c.in-Err.fault told.0)
-    (inr (c.args.object.now, c.args.counted, c.requires.object, told.1, (c.args.stubs.now, c.requires.stubs, c.in-Err.ensures.err))) refl told.2 c.refuse.ensures.value
+    (inr (inr (c.args.object.now, c.args.counted, c.requires.object, told.1, (c.args.stubs.now, c.requires.stubs, c.in-Err.ensures.err)))) refl told.2 c.refuse.ensures.value

@@ -11,7 +11,7 @@ invariant-loop-taken g l = record {
   some : 1 ≤ l.taken;
   within : l.taken ≤ l.most;
   size : l.self.ring.size ≡ l.fn.self.ring.size;
-  room : length l.room ≡ 1008;
+  room : length l.room ≡ 4096;
   running : Running (g.T.StopTest.test l.test) l.fn.cpu l.cpu l.taken;
   held : (ks : List Kept) → IsHeld l.fn.self.ring l.fn.self.counts ks → IsHeld l.self.ring l.self.counts (kept_after l.fn.self.ring.size l.taken l.fn.cpu ks);
 }

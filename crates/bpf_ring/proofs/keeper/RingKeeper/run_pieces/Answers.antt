@@ -12,48 +12,48 @@ returns-then-is_last g c =
     let i = c.loop-reached.invariant in
     let test = g.T.StopTest.test c.args.test.now in
     let size = c.args.self.now.ring.size in
-    let piece = c.keep_piece-count in
+    let piece = c.keep_piece-piece in
     let new = piece.new.self in
-    let n = piece.result in
+    let n = piece.result.count in
     let t = c.loop-reached.reached in
     let y = c.loop-reached.cpu in
     let some : 1 ≤ t = omega (arith, c.requires.goes.some, i.from) in
-    let within : t + n ≤ c.args.most = omega (arith, piece.ensures.within, c.min-left.ensures, i.within) in
+    let within : t + n ≤ c.args.most = omega (arith, piece.ensures.piece.within, c.min-left.ensures, i.within) in
     let holds = c.is_last.ensures.holds c.if-is_last.true in
     record {
-      size = piece.ensures.size ∙ i.size;
+      size = piece.ensures.piece.size ∙ i.size;
       on = (omega (arith, i.from), within);
       before = λ no. absurd cc;
       run = record {
         runs = λ no. absurd cc;
         goes_on = λ x running no. absurd cc;
-        over = λ x running over. stops_there test x y piece.new.cpu t n (i.running x running) some piece.ensures.piece c.args.most within holds.0 holds.1;
+        over = λ x running over. stops_there test x y piece.new.cpu t n (i.running x running) some piece.ensures.piece.piece c.args.most within holds.0 holds.1;
       };
       held = λ x ks from held.
           let here = kept_after size t x ks in
-          subst (IsHeld new.ring new.counts) (ap (λ (s : ℕ). kept_on s n y here) i.size ∙ kept_behind size t n x y ks some (i.state x from)) (piece.ensures.held here (i.held x ks from held));
-      room = piece.ensures.room;
+          subst (IsHeld new.ring new.counts) (ap (λ (s : ℕ). kept_on s n y here) i.size ∙ kept_behind size t n x y ks some (i.state x from)) (piece.ensures.piece.held here (i.held x ks from held));
+      room = piece.ensures.room ∙ i.room;
     }
 
-pub returns-then-count-lt-STEPS : goal.returns-then-count-lt-STEPS
-returns-then-count-lt-STEPS g c =
+pub returns-then-ends : goal.returns-then-ends
+returns-then-ends g c =
     let i = c.loop-reached.invariant in
     let test = g.T.StopTest.test c.args.test.now in
     let size = c.args.self.now.ring.size in
-    let piece = c.keep_piece-count in
+    let piece = c.keep_piece-piece in
     let new = piece.new.self in
-    let n = piece.result in
+    let n = piece.result.count in
     let t = c.loop-reached.reached in
     let y = c.loop-reached.cpu in
     let some : 1 ≤ t = omega (arith, c.requires.goes.some, i.from) in
-    let within : t + n ≤ c.args.most = omega (arith, piece.ensures.within, c.min-left.ensures, i.within) in
-    let on = λ (x : State) (running : Running test x c.args.cpu.now c.args.taken). running_behind test x y piece.new.cpu t n (i.running x running) some piece.ensures.piece (c.is_last.ensures.goes_on c.if-is_last.false) in
+    let within : t + n ≤ c.args.most = omega (arith, piece.ensures.piece.within, c.min-left.ensures, i.within) in
+    let on = λ (x : State) (running : Running test x c.args.cpu.now c.args.taken). running_behind test x y piece.new.cpu t n (i.running x running) some piece.ensures.piece.piece (c.is_last.ensures.goes_on c.if-is_last.false) in
     record {
-      size = piece.ensures.size ∙ i.size;
+      size = piece.ensures.piece.size ∙ i.size;
       on = (omega (arith, i.from), within);
       before = λ no. grind (arith, nat_tests);
       run = record {
-        runs = λ no. piece.ensures.piece.runs;
+        runs = λ no. piece.ensures.piece.piece.runs;
         goes_on = λ x running no. on x running;
         over = λ x running over.
             let all : t + n ≡ c.args.most = grind (arith, nat_tests) in
@@ -61,29 +61,29 @@ returns-then-count-lt-STEPS g c =
       };
       held = λ x ks from held.
           let here = kept_after size t x ks in
-          subst (IsHeld new.ring new.counts) (ap (λ (s : ℕ). kept_on s n y here) i.size ∙ kept_behind size t n x y ks some (i.state x from)) (piece.ensures.held here (i.held x ks from held));
-      room = piece.ensures.room;
+          subst (IsHeld new.ring new.counts) (ap (λ (s : ℕ). kept_on s n y here) i.size ∙ kept_behind size t n x y ks some (i.state x from)) (piece.ensures.piece.held here (i.held x ks from held));
+      room = piece.ensures.room ∙ i.room;
     }
 
 pub loop-reached-preserved : goal.loop-reached-preserved
 loop-reached-preserved g c =
     let i = c.loop-reached.invariant in
     let size = c.args.self.now.ring.size in
-    let new = c.keep_piece-count.new.self in
-    let n = c.keep_piece-count.result in
+    let new = c.keep_piece-piece.new.self in
+    let n = c.keep_piece-piece.result.count in
     let t = c.loop-reached.reached in
     record {
-      runs = c.keep_piece-count.ensures.piece.runs;
+      runs = c.keep_piece-piece.ensures.piece.piece.runs;
       from = omega (arith, i.from);
-      within = omega (arith, c.keep_piece-count.ensures.within, c.min-left.ensures, i.within);
-      size = c.keep_piece-count.ensures.size ∙ i.size;
-      room = c.keep_piece-count.ensures.room;
+      within = omega (arith, c.keep_piece-piece.ensures.piece.within, c.min-left.ensures, i.within);
+      size = c.keep_piece-piece.ensures.piece.size ∙ i.size;
+      room = c.keep_piece-piece.ensures.room ∙ i.room;
       running = λ x running.
-          running_behind (g.T.StopTest.test c.args.test.now) x c.loop-reached.cpu c.keep_piece-count.new.cpu t n (i.running x running) (omega (arith, c.requires.goes.some, i.from)) c.keep_piece-count.ensures.piece
+          running_behind (g.T.StopTest.test c.args.test.now) x c.loop-reached.cpu c.keep_piece-piece.new.cpu t n (i.running x running) (omega (arith, c.requires.goes.some, i.from)) c.keep_piece-piece.ensures.piece.piece
           (c.is_last.ensures.goes_on c.if-is_last.false);
-      state = λ x from. c.keep_piece-count.ensures.piece.state ∙ ap (state_after n) (i.state x from) ∙ state_on n t x;
+      state = λ x from. c.keep_piece-piece.ensures.piece.piece.state ∙ ap (state_after n) (i.state x from) ∙ state_on n t x;
       held = λ x ks from held.
           let here = kept_after size t x ks in
           subst (IsHeld new.ring new.counts) (ap (λ (s : ℕ). kept_on s n c.loop-reached.cpu here) i.size ∙ kept_behind size t n x c.loop-reached.cpu ks (omega (arith, c.requires.goes.some, i.from)) (i.state x from))
-          (c.keep_piece-count.ensures.held here (i.held x ks from held));
+          (c.keep_piece-piece.ensures.piece.held here (i.held x ks from held));
     }

@@ -12,7 +12,7 @@ invariant-loop-reached g l = record {
   from : l.taken ≤ l.reached;
   within : l.reached ≤ l.most;
   size : l.self.ring.size ≡ l.initial.self.ring.size;
-  room : length l.room ≡ 1008;
+  room : length l.room ≡ 4096;
   running : (x : State) → Running (g.T.StopTest.test l.test) x l.initial.cpu l.taken → Running (g.T.StopTest.test l.test) x l.cpu l.reached;
   state : (x : State) → l.initial.cpu ≡ state_after l.taken x → l.cpu ≡ state_after l.reached x;
   held : (x : State) (ks : List Kept) → l.initial.cpu ≡ state_after l.taken x → IsHeld l.initial.self.ring l.initial.self.counts (kept_after l.initial.self.ring.size l.taken x ks) → IsHeld l.self.ring l.self.counts (kept_after l.initial.self.ring.size l.reached x ks);

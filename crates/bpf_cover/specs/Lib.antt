@@ -1,0 +1,4 @@
+pub mod Coverage
+pub mod Marking
+pub mod Runs
+pub mod Texts

@@ -1,0 +1,7 @@
+//! What ran of a program, over its runs: which instructions, and which ways of conditional jumps.
+#![tactic(auto)]
+
+mod coverage;
+mod texts;
+
+pub use coverage::Coverage;

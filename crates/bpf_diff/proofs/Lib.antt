@@ -1,0 +1,5 @@
+pub mod Following
+pub mod Telling
+pub mod Comparing
+pub mod Longest
+pub mod Writes

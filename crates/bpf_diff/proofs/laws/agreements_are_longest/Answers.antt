@@ -1,0 +1,5 @@
+use Rattle.bpf_diff.proofs.Longest.{law_longest}
+use Rattle.bpf_diff.proofs.laws.agreements_are_longest.Goals as goal
+
+pub returns : goal.returns
+returns c = law_longest

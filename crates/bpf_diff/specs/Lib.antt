@@ -1,0 +1,5 @@
+pub mod Alike
+pub mod Ends
+pub mod Differences
+pub mod Following
+pub mod Laws

@@ -1,0 +1,68 @@
+-- The texts of rows, put together.
+use Rattle.std.proofs.Common.{◌≡◌, ◌≢◌, ℕ, suc, ◌+◌, ◌*◌, ◌==◌, false, List, [], ◌++◌, append_assoc, refl, sym, ap, ◌∙◌, arith, codes, decimal}
+use Rattle.std.specs.Prelude.{Option, Some, slice_index, if◌then◌else◌}
+use Rattle.bpf_link.specs.Names.{built, short_at}
+use Rattle.bpf_link.specs.declared.parts.Part.{Part}
+use Rattle.bpf_link.specs.declared.plan.Plan.{Plan}
+use Rattle.bpf_lines.specs.Functions.{function_at}
+use Rattle.bpf_lines.specs.LineInfo.{line_at, line_entry, record_place}
+use Rattle.bpf_lines.specs.Objects.{begin_of, joined_table, object_rows, slots_of}
+use Rattle.bpf_lines.specs.Passed.{said_by}
+use Rattle.bpf_lines.specs.Rows.{entry_word, line_word, row_by, row_text, with_row, word_of}
+use Rattle.bpf_lines.specs.Slots.{last_said}
+use Rattle.bpf_lines.specs.declared.line_info.LineEntry.{LineEntry}
+use Rattle.bpf_lines.specs.declared.objects.ObjectLines.{ObjectLines}
+use Rattle.bpf_lines.specs.declared.part_lines.PartLines.{PartLines}
+use Rattle.bpf_lines.specs.declared.rows.Said.{Said}
+
+pub not_zero : (n : ℕ) → n ≢ 0 → (n == 0) ≡ false
+not_zero n h = grind arith
+
+pub entry_text : (strings front : List ℕ) (entry : LineEntry) → (entry.line == 0) ≡ false
+    → ((front ++ word_of (short_at strings entry.file)) ++ codes ":") ++ decimal entry.line ≡ front ++ entry_word strings entry
+entry_text strings front entry e =
+    in_line front (word_of (short_at strings entry.file)) (codes ":") (decimal entry.line)
+    ∙ ap (λ text. front ++ text)
+    (sym (ap (λ b. if b then codes "-" else word_of (short_at strings entry.file) ++ codes ":" ++ decimal entry.line) e))
+  where
+    in_line : (front name by number : List ℕ) → ((front ++ name) ++ by) ++ number ≡ front ++ (name ++ by ++ number)
+    in_line front name by number = simp append_assoc refl
+
+pub line_is : (strings listed : List ℕ) (block line : Option ℕ) (b i : ℕ) (entry : LineEntry) → block ≡ Some b → line ≡ Some i
+    → entry ≡ line_entry listed (record_place listed b i) → entry_word strings entry ≡ line_word strings listed block line
+line_is strings listed block line b i entry e f g =
+    ap (entry_word strings) g ∙ sym (ap (λ x. line_word strings listed x line) e ∙ ap (λ x. line_word strings listed (Some b) x) f)
+
+pub row_parts : (front a b c d e f : List ℕ) → (((((front ++ a) ++ b) ++ c) ++ d) ++ e) ++ f ≡ front ++ (a ++ b ++ c ++ d ++ e ++ f)
+row_parts front a b c d e f = simp append_assoc refl
+
+-- the row of what is said
+pub row_is : (plan : Plan) (told : PartLines) (words : List ℕ) (number : ℕ) (function line : Option ℕ) (said : Said)
+    → (slice_index words (8 * number) == 0) ≡ false → function ≡ said.function → line ≡ said.line
+    → row_text plan told number (record { function = function; line = line }) ≡ row_by plan told words number said
+row_is plan told words number function line said e f l =
+    ap (λ x. row_text plan told number (record { function = x; line = line })) f
+    ∙ ap (λ x. row_text plan told number (record { function = said.function; line = x })) l
+    ∙ sym (ap (λ b. if b then [] else row_text plan told number said) e)
+
+-- one more row
+pub row_more : (plan : Plan) (part : Part) (told : PartLines) (words : List ℕ) (first slot n : ℕ) (function line : Option ℕ) → n ≡ suc slot
+    → function ≡ last_said (function_at plan part.section) n → line ≡ last_said (line_at told.listed told.block) n
+    → built (with_row plan part told words first) slot
+    ++ row_by plan told words (first + slot) (said_by plan part told (record { function = function; line = line }))
+    ≡ built (with_row plan part told words first) n
+row_more plan part told words first slot n function line at f l =
+    ap (λ x. built (with_row plan part told words first) slot ++ row_by plan told words (first + slot) (said_by plan part told (record { function = x; line = line })))
+    (f ∙ ap (last_said (function_at plan part.section)) at)
+    ∙ ap (λ x. built (with_row plan part told words first) slot
+    ++ row_by plan told words (first + slot) (said_by plan part told (record { function = last_said (function_at plan part.section) (suc slot); line = x })))
+    (l ∙ ap (last_said (line_at told.listed told.block)) at)
+    ∙ ap (built (with_row plan part told words first)) (sym at)
+
+-- both tables
+pub joined_is : (words : List ℕ) (own more : ObjectLines) (first count others : ℕ) → first ≡ begin_of words (count + others) → count ≡ slots_of own
+    → others ≡ slots_of more → object_rows own words first ++ object_rows more words (first + count) ≡ joined_table words own more
+joined_is words own more first count others f c o =
+    ap (λ n. object_rows own words first ++ object_rows more words (first + n)) c
+    ∙ ap (λ n. object_rows own words n ++ object_rows more words (n + slots_of own))
+    (f ∙ ap (λ n. begin_of words (n + others)) c ∙ ap (λ n. begin_of words (slots_of own + n)) o)

@@ -1,0 +1,17 @@
+//! The functions and lines of a linked program's slots, from the symbols and the BTF of its object.
+#![tactic(auto)]
+
+mod fields;
+mod functions;
+mod line_info;
+mod marks;
+mod names;
+mod objects;
+mod part_lines;
+mod rows;
+mod slots;
+
+pub use line_info::LineEntry;
+pub use objects::{ObjectLines, object_lines, write_joined, write_own};
+pub use part_lines::PartLines;
+pub use rows::Said;

@@ -1,0 +1,11 @@
+pub mod Slots
+pub mod Holding
+pub mod Fields
+pub mod Flow
+pub mod Faults
+pub mod Names
+pub mod Uses
+pub mod Tables
+pub mod Rewriting
+pub mod Entry
+pub mod Packets

@@ -1,0 +1,55 @@
+//! The line of a step that was taken.
+ghost use Rattle.std.specs.Prelude.{◌++◌, flat_map};
+ghost use Rattle.bpf_isa.specs.Programs.{IsStart};
+ghost use Rattle.bpf_steps.specs.State.{State};
+ghost use Rattle.bpf_trace.specs.Taken.{Took, parts_by};
+ghost use Rattle.bpf_trace.specs.Traces.{step_line, written_text};
+ghost use Rattle.counted_io.specs.Writing.{WritesAfter};
+
+use crate::line::Line;
+use crate::parts::add_parts;
+use bpf_machine::{Change, Cpu};
+use bpfdb_replies::put_at;
+use counted_io::{Counted, WriteFault, put, put_decimal};
+use std::io::Write;
+
+/// A step that was taken: its slot, and what it did.
+#[derive(Clone, Copy)]
+pub struct Taken {
+    pub slot: u16,
+    pub change: Change,
+}
+
+/// Writes the line of a step that led to where a machine stands, as a trace has it.
+pub fn put_taken<W: Write>(
+    writer: &mut Counted<W>,
+    so_far: Result<(), WriteFault>,
+    number: u64,
+    taken: &Taken,
+    cpu: &Cpu,
+) -> Result<(), WriteFault>
+    requires { IsStart cpu.now.program taken.now.slot }
+    ensures { (x : State) → Took x cpu.now taken.now →
+        WritesAfter W.contents writer.old so_far writer.new result (step_line number x) }
+{
+    let counted = put_decimal(writer, so_far, number);
+    let parted = put(writer, counted, b" ");
+    let named = put_at(writer, parted, cpu.program(), usize::from(taken.slot));
+    let told = put_parts(writer, named, cpu, &taken.change);
+    put(writer, told, b"\n")
+}
+
+/// Writes each part that the step with this change wrote, in the machine after it.
+fn put_parts<W: Write>(
+    writer: &mut Counted<W>,
+    so_far: Result<(), WriteFault>,
+    cpu: &Cpu,
+    change: &Change,
+) -> Result<(), WriteFault>
+    ensures { WritesAfter W.contents writer.old so_far writer.new result
+        (flat_map (written_text cpu.now) (parts_by cpu.now change.now)) }
+{
+    let mut line = Line::new();
+    add_parts(&mut line, cpu, change);
+    put(writer, so_far, line.as_slice())
+}
