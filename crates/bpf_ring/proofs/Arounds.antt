@@ -1,6 +1,6 @@
 -- Bytes around a block's end, item by item.
-use Rattle.std.proofs.Common.{◌≡◌, ℕ, ◌+◌, ◌-◌, ◌≤◌, ◌<◌, ◌⊎◌, List, [], ◌++◌, length, get_or, take, drop, refl, sym, ap, ◌∙◌, append_assoc, arith, inl, inr}
-use Rattle.std.proofs.lemmas.List.{drop_at, length-append, length-drop, drop-drop, take_all, drop_all, append-nil, take-append-drop, take-append-le, take-take, drop-append-le, length-take, get_or-take, get_or-drop, get_or_append_left, get_or-append_right, same_lists}
+use Rattle.std.proofs.Common.{◌≡◌, ℕ, ◌+◌, ◌-◌, ◌≤◌, ◌<◌, ◌⊎◌, List, ◌++◌, length, get_or, take, drop, refl, sym, ap, ◌∙◌, append_assoc, arith, inl, inr}
+use Rattle.std.proofs.lemmas.List.{drop_at, length-append, length-drop, drop-drop, take_all, take-append-drop, take-append-le, take-take, drop-append-le, length-take, get_or-take, get_or-drop, get_or_append_left, get_or-append_right, same_lists}
 use Rattle.std.proofs.lemmas.Grind.{common_steps}
 use Rattle.std.proofs.lemmas.Bool.{cases_lt}
 use Rattle.std.proofs.lemmas.Bool.Decides.{nat_tests}
@@ -209,22 +209,6 @@ wraps xs es one two first len end e w a b c f g =
     ∙ ap (λ n. around (pasted (pasted xs end x) 0 y) first n) count
     ∙ around_two xs x y first len end is a (omega (arith, nx, w)) (omega (arith, ny, is, b, c))
     ∙ ap (λ l. around xs first len ++ l) (take-append-drop here es)
-
--- A piece written at the front of the rest of the block.
-pub one_piece : (xs ys es : List ℕ) (first len end w : ℕ) → end ≡ behind (length xs) first len → first < length xs → len + w ≤ length xs → end + w ≤ length xs → length es ≡ w
-    → ys ≡ es ++ drop w (take (length xs - end) (drop end xs)) → around (put_mid end (length xs - end) xs ys) first (len + w) ≡ around xs first len ++ es
-one_piece xs ys es first len end w e a b c f g =
-    let rest : length (drop end xs) ≡ length xs - end = length-drop end xs in
-    let whole : take (length xs - end) (drop end xs) ≡ drop end xs = take_all (length xs - end) (drop end xs) (omega (arith, rest)) in
-    let past : drop (length xs - end) (drop end xs) ≡ [] = drop_all (length xs - end) (drop end xs) (omega (arith, rest)) in
-    let tail : drop w (take (length xs - end) (drop end xs)) ≡ drop (end + length es) xs = ap (drop w) whole ∙ drop-drop w end xs ∙ ap (λ m. drop (end + m) xs) (sym f) in
-    let same : put_mid end (length xs - end) xs ys ≡ pasted xs end es =
-    ap (λ l. take end xs ++ (l ++ drop (length xs - end) (drop end xs))) (g ∙ ap (λ t. es ++ t) tail)
-    ∙ ap (λ r. take end xs ++ ((es ++ drop (end + length es) xs) ++ r)) past
-    ∙ ap (λ l. take end xs ++ l) (append-nil (es ++ drop (end + length es) xs)) in
-    ap (λ l. around l first (len + w)) same
-    ∙ ap (λ n. around (pasted xs end es) first (len + n)) (sym f)
-    ∙ around_more xs es first len end e a (omega (arith, b, f)) (omega (arith, c, f))
 
 -- Bytes from a place on, and the newest ones, read where they lie: in the first of the two pieces that the block was lent in.
 around_piece : (xs front rest : List ℕ) (at n : ℕ) → front ++ rest ≡ xs → at + n ≤ length front → around xs at n ≡ take (at + n - at) (drop at front)

@@ -3,6 +3,7 @@ pub mod Counted
 pub mod Held
 pub mod Runs
 pub mod PieceLaws
+pub mod Edges
 pub mod StretchLaws
 pub mod Spans
 pub mod Touching

@@ -1,5 +1,6 @@
 pub mod Blocks
 pub mod Counted
+pub mod Edges
 pub mod Heads
 pub mod Grown
 pub mod Held

@@ -8,7 +8,6 @@ use Rattle.bpf_steps.specs.Entries.{step_entry}
 use Rattle.bpf_steps.specs.Next.{change, next}
 use Rattle.bpf_steps.specs.State.{State}
 use Rattle.bpf_steps.specs.declared.change.Change.{Change}
-use Rattle.bpf_ring.specs.Moments.{Moment}
 use Rattle.bpf_ring.specs.Blocks.{Content, around, behind}
 
 -- A machine runs, this is what `look` answers of it, and the step's entry has so many bytes.
@@ -31,31 +30,9 @@ pub record HasPlace (block : List ℕ) (from count : ℕ) : Type 0 where
   pub first : from < length block
   pub len : count ≤ length block
 
--- They end in front of a place, and from there on there is room for n more, in one piece, in front of the block's last byte.
-pub record HasRoomAt (block : List ℕ) (from count to n : ℕ) : Type 0 where
-  pub first : from < length block
-  pub end : to ≡ behind (length block) from count
-  pub room : to + n < length block
-  pub short : length block < 2 ^ 63
-
 -- Bytes were written behind them, unless that is no room for them in front of the block's last byte: then all stays.
 pub record WritesIn (old new : List ℕ) (from count : ℕ) (bytes : List ℕ) (done : Bool) : Type 0 where
   pub room : done ≡ nat_lt (behind (length old) from count + length bytes) (length old)
   pub stays : done ≡ false → new ≡ old
   pub len : length new ≡ length old
   pub text : done ≡ true → count + length bytes ≤ length old → around new from (count + length bytes) ≡ around old from count ++ bytes
-
--- The step was taken, and its entry, of n bytes, written behind them.
-pub record RecordsAt (x y : State) (old new : List ℕ) (from count n : ℕ) (mark : Bool) : Type 0 where
-  pub next : y ≡ next x
-  pub len : length new ≡ length old
-  pub text : count + n ≤ length old → around new from (count + n) ≡ around old from count ++ text (step_entry x) mark
-
--- The same, unless that is no room for it in front of the block's last byte: then all stays.
-pub record RecordsIn (old new : Moment (List ℕ)) (from count n : ℕ) (mark done : Bool) : Type 0 where
-  pub room : done ≡ nat_lt (behind (length old.keeper) from count + n) (length old.keeper)
-  pub stays : done ≡ false → (new.state ≡ old.state) × (new.keeper ≡ old.keeper)
-  pub next : done ≡ true → new.state ≡ next old.state
-  pub len : length new.keeper ≡ length old.keeper
-  pub text : done ≡ true → count + n ≤ length old.keeper
-      → around new.keeper from (count + n) ≡ around old.keeper from count ++ text (step_entry old.state) mark

@@ -1,10 +1,8 @@
 //! A block whose bytes go around its end.
 ghost use Rattle.std.specs.Prelude.{◌≡◌, ◌≤◌, ◌<◌, ◌+◌, ◌^◌, ◌++◌, length, take, true, false};
-ghost use Rattle.bpf_ring.specs.Moments.{beside};
 ghost use Rattle.bpf_ring.specs.Blocks.{around, behind};
-ghost use Rattle.bpf_ring.specs.Recorded.{CanRecord, HasPlace, HasRoomAt, RecordsAt, RecordsIn, WritesIn};
+ghost use Rattle.bpf_ring.specs.Recorded.{HasPlace, WritesIn};
 
-use bpf_machine::{Change, Cpu};
 use circular_buffer::HeapCircularBuffer;
 
 /// Fills a buffer with zeros so that it has so many bytes, or until it is full: 4,096 at a time.
@@ -99,51 +97,4 @@ pub(crate) fn copy(into: &mut [u8], bytes: &[u8])
         24 => into[..24].copy_from_slice(&bytes[..24]),
         _ => into.copy_from_slice(bytes),
     }
-}
-
-/// Lets a machine do what `look` answered of it, and writes the entry of that, which has so many
-/// bytes, behind the `len` ones from `first` on: in one piece, in front of the block's last byte.
-/// Where that is no room for it, all stays.
-#[inline(always)]
-pub(crate) fn record_in_place(
-    cpu: &mut Cpu,
-    change: &Change,
-    block: &mut [u8],
-    first: usize,
-    len: usize,
-    weight: usize,
-    mark: bool,
-) -> bool
-    requires can { CanRecord cpu.old change.now weight }
-    requires place { HasPlace block.old first len }
-    ensures { RecordsIn (beside cpu.old block.old) (beside cpu.new block.new)
-        first len weight mark result }
-{
-    let size = block.len();
-    let end = place(size, first, len);
-    if end + weight < size {
-        record_at(cpu, change, block, first, len, end, weight, mark);
-        true
-    } else {
-        false
-    }
-}
-
-/// Makes a change, and writes its entry to the block at a place that has room for it.
-#[inline(always)]
-pub(crate) fn record_at(
-    cpu: &mut Cpu,
-    change: &Change,
-    block: &mut [u8],
-    first: usize,
-    len: usize,
-    end: usize,
-    weight: usize,
-    mark: bool,
-)
-    requires can { CanRecord cpu.old change.now weight }
-    requires place { HasRoomAt block.old first len end weight }
-    ensures { RecordsAt cpu.old cpu.new block.old block.new first len weight mark }
-{
-    cpu.record(change, &mut block[end..end + weight], mark);
 }

@@ -1,5 +1,5 @@
 //! How many entries a ring holds, and of which sorts.
-ghost use Rattle.std.specs.Prelude.{◌≡◌, ◌≤◌, ◌<◌, ◌+◌, ◌-◌, ◌^◌, ◌∷◌, ◌++◌, [], List, length, count_by, nat_le, if◌then◌else◌, ◌%◌};
+ghost use Rattle.std.specs.Prelude.{◌≡◌, ◌≤◌, ◌<◌, ◌+◌, ◌-◌, ◌^◌, ◌∷◌, ◌++◌, [], List, length, count_by, nat_le, if◌then◌else◌, ◌%◌, true};
 ghost use Rattle.bpf_entries.specs.declared.entry.Entry.{Entry};
 ghost use Rattle.bpf_entries.specs.Keeping.{Kept};
 ghost use Rattle.bpf_entries.specs.Past.{is_of_step};
@@ -39,6 +39,14 @@ impl Counts {
         ensures { (ks : List Kept) → Counted self.now ks → result ≡ count_by (λ k. k.1) ks }
     {
         self.marks
+    }
+
+    /// Whether no entry is marked, and none is of an edit.
+    #[inline(always)]
+    pub(crate) fn are_plain(&self) -> bool
+        ensures { result ≡ true → (self.now.marks ≡ 0) × (self.now.edits ≡ 0) }
+    {
+        self.marks == 0 && self.edits == 0
     }
 
     /// How many are of steps.
@@ -128,14 +136,6 @@ impl Counts {
             self.edits = self.edits.saturating_sub(1);
         }
     }
-}
-
-/// One more, where a count is so low that there is one.
-#[inline(always)]
-pub(crate) fn one_more(count: usize) -> usize
-    ensures { count < 2 ^ 63 → result ≡ count + 1 }
-{
-    count.wrapping_add(1)
 }
 
 /// One less, and 0 for 0.

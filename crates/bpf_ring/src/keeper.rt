@@ -13,16 +13,17 @@ ghost use Rattle.bpf_machine.specs.Moves.{HasComeBy};
 ghost use Rattle.bpf_steps.specs.Next.{change as change_of};
 ghost use Rattle.bpf_ring.specs.Counted.{Counted};
 ghost use Rattle.bpf_ring.specs.Heads.{head_of};
-ghost use Rattle.bpf_ring.specs.Grown.{KeepsRun, MakesRoom, RecordsStep, TakesStep};
+ghost use Rattle.bpf_ring.specs.Grown.{KeepsRun, MakesRoom, RecordsStep, TakesNext, TakesStep};
 ghost use Rattle.bpf_ring.specs.Held.{HoldsWay, RingHolds};
 ghost use Rattle.bpf_ring.specs.Opening.{RefusesSize};
-ghost use Rattle.bpf_ring.specs.Pieces.{RunsSingly};
+ghost use Rattle.bpf_ring.specs.Moments.{beside};
+ghost use Rattle.bpf_ring.specs.Pieces.{KeepsRest};
 ghost use Rattle.bpf_ring.specs.Runs.{GoesOn};
 ghost use Rattle.bpf_ring.specs.Taking.{HandsOver, TakesBack, TakesText};
 
 use crate::counts::{Counts, within};
 use crate::fault::JournalFault;
-use crate::pieces::{BYTES, Pieced};
+use crate::pieces::{BYTES, Run};
 use crate::ring::{Ring, revert};
 use crate::run::{StopTest, change_replaces_bytes};
 use crate::size::is_size;
@@ -32,9 +33,6 @@ use bpf_machine::laws::entries_fit;
 use bpf_machine::{Change, Cpu, Ended};
 use circular_buffer::HeapCircularBuffer;
 use std::alloc::Global;
-
-/// How many steps a piece has that pays.
-const WORTHWHILE: u64 = 8;
 
 /// What is read of an entry before it is let go.
 #[derive(Clone, Copy)]
@@ -494,27 +492,9 @@ impl RingKeeper {
         self.append(&text[..weight], mark, is_step);
     }
 
-    /// Lets a machine do what `look` answered of it, and keeps the entry of that step: it is
-    /// written where it stays, and no entry is made on the way. The fewest oldest ones that make
-    /// room for it are dropped. It takes no memory and is never refused.
-    #[inline(always)]
+    /// Lets a machine do what `look` answered of it, and keeps the entry of that step. The fewest
+    /// oldest ones that make room for it are dropped. It takes no memory and is never refused.
     pub fn record(&mut self, cpu: &mut Cpu, change: &Change, mark: bool)
-        requires runs { has_ended cpu.old.status ≡ false }
-        requires looked { change.now ≡ change_of cpu.old }
-        ensures { RecordsStep cpu.old cpu.new self.old self.new mark }
-    {
-        // The arms are alike. Each is built for its kind of change, whose weight and fields are
-        // known in it.
-        match change {
-            Change::Set { .. } => self.record_change(cpu, change, mark),
-            Change::Go { .. } => self.record_change(cpu, change, mark),
-            _ => self.record_change(cpu, change, mark),
-        }
-    }
-
-    /// Makes a change, and keeps its entry.
-    #[inline(always)]
-    fn record_change(&mut self, cpu: &mut Cpu, change: &Change, mark: bool)
         requires runs { has_ended cpu.old.status ≡ false }
         requires looked { change.now ≡ change_of cpu.old }
         ensures { RecordsStep cpu.old cpu.new self.old self.new mark }
@@ -539,97 +519,41 @@ impl RingKeeper {
         if self.step(cpu, true, test) {
             return 1;
         }
+        let run = self.run_on(cpu, most, test);
+        if run.is_ragged {
+            self.trim();
+        }
+        run.taken
+    }
+
+    /// Goes on with a run that has taken its first step, until it is over: piece by piece, and
+    /// between two of them a step that is none of the common ones.
+    fn run_on<T: StopTest>(&mut self, cpu: &mut Cpu, most: u64, test: &T) -> Run
+        requires goes { GoesOn cpu.old 1 }
+        requires some { 1 ≤ most }
+        ensures { KeepsRest (T.test test.now) most (beside cpu.old self.old)
+            (beside cpu.new self.new) result }
+    {
         let mut room = [0u8; BYTES];
         let mut taken = 1;
-        let mut pause = 1;
+        let mut is_ragged = false;
         while taken < most {
-            let pieced = self.run_pieces(cpu, taken, most, test, &mut room);
+            let run = Run { taken, is_ragged };
+            let pieced = self.run_pieces(cpu, run, most, test, &mut room);
+            is_ragged = pieced.run.is_ragged;
             if pieced.is_over {
-                return pieced.taken;
+                return pieced.run;
             }
-            pause = next_pause(pause, pieced.last);
-            let run = self.run_singly(cpu, pieced.taken, pause, most, test);
-            taken = run.taken;
-            if run.is_over {
-                return taken;
+            let stops = self.step_on(cpu, is_ragged, test);
+            taken = pieced.run.taken + 1;
+            if stops {
+                return Run { taken, is_ragged };
             }
         }
-        taken
+        Run { taken, is_ragged }
     }
 
-    /// Goes on with a run that has taken some steps, one step after the other, so many, or until it
-    /// is over.
-    fn run_singly<T: StopTest>(
-        &mut self,
-        cpu: &mut Cpu,
-        taken: u64,
-        steps: u64,
-        most: u64,
-        test: &T,
-    ) -> Pieced
-        requires goes { GoesOn cpu.old taken }
-        requires few { (1 ≤ steps) × (steps ≤ 256) }
-        requires most { taken < most }
-        ensures { RunsSingly (T.test test.now) most taken cpu.old cpu.new self.old self.new result }
-    {
-        let until = (most - taken).min(steps) + taken;
-        let mut reached = taken;
-        while reached < until {
-            let run = self.run_on(cpu, reached, (until - reached).min(256), most, test);
-            if run.is_over {
-                return run;
-            }
-            reached = run.taken;
-        }
-        Pieced {
-            taken: reached,
-            is_over: false,
-            last: 0,
-        }
-    }
-
-    /// Goes on with a run that has taken some steps, one step after the other, at least one and at
-    /// most so many, or until it is over, or until an entry doesn't go into the block in one piece.
-    fn run_on<T: StopTest>(
-        &mut self,
-        cpu: &mut Cpu,
-        taken: u64,
-        steps: u64,
-        most: u64,
-        test: &T,
-    ) -> Pieced
-        requires goes { GoesOn cpu.old taken }
-        requires few { (1 ≤ steps) × (steps ≤ 256) }
-        requires most { taken < most }
-        ensures { RunsSingly (T.test test.now) most taken cpu.old cpu.new self.old self.new result }
-    {
-        let until = (most - taken).min(steps) + taken;
-        let reached = self.ring.run(cpu, self.counts, taken, until, most, test);
-        self.counts = self.counts.with_entries(reached.span.entries);
-        if reached.is_over {
-            return Pieced {
-                taken: reached.taken,
-                is_over: true,
-                last: 0,
-            };
-        }
-        if reached.taken > taken {
-            return Pieced {
-                taken: reached.taken,
-                is_over: false,
-                last: 0,
-            };
-        }
-        let is_over = self.step(cpu, false, test);
-        Pieced {
-            taken: taken + 1,
-            is_over,
-            last: 0,
-        }
-    }
-
-    /// Takes a step of a run and keeps it, wherever its entry goes. Answers whether the run stops
-    /// there.
+    /// Takes a step of a run and keeps it. Answers whether the run stops there.
     #[inline(never)]
     fn step<T: StopTest>(&mut self, cpu: &mut Cpu, mark: bool, test: &T) -> bool
         requires runs { has_ended cpu.old.status ≡ false }
@@ -645,6 +569,37 @@ impl RingKeeper {
         test.stops(cpu, replaced)
     }
 
+    /// Takes a step of a run and keeps it without a mark, in a ring that is ragged or not. Answers
+    /// whether the run stops there.
+    fn step_on<T: StopTest>(&mut self, cpu: &mut Cpu, is_ragged: bool, test: &T) -> bool
+        requires runs { has_ended cpu.old.status ≡ false }
+        ensures { TakesNext (T.test test.now) is_ragged (beside cpu.old self.old)
+            (beside cpu.new self.new) result }
+    {
+        if is_ragged {
+            self.step_over(cpu, test)
+        } else {
+            self.step(cpu, false, test)
+        }
+    }
+
+    /// Takes a step of a run and keeps it in a ragged ring. Answers whether the run stops there.
+    fn step_over<T: StopTest>(&mut self, cpu: &mut Cpu, test: &T) -> bool
+        requires runs { has_ended cpu.old.status ≡ false }
+        ensures { TakesNext (T.test test.now) true (beside cpu.old self.old)
+            (beside cpu.new self.new) result }
+    {
+        let change = cpu.look_on();
+        cpu.invariant();
+        self.invariant();
+        entries_fit();
+        let replaced = change_replaces_bytes(&change);
+        let weight = cpu.entry_weight(&change);
+        self.make_way(weight);
+        self.ring.record(cpu, &change, weight, false);
+        test.stops(cpu, replaced)
+    }
+
     /// Appends an entry's text, for which there must be room.
     #[inline(always)]
     fn append(&mut self, text: &[u8], mark: bool, is_step: bool)
@@ -657,21 +612,6 @@ impl RingKeeper {
         let _size = self.ring.size();
         self.ring.push(text);
         self.counts.add(mark, is_step);
-    }
-}
-
-/// How many steps are taken one by one behind a piece of so many: one behind a long one, and each
-/// time twice as many behind short ones, so that where rare steps come often few pieces are begun
-/// for little.
-fn next_pause(pause: u64, piece: u64) -> u64
-    ensures { (1 ≤ result) × (result ≤ 256) }
-{
-    if piece >= WORTHWHILE || pause == 0 {
-        1
-    } else if pause < 128 {
-        2 * pause
-    } else {
-        256
     }
 }
 

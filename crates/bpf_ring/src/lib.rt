@@ -5,6 +5,7 @@
 mod backward;
 mod block;
 mod counts;
+mod edge;
 mod fault;
 mod keeper;
 mod pieces;

@@ -8,10 +8,11 @@ ghost use Rattle.bpf_entries.specs.Status.{has_ended};
 ghost use Rattle.bpf_steps.specs.State.{State};
 ghost use Rattle.bpf_ring.specs.Moments.{beside};
 ghost use Rattle.bpf_ring.specs.Grown.{KeepsSteps};
+ghost use Rattle.bpf_ring.specs.Edges.{HoldsAs, IsRagged};
 ghost use Rattle.bpf_ring.specs.Held.{RingHolds};
 ghost use Rattle.bpf_ring.specs.Left.{Left};
 ghost use Rattle.bpf_ring.specs.Pieces.{KeepsPiece, RunsByPieces, entries_of};
-ghost use Rattle.bpf_ring.specs.Runs.{GoesOn};
+ghost use Rattle.bpf_ring.specs.Runs.{GoesOn, kept_on};
 
 use crate::keeper::RingKeeper;
 use crate::run::StopTest;
@@ -30,15 +31,21 @@ const FEW: usize = 1_344;
 /// The fewest bytes that a ring has beside a piece.
 const SPARE: usize = 16;
 
+/// How far a run came.
+#[derive(Clone, Copy)]
+pub(crate) struct Run {
+    /// How many steps it has taken.
+    pub(crate) taken: u64,
+    /// Whether the ring is ragged then.
+    pub(crate) is_ragged: bool,
+}
+
 /// How far a run came by pieces.
 #[derive(Clone, Copy)]
 pub(crate) struct Pieced {
-    /// How many steps the run has taken.
-    pub(crate) taken: u64,
-    /// Whether the run is over.
+    pub(crate) run: Run,
+    /// Whether it is over.
     pub(crate) is_over: bool,
-    /// How many steps the last piece had.
-    pub(crate) last: u64,
 }
 
 /// A piece that was kept.
@@ -62,45 +69,46 @@ impl Piece {
 
 impl RingKeeper {
     /// Goes on with a run that has taken some steps, piece by piece: until it is over, or until a
-    /// step comes that is none of the common ones.
+    /// step comes that is none of the common ones. Once the run has filled the ring, it drops no
+    /// more entries: the oldest bytes are written over, whatever they are.
     pub(crate) fn run_pieces<T: StopTest>(
         &mut self,
         cpu: &mut Cpu,
-        taken: u64,
+        run: Run,
         most: u64,
         test: &T,
         room: &mut [u8],
     ) -> Pieced
-        requires goes { GoesOn cpu.old taken }
-        requires most { taken ≤ most }
+        requires goes { GoesOn cpu.old run.taken }
+        requires most { run.taken ≤ most }
         requires room { length room.old ≡ 4096 }
-        ensures { RunsByPieces (T.test test.now) most taken (beside cpu.old self.old)
-            (beside cpu.new self.new) room.new result }
+        ensures pieces { RunsByPieces (T.test test.now) most run (beside cpu.old self.old)
+            (beside cpu.new self.new) result }
+        ensures room { length room.new ≡ 4096 }
     {
-        let mut reached = taken;
-        while reached < most {
-            let left = (most - reached).min(STEPS);
-            let piece = self.keep_piece(cpu, left, test, room);
-            reached += piece.count;
+        let mut taken = run.taken;
+        let mut is_ragged = run.is_ragged;
+        while taken < most {
+            is_ragged = self.gets_ragged(is_ragged, taken);
+            let left = (most - taken).min(STEPS);
+            let piece = self.keep_piece(cpu, left, test, room, is_ragged);
+            taken += piece.count;
             if is_last(cpu, test, piece.count) {
                 return Pieced {
-                    taken: reached,
+                    run: Run { taken, is_ragged },
                     is_over: true,
-                    last: piece.count,
                 };
             }
             if piece.ends() {
                 return Pieced {
-                    taken: reached,
-                    is_over: reached == most,
-                    last: piece.count,
+                    run: Run { taken, is_ragged },
+                    is_over: taken == most,
                 };
             }
         }
         Pieced {
-            taken: reached,
+            run: Run { taken, is_ragged },
             is_over: true,
-            last: STEPS,
         }
     }
 
@@ -111,11 +119,12 @@ impl RingKeeper {
         most: u64,
         test: &T,
         room: &mut [u8],
+        is_ragged: bool,
     ) -> Piece
         requires runs { has_ended cpu.old.status ≡ false }
         requires few { most ≤ 128 }
-        ensures piece { KeepsPiece (T.test test.now) most cpu.old cpu.new self.old self.new
-            result.count }
+        ensures piece { KeepsPiece (T.test test.now) most is_ragged (beside cpu.old self.old)
+            (beside cpu.new self.new) result.count }
         ensures room { length room.new ≡ length room.old }
     {
         entries_fit();
@@ -128,13 +137,56 @@ impl RingKeeper {
             test.overlooks_calls(),
             &mut room[..size],
         );
-        self.drop_in_place(kept.len);
-        self.make_room(kept.len);
-        self.append_steps(&room[..kept.len], kept.taken as usize);
+        self.keep_texts(&room[..kept.len], kept.taken as usize, is_ragged);
         Piece {
             count: kept.taken,
             is_rare: kept.is_rare,
         }
+    }
+
+    /// Keeps the entries of so many steps, without marks, whose texts these are.
+    #[inline(always)]
+    fn keep_texts(&mut self, text: &[u8], count: usize, is_ragged: bool)
+        requires room { length text.now + 16 ≤ self.old.ring.size }
+        requires few { count ≤ 128 }
+        ensures size { self.new.ring.size ≡ self.old.ring.size }
+        ensures held { (ks : List Kept) (x : State) → HoldsAs is_ragged self.old ks →
+            AllFit (entries_of count x) → text.now ≡ ring_of (entries_of count x) →
+            HoldsAs is_ragged self.new (kept_on self.old.ring.size count x ks) }
+    {
+        if is_ragged {
+            self.write_over(text, count);
+        } else {
+            self.push_steps(text, count);
+        }
+    }
+
+    /// Keeps them in a ragged ring: they are written over the oldest bytes.
+    fn write_over(&mut self, text: &[u8], count: usize)
+        requires { length text.now ≤ self.old.ring.size }
+        ensures size { self.new.ring.size ≡ self.old.ring.size }
+        ensures held { (ks : List Kept) (x : State) → IsRagged self.old.ring self.old.counts ks →
+            AllFit (entries_of count x) → text.now ≡ ring_of (entries_of count x) →
+            IsRagged self.new.ring self.new.counts (kept_on self.old.ring.size count x ks) }
+    {
+        let _count = count;
+        self.make_way(text.len());
+        self.ring.push(text);
+    }
+
+    /// Keeps them behind the entries that leave room for them.
+    fn push_steps(&mut self, text: &[u8], count: usize)
+        requires room { length text.now + 16 ≤ self.old.ring.size }
+        requires few { count ≤ 128 }
+        ensures size { self.new.ring.size ≡ self.old.ring.size }
+        ensures held { (ks : List Kept) (x : State) → RingHolds self.old ks →
+            AllFit (entries_of count x) → text.now ≡ ring_of (entries_of count x) →
+            RingHolds self.new (kept_on self.old.ring.size count x ks) }
+    {
+        self.invariant();
+        self.drop_in_place(text.len());
+        self.make_room(text.len());
+        self.append_steps(text, count);
     }
 
     /// Drops oldest entries, as far as the block has them in one piece and they are unmarked ones of
@@ -162,7 +214,7 @@ impl RingKeeper {
             return 0;
         }
         let mut room = [0u8; FEW];
-        let piece = self.keep_piece(cpu, most.min(STEPS), &Unstopped { marks }, &mut room);
+        let piece = self.keep_piece(cpu, most.min(STEPS), &Unstopped { marks }, &mut room, false);
         piece.count
     }
 

@@ -15,15 +15,14 @@ ghost use Rattle.bpf_ring.specs.Held.{IsHeld};
 ghost use Rattle.bpf_ring.specs.Left.{Left};
 ghost use Rattle.bpf_ring.specs.Recorded.{CanRecord, Records};
 ghost use Rattle.bpf_ring.specs.Runs.{GoesOn};
-ghost use Rattle.bpf_ring.specs.Spans.{RunsInRing};
 ghost use Rattle.bpf_ring.specs.Taking.{Reverts};
 ghost use Rattle.bpf_ring.specs.Ways.{EndsWay, HandsBack, HasText, IsWay, Made, kept_by};
 
 use crate::backward::{Handed, Stays, hand_texts};
-use crate::block::{fill, place, record_in_place, write_around, write_in_place};
+use crate::block::{fill, place, write_around, write_in_place};
 use crate::counts::Counts;
 use crate::keeper::text_len;
-use crate::run::{Reached, Span, StopTest, drop_in_place, run_in_place};
+use crate::run::{Span, drop_in_place};
 use bpf_entries::weights::GREATEST;
 use bpf_entries::{byte_before, depth_before};
 use bpf_machine::{Change, Cpu};
@@ -157,54 +156,6 @@ impl Ring {
         self.len += bytes.len();
     }
 
-    /// Lets a machine do what `look` answered of it, and appends the entry of that, which has so
-    /// many bytes and for which there must be room. It takes no memory.
-    #[inline(always)]
-    pub fn record(&mut self, cpu: &mut Cpu, change: &Change, weight: usize, mark: bool)
-        requires can { CanRecord cpu.old change.now weight }
-        requires room { length self.old.bytes + weight ≤ self.old.size }
-        ensures { Records cpu.old cpu.new self.old self.new mark }
-    {
-        let block = self.buffer.make_contiguous();
-        if record_in_place(cpu, change, block, self.first, self.len, weight, mark) {
-            self.len += weight;
-        } else {
-            self.record_apart(cpu, *change, weight, mark);
-        }
-    }
-
-    /// Goes on with a run that has taken some steps and keeps each, in the block: until it is over,
-    /// or has taken `pause`, or until an entry doesn't go into the block in one piece. `counts` are those of the entries
-    /// that the ring holds. It takes no memory.
-    #[inline(always)]
-    pub(crate) fn run<T: StopTest>(
-        &mut self,
-        cpu: &mut Cpu,
-        counts: Counts,
-        taken: u64,
-        pause: u64,
-        most: u64,
-        test: &T,
-    ) -> Reached
-        requires goes { GoesOn cpu.old taken }
-        requires most { (taken ≤ pause) × (pause ≤ most) }
-        ensures { RunsInRing (T.test test.now) most taken (beside cpu.old self.old)
-            (beside cpu.new self.new) counts result }
-    {
-        let size = self.buffer.capacity();
-        let span = Span {
-            first: self.first,
-            len: self.len,
-            end: place(self.buffer.len(), self.first, self.len),
-            entries: counts.entries,
-        };
-        let block = self.buffer.make_contiguous();
-        let reached = run_in_place(cpu, block, size, span, taken, pause, most, test);
-        self.first = reached.span.first;
-        self.len = reached.span.len;
-        reached
-    }
-
     /// Drops oldest entries until at most so many bytes are left, as far as these are unmarked ones
     /// of steps in one piece of the block. `counts` are those of the entries that the ring holds.
     /// Answers how many entries are left.
@@ -218,7 +169,6 @@ impl Ring {
         let span = Span {
             first: self.first,
             len: self.len,
-            end: place(self.buffer.len(), self.first, self.len),
             entries: counts.entries,
         };
         let block = self.buffer.make_contiguous();
@@ -228,16 +178,16 @@ impl Ring {
         left.entries
     }
 
-    /// Makes a change and keeps its entry, as `record` does, by way of a copy of the entry.
-    #[inline(never)]
-    fn record_apart(&mut self, cpu: &mut Cpu, change: Change, weight: usize, mark: bool)
-        requires can { CanRecord cpu.old change weight }
+    /// Lets a machine do what `look` answered of it, and appends the entry of that, which has so many
+    /// bytes and for which there must be room. It takes no memory.
+    pub fn record(&mut self, cpu: &mut Cpu, change: &Change, weight: usize, mark: bool)
+        requires can { CanRecord cpu.old change.now weight }
         requires room { length self.old.bytes + weight ≤ self.old.size }
         ensures { Records cpu.old cpu.new self.old self.new mark }
     {
         let mut scratch = [0u8; GREATEST];
-        cpu.record(&change, &mut scratch, mark);
-        self.push_apart(&scratch[..weight]);
+        cpu.record(change, &mut scratch, mark);
+        self.push(&scratch[..weight]);
     }
 
     /// Takes back the move whose entry's text the newest bytes are, so many, by way of a copy of

@@ -121,5 +121,5 @@ fn is_common(text: &[u8]) -> bool
         IsUnmarked (e, mark) }
 {
     let tag = text[2];
-    tag == 1 || tag == 2 || tag == 5
+    tag >= 1 && tag <= 5
 }

@@ -12,7 +12,7 @@ returns-clause-left c = λ ks held.
     let counts = c.args.counts in
     let lent = c.make_contiguous-block.ensures in
     let size = c.capacity-size.result in
-    let begins : Span = record { first = inside.first; len = inside.len; end = c.place.result; entries = counts.entries } in
+    let begins : Span = record { first = inside.first; len = inside.len; entries = counts.entries } in
     let ends = c.drop_in_place-left.result in
     let block = c.make_contiguous-block.result.now in
     let at_size : inside.buffer.capacity ≡ size = sym c.capacity-size.ensures.capacity in

@@ -7,7 +7,7 @@ use Rattle.bpf_machine.specs.declared.moves.Move.TheVariants as move
 use Rattle.bpf_steps.specs.Entries.{step_entry}
 use Rattle.bpf_steps.specs.Next.{next}
 use Rattle.bpf_ring.specs.Held.{IsHeld}
-use Rattle.bpf_ring.proofs.keeper.RingKeeper.record_change.Goals as goal
+use Rattle.bpf_ring.proofs.keeper.RingKeeper.record.Goals as goal
 use Rattle.bpf_ring.proofs.Held.{appended, few_held, kept_more, of_a_step}
 
 pub record-requires-clause-can : goal.record-requires-clause-can
