@@ -60,7 +60,7 @@ impl Item {
     pub fn kept(&self) -> (Entry, bool)
         ensures { result ≡ self.now }
     {
-        match Entry::read(&self.text) {
+        match Entry::read(self.text()) {
             Some(kept) => kept,
             None => unreachable!(),
         }

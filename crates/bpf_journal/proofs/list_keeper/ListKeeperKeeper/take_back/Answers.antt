@@ -1,10 +1,11 @@
-use Rattle.std.proofs.Common.{◌∙◌, refl, ap, sym, subst}
+use Rattle.std.proofs.Common.{◌∙◌, refl, ap, sym, subst, arith}
 use Rattle.bpf_entries.specs.declared.entry.Entry.{Entry}
 use Rattle.bpf_entries.specs.Fields.{FitsFields}
 use Rattle.bpf_entries.specs.Texts.{text}
 use Rattle.bpf_journal.specs.Histories.{newest, older}
 use Rattle.bpf_journal.specs.contracts.list_keeper.ListKeeperKeeper.TheImpl as impl
 use Rattle.bpf_journal.proofs.Histories.{newest_came, goes_back, stays_there}
+use Rattle.bpf_journal.proofs.Items.{lighter}
 use Rattle.bpf_journal.proofs.list_keeper.ListKeeperKeeper.take_back.Goals as goal
 
 pub revert_text-requires : goal.revert_text-requires
@@ -30,3 +31,6 @@ pub returns-in-None-clause-back : goal.returns-in-None-clause-back
 returns-in-None-clause-back c = λ h stands.
     let held = stands.0 ∙ c.in-None.ensures.0 in
     stays_there impl.ghosts.holds h _ _ _ (ap newest held) refl (ap older held ∙ sym c.in-None.ensures.1)
+
+pub invariant_of-self-clause-within : goal.invariant_of-self-clause-within
+invariant_of-self-clause-within c = omega (arith, lighter _ _ _ c.pop.ensures, c.args.self.now.within)
