@@ -115,6 +115,16 @@ fn put_return_head(room: &mut [u8], pc: u16, r6: u64, mark: bool)
     LittleEndian::write_u64(&mut room[5..13], r6);
 }
 
+/// Writes two numbers: 16 bytes.
+#[inline(always)]
+fn put_two(room: &mut [u8], first: u64, second: u64)
+    requires { 16 ≤ length room.old }
+    ensures { room.new ≡ (number first ++ number second) ++ drop 16 room.old }
+{
+    LittleEndian::write_u64(&mut room[0..8], first);
+    LittleEndian::write_u64(&mut room[8..16], second);
+}
+
 /// Writes the other 26 bytes of it.
 #[inline(always)]
 fn put_return_tail(room: &mut [u8], r7: u64, r8: u64, r9: u64)
@@ -122,8 +132,7 @@ fn put_return_tail(room: &mut [u8], r7: u64, r8: u64, r9: u64)
     ensures { room.new ≡ (number r7 ++ (number r8 ++ (number r9 ++ little_bytes 2 39)))
         ++ drop 26 room.old }
 {
-    LittleEndian::write_u64(&mut room[0..8], r7);
-    LittleEndian::write_u64(&mut room[8..16], r8);
+    put_two(room, r7, r8);
     LittleEndian::write_u64(&mut room[16..24], r9);
     LittleEndian::write_u16(&mut room[24..26], 39);
 }

@@ -11,14 +11,7 @@ use byteorder::{ByteOrder, LittleEndian};
 
 /// Writes a store's entry but for its old bytes and its end: 16 bytes less 2.
 #[inline(always)]
-pub(super) fn put_store_head(
-    room: &mut [u8],
-    len: u16,
-    pc: u16,
-    address: u64,
-    count: u8,
-    mark: bool,
-)
+fn put_store_head(room: &mut [u8], len: u16, pc: u16, address: u64, count: u8, mark: bool)
     requires { 14 ≤ length room.old }
     ensures { room.new ≡ (little_bytes 2 len ++ tag_of 5 mark ∷
         (slot pc ++ (number address ++ count ∷ []))) ++ drop 14 room.old }

@@ -5,9 +5,8 @@ ghost use Rattle.bpf_isa.specs.Sizes.{size_len};
 ghost use Rattle.bpf_entries.specs.declared.entry.Entry.TheVariants as entry;
 ghost use Rattle.bpf_entries.specs.Texts.{text};
 
-use crate::write::runs::{put_fetch, put_store_head};
+use crate::write::runs::{put_fetch, put_store};
 use bpf_isa::{Reg, Size};
-use byteorder::{ByteOrder, LittleEndian};
 
 /// Writes the entry of a store whose old bytes are the lowest ones of a number: 16 bytes and those.
 #[inline(always)]
@@ -17,26 +16,22 @@ pub fn put_store_number(room: &mut [u8], pc: u16, address: u64, size: Size, old:
         mark ++ drop (16 + size_len size) room.old }
 {
     match size {
-        Size::Byte => {
-            put_store_head(room, 17, pc, address, 1, mark);
-            room[14] = (old % 256) as u8;
-            LittleEndian::write_u16(&mut room[15..17], 17);
-        }
-        Size::Half => {
-            put_store_head(room, 18, pc, address, 2, mark);
-            LittleEndian::write_u16(&mut room[14..16], (old % 65_536) as u16);
-            LittleEndian::write_u16(&mut room[16..18], 18);
-        }
-        Size::Word => {
-            put_store_head(room, 20, pc, address, 4, mark);
-            LittleEndian::write_u32(&mut room[14..18], (old % 4_294_967_296) as u32);
-            LittleEndian::write_u16(&mut room[18..20], 20);
-        }
-        Size::Double => {
-            put_store_head(room, 24, pc, address, 8, mark);
-            LittleEndian::write_u64(&mut room[14..22], old);
-            LittleEndian::write_u16(&mut room[22..24], 24);
-        }
+        Size::Byte => put_store(room, pc, address, &[(old % 256) as u8], mark),
+        Size::Half => put_store(
+            room,
+            pc,
+            address,
+            &((old % 65_536) as u16).to_le_bytes(),
+            mark,
+        ),
+        Size::Word => put_store(
+            room,
+            pc,
+            address,
+            &((old % 4_294_967_296) as u32).to_le_bytes(),
+            mark,
+        ),
+        Size::Double => put_store(room, pc, address, &old.to_le_bytes(), mark),
     }
 }
 
