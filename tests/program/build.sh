@@ -53,9 +53,9 @@ sort order > found/order
 same 'make run: what is proved' wanted/order found/order
 [ -x copy/crates/bpfdb/out/bpfdb ] || complain 'make run builds no program'
 
-# The second time there is nothing to do, also where a crate of tests has changed; a source that changed is proved.
+# The second time there is nothing to do, also where a crate has changed on which the program does not stand; a source that changed is proved.
 sleep 0.1
-touch copy/crates/bpf_base_tests/src/lib.rt
+touch copy/crates/memory_calls/src/lib.rt
 build '' 0
 : > wanted/out
 compare 'make run, the second time'

@@ -1,5 +1,5 @@
-# What listings are assembled to, and how programs are listed, row by row: tables/listings.txt, long-listings.txt, bytes.txt and canonical.txt; and the texts of the table
-# of instructions (crates/bpf_testing), each to its word.
+# What listings are assembled to, and how programs are listed, row by row: tables/listings.txt, long-listings.txt, bytes.txt and canonical.txt; and the texts of
+# tables/instructions.txt, each to its word.
 tables=$parts/tables
 
 # table NAME COUNT: the rows of a table, of which there are so many, into the file `rows`: what stands before the arrow, and behind it in `wanted/rows`.
@@ -69,7 +69,7 @@ done < inputs > found/rows
 judge
 
 # Each mnemonic in each form: the text of an instruction in slot 0, which a label names, and its word; what follows is `exit`.
-sed -n 's/^\([^/|]*\) | \([0-9a-f]*\) | .*/\1 => \29500000000000000/p' "$top/crates/bpf_testing/src/instructions.rt" > rows
+sed -n 's/^\([^/|]*\) | \([0-9a-f]*\) | .*/\1 => \29500000000000000/p' "$tables/instructions.txt" > rows
 sed 's/^.* => //' rows > wanted/rows
 sed 's/ => [^>]*$//' rows > inputs
 [ "$(wc -l < rows)" -eq 174 ] || complain 'instructions: not 174 rows'

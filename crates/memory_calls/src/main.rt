@@ -1,16 +1,21 @@
-//! For tests: each public call of the libraries that takes memory, made once over a worked input.
+//! For tests: each public call of the libraries that takes memory, made once over a worked input,
+//! and what else only the libraries can be asked.
 //!
 //! The argument names the call; without one all are made, each followed by its name and its status.
 //! What comes of a call goes to standard output, and a refusal to standard error as bpfdb tells it,
 //! with status 2. Status 3: the call wasn't reached.
 //!
-//! One more call takes arguments and a script, `session` (`sessions.rt`); it isn't among all.
+//! Two more calls read what comes in, and aren't among all: `session`, a script with arguments
+//! (`sessions.rt`), and `questions`, a line each (`questions.rt`).
 #![tactic(auto)]
 
+mod faults;
 mod files;
 mod programs;
+mod questions;
 mod scripts;
 mod sessions;
+mod streams;
 mod telling;
 
 use bpfdb_files::FileKind;
@@ -28,7 +33,7 @@ pub const REFUSED: u8 = 2;
 pub const NOT_REACHED: u8 = 3;
 
 /// The calls.
-const CALLS: [&str; 14] = [
+const CALLS: [&str; 18] = [
     "check",
     "assemble",
     "disassemble",
@@ -43,6 +48,10 @@ const CALLS: [&str; 14] = [
     "program",
     "context",
     "source",
+    "laws",
+    "back",
+    "faults",
+    "streams",
 ];
 
 fn main(rt: HostRuntime) -> ExitCode {
@@ -65,6 +74,7 @@ fn obey<W: Write, E: Write>(
     }
     let made = match word(&words, 0) {
         "session" => sessions::play_words(rt, &words, output),
+        "questions" => questions::answer_all(rt, output),
         name => made(rt, name, output),
     };
     status(errors, made)
@@ -123,6 +133,10 @@ fn made<W: Write>(rt: &HostRuntime, name: &str, output: &mut Counted<W>) -> Resu
         "program" => files::read(alloc, FileKind::Program, output),
         "context" => files::read(alloc, FileKind::Context, output),
         "source" => files::read(alloc, FileKind::Source, output),
+        "laws" => scripts::state_laws(),
+        "back" => scripts::step_back(alloc, output),
+        "faults" => faults::tell_faults(alloc, output),
+        "streams" => streams::pass_on(output),
         _ => Err(Lack::NotReached),
     }
 }

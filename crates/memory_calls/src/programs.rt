@@ -17,7 +17,7 @@ const LISTING: &[u8] = b"; count\nloop: add r0, 1\njlt r0, 0x3, loop\nexit\n";
 pub const WORDS: &[u8] = b"\x07\0\0\0\x01\0\0\0\xa5\0\xfe\xff\x03\0\0\0\x95\0\0\0\0\0\0\0";
 
 /// The bytes of a context.
-const CONTEXT: &[u8] = b"\x01\x02\x03\x04\x05\x06\x07\x08";
+pub const CONTEXT: &[u8] = b"\x01\x02\x03\x04\x05\x06\x07\x08";
 
 /// The most bytes of an object.
 const OBJECT_BYTES: usize = 4_096;
@@ -74,18 +74,47 @@ fn first_bytes<R: Read>(reader: &mut R, bytes: &mut [u8; OBJECT_BYTES]) -> usize
     }
 }
 
-/// `Memory::open`: the context.
+/// `Memory::open`: the context, whose second byte is written to.
 pub fn open_memory<W: Write>(alloc: Global, output: &mut Counted<W>) -> Result<(), Lack> {
     let mut maps = MapTable::empty();
     if maps.add(8, 2).is_err() {
         return Err(Lack::NotReached);
     }
     match Memory::open(alloc, &maps, CONTEXT) {
-        Ok(mut memory) => match memory.bytes_mut(0x1_0000_0000, 8) {
-            Some(bytes) => say(output, bytes),
-            None => Err(Lack::NotReached),
-        },
+        Ok(mut memory) => lend(&mut memory, output),
         Err(fault) => Err(Lack::Refused("O", fault.number(), fault.text())),
+    }
+}
+
+/// What a memory lends: one byte more than the context has it doesn't, nor as many from the second
+/// one on.
+fn lend<W: Write>(memory: &mut Memory, output: &mut Counted<W>) -> Result<(), Lack> {
+    let is_longer = memory.bytes_mut(0x1_0000_0000, 9).is_some();
+    let is_shifted = memory.bytes_mut(0x1_0000_0001, 8).is_some();
+    if is_longer || is_shifted || !write_7(memory) {
+        return Err(Lack::NotReached);
+    }
+    match memory.bytes_mut(0x1_0000_0000, 8) {
+        Some(bytes) => say(output, bytes),
+        None => Err(Lack::NotReached),
+    }
+}
+
+/// Writes 7 to the second byte of the context, if that is lent.
+fn write_7(memory: &mut Memory) -> bool {
+    match memory.bytes_mut(0x1_0000_0001, 1) {
+        Some(bytes) => {
+            set_7(bytes);
+            true
+        }
+        None => false,
+    }
+}
+
+/// Sets each of some bytes to 7.
+fn set_7(bytes: &mut [u8]) {
+    for byte in bytes.iter_mut() {
+        *byte = 7;
     }
 }
 

@@ -2,7 +2,7 @@
 use crate::sessions::{list_session, play};
 use crate::telling::{Lack, say_number};
 use bpf_isa::{MapTable, check};
-use bpf_journal::{Keeper, ListKeeper, RingKeeper};
+use bpf_journal::{Keeper, ListKeeper, Move, Reversible, RingKeeper};
 use bpf_machine::Cpu;
 use bpf_session::{Count, Session};
 use counted_io::Counted;
@@ -104,4 +104,40 @@ pub fn run_script<W: Write>(
         return Err(Lack::NotReached);
     };
     play(&mut session, script.text(), output)
+}
+
+/// The laws, each of which is proved as the contract of a function that does nothing.
+pub fn state_laws() -> Result<(), Lack> {
+    bpf_machine::laws::memory_by_address();
+    bpf_machine::laws::returns_give_back();
+    bpf_machine::laws::calls_clear_their_frame();
+    bpf_journal::laws::what_fits_is_the_longest();
+    bpf_journal::laws::the_new_one_is_kept();
+    bpf_journal::laws::the_dropped_is_forgotten();
+    bpf_journal::laws::moves_go_one_way_and_back();
+    bpf_journal::laws::the_refused_leads_nowhere();
+    Ok(())
+}
+
+/// Makes a move and takes it back, through the bound. Tells whether it was made.
+fn there_and_back<R: Reversible>(it: &mut R, change: &Move) -> bool {
+    match it.make(change) {
+        Ok(entry) => {
+            it.revert(&entry);
+            true
+        }
+        Err(_) => false,
+    }
+}
+
+/// `Reversible`: where a machine stands whose first step was taken back.
+pub fn step_back<W: Write>(alloc: Global, output: &mut Counted<W>) -> Result<(), Lack> {
+    let Some(mut cpu) = machine(alloc, LOOP) else {
+        return Err(Lack::NotReached);
+    };
+    if there_and_back(&mut cpu, &Move::Step) {
+        say_number(output, usize::from(cpu.pc()))
+    } else {
+        Err(Lack::Failed)
+    }
 }

@@ -2,19 +2,24 @@
 //! line, with a script from standard input.
 //!
 //! The words are WAY PROGRAM CONTEXT MAPS JOURNAL LIMIT, and STEPS that are taken before the
-//! session, if there are any. CONTEXT is `-` where there is none; MAPS is empty then. WAY is `list`
+//! session, if there are any, and FIRST: which of three ways to step the first one goes, 0 to 2; the
+//! next one goes the next. CONTEXT is `-` where there is none; MAPS is empty then. WAY is `list`
 //! or `ring`. It is `list-again` or `ring-again` where the session is closed after each command and
 //! opened again over what it gave, a ring's over a ring that was taken out and put back. It is
-//! `ring-bytes` where each empty line asks for the ring's bytes.
+//! `ring-bytes` where each empty line asks for the ring's bytes, and `list-gdb` or `ring-gdb` where
+//! packets come in.
+//!
+//! Where a read or a write fails, it is told where the machine stands then.
 ghost use Rattle.std.specs.Prelude.{◌≡◌, [], IfSome};
 ghost use Rattle.bpf_journal.specs.Histories.{HasHistory};
 ghost use Rattle.bpf_journal.specs.Tracks.{RingHolds, ring_room};
 
 use crate::telling::{Lack, say};
 use crate::word;
-use bpf_isa::{MapTable, Program, check};
+use bpf_isa::{MapTable, Program, Reg, check};
 use bpf_journal::{Keeper, ListKeeper, RingKeeper};
-use bpf_machine::Cpu;
+use bpf_machine::{Cpu, Ended};
+use bpf_remote::{Layout, Wanted, serve};
 use bpf_session::{Count, RunFault, Session, run};
 use bpfdb_files::{FileKind, read_kind};
 use counted_io::Counted;
@@ -29,6 +34,7 @@ struct Way {
     limit: Count,
     again: bool,
     bytes: bool,
+    gdb: bool,
 }
 
 /// `session`: the replies to the script that comes in.
@@ -56,6 +62,7 @@ fn way_of(words: &[String], name: &str) -> Option<Way> {
         limit: Count::new(number(words, 6)?)?,
         again: name == "again",
         bytes: name == "bytes",
+        gdb: name == "gdb",
     })
 }
 
@@ -65,7 +72,7 @@ fn number(words: &[String], at: usize) -> Option<u64> {
 }
 
 /// The bytes that a reader gives; none where it fails, or memory runs out.
-fn bytes_of<R: Read + Drop>(alloc: Global, reader: R, kind: FileKind) -> Option<Vec<u8>> {
+pub fn bytes_of<R: Read + Drop>(alloc: Global, reader: R, kind: FileKind) -> Option<Vec<u8>> {
     match read_kind(alloc, &mut Counted::new(reader), kind) {
         Ok(bytes) => bytes,
         Err(_) => None,
@@ -89,7 +96,7 @@ fn context_at(rt: &HostRuntime, path: &str) -> Option<Vec<u8>> {
 }
 
 /// The maps of a text, which is empty where there are none.
-fn maps_of(text: &str) -> Option<MapTable> {
+pub fn maps_of(text: &str) -> Option<MapTable> {
     if text.is_empty() {
         return Some(MapTable::empty());
     }
@@ -113,10 +120,40 @@ fn first_machine(rt: &HostRuntime, words: &[String]) -> Option<Cpu> {
 /// The machine that the words name, after the steps that they name.
 fn machine(rt: &HostRuntime, words: &[String]) -> Option<Cpu> {
     let mut cpu = first_machine(rt, words)?;
-    for _ in 0..number(words, 7).unwrap_or(0) {
-        let _entry = cpu.step().ok()?;
+    let first = number(words, 8).unwrap_or(0);
+    let steps = number(words, 7).unwrap_or(0);
+    if goes_on(&mut cpu, first, steps) {
+        Some(cpu)
+    } else {
+        None
     }
-    Some(cpu)
+}
+
+/// Takes so many steps, each in another way than the one before. Tells whether there were as many.
+fn goes_on(cpu: &mut Cpu, first: u64, steps: u64) -> bool {
+    for number in 0..steps {
+        if !goes(cpu, first.saturating_add(number) % 3) {
+            return false;
+        }
+    }
+    true
+}
+
+/// Takes a step: in one call, in one that makes no entry, or by its halves. Tells whether there was
+/// one.
+fn goes(cpu: &mut Cpu, way: u64) -> bool {
+    match way {
+        0 => cpu.step().is_ok(),
+        1 => cpu.advance().is_ok(),
+        _ => match cpu.look() {
+            Ok(change) => {
+                let _entry = cpu.entry(&change);
+                cpu.commit(&change);
+                true
+            }
+            Err(Ended) => false,
+        },
+    }
 }
 
 /// An empty ring for the moves that will be taken back from a keeper.
@@ -253,14 +290,47 @@ fn play_in<K: Anew, W: Write>(
     if way.again {
         return play_script(rt, session, way.limit, output);
     }
-    played(run(&mut session, &mut Counted::new(rt.reader()), output))
+    if way.gdb {
+        return play_packets(rt, &mut session, output);
+    }
+    let ran = run(&mut session, &mut Counted::new(rt.reader()), output);
+    played(ran, session.cpu())
 }
 
-/// How a run has ended.
-fn played(ran: Result<(), RunFault>) -> Result<(), Lack> {
+/// Plays packets in a session.
+fn play_packets<K: Keeper, W: Write>(
+    rt: &HostRuntime,
+    session: &mut Session<K>,
+    output: &mut Counted<W>,
+) -> Result<(), Lack> {
+    let Ok(mut wanted) = Wanted::new(rt.alloc()) else {
+        return Err(Lack::NotReached);
+    };
+    let served = serve(
+        rt.alloc(),
+        Layout::Bpf,
+        session,
+        &mut wanted,
+        &mut Counted::new(rt.reader()),
+        output,
+    );
+    played(served, session.cpu())
+}
+
+/// How a run has ended, which leaves this machine.
+fn played(ran: Result<(), RunFault>, cpu: &Cpu) -> Result<(), Lack> {
     match ran {
         Ok(()) => Ok(()),
-        Err(_) => Err(Lack::Failed),
+        Err(RunFault::Read) => Err(Lack::Unread(cpu.pc(), first_register(cpu))),
+        Err(RunFault::Write) => Err(Lack::Unwritten(cpu.pc(), first_register(cpu))),
+    }
+}
+
+/// The number in r0.
+fn first_register(cpu: &Cpu) -> u64 {
+    match Reg::new(0) {
+        Some(register) => cpu.reg(register),
+        None => 0,
     }
 }
 
@@ -270,7 +340,8 @@ pub fn play<K: Keeper, W: Write>(
     text: &[u8],
     output: &mut Counted<W>,
 ) -> Result<(), Lack> {
-    played(run(session, &mut Counted::new(text), output))
+    let ran = run(session, &mut Counted::new(text), output);
+    played(ran, session.cpu())
 }
 
 /// Plays the lines of the script, each in a session of its own.
@@ -288,7 +359,7 @@ fn play_script<K: Anew, W: Write>(
 }
 
 /// The text of bytes, if there are some.
-fn text_of(bytes: &Option<Vec<u8>>) -> Option<&str> {
+pub fn text_of(bytes: &Option<Vec<u8>>) -> Option<&str> {
     match bytes {
         Some(bytes) => str::from_utf8(bytes).ok(),
         None => None,

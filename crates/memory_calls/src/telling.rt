@@ -1,6 +1,6 @@
 //! What is written of a call: what came of it, or why nothing did.
 use crate::{NOT_REACHED, REFUSED};
-use counted_io::{Counted, WriteFault, put, put_decimal};
+use counted_io::{Counted, WriteFault, put, put_decimal, put_hexadecimal};
 use std::io::Write;
 
 /// Why nothing came of a call.
@@ -10,6 +10,11 @@ pub enum Lack {
     NotReached,
     /// A read or a write failed.
     Failed,
+    /// The script or the packets that come in can't be read, while a machine stands at this slot
+    /// with this number in r0.
+    Unread(u16, u64),
+    /// The replies can't be written, while it stands so.
+    Unwritten(u16, u64),
     /// Memory ran out, and the call has no number for that.
     Memory,
     /// It was refused: the letter, the number and the text.
@@ -17,7 +22,7 @@ pub enum Lack {
 }
 
 /// What came of a write.
-fn written(told: Result<(), WriteFault>) -> Result<(), Lack> {
+pub fn said(told: Result<(), WriteFault>) -> Result<(), Lack> {
     match told {
         Ok(()) => Ok(()),
         Err(WriteFault) => Err(Lack::Failed),
@@ -26,12 +31,12 @@ fn written(told: Result<(), WriteFault>) -> Result<(), Lack> {
 
 /// Writes the bytes that came of a call.
 pub fn say<W: Write>(output: &mut Counted<W>, bytes: &[u8]) -> Result<(), Lack> {
-    written(put(output, Ok(()), bytes))
+    said(put(output, Ok(()), bytes))
 }
 
 /// Writes a number that came of a call.
 pub fn say_number<W: Write>(output: &mut Counted<W>, number: usize) -> Result<(), Lack> {
-    written(put_decimal(output, Ok(()), number as u64))
+    said(put_decimal(output, Ok(()), number as u64))
 }
 
 /// Tells a refusal, by its letter with its number and its text.
@@ -44,6 +49,16 @@ fn refuse<E: Write>(errors: &mut Counted<E>, letter: &str, number: u8, text: &st
     let _told = put(errors, told, b"\n");
 }
 
+/// Tells where a machine stands behind what failed.
+fn stand<E: Write>(errors: &mut Counted<E>, what: &[u8], pc: u16, r0: u64) {
+    let told = put(errors, Ok(()), what);
+    let told = put(errors, told, b" at ");
+    let told = put_decimal(errors, told, u64::from(pc));
+    let told = put(errors, told, b": r0 ");
+    let told = put_hexadecimal(errors, told, r0);
+    let _told = put(errors, told, b"\n");
+}
+
 /// The status of a call. Where nothing came of it, it is told why.
 pub fn status<E: Write>(errors: &mut Counted<E>, made: Result<(), Lack>) -> u8 {
     let text: &[u8] = match made {
@@ -51,6 +66,14 @@ pub fn status<E: Write>(errors: &mut Counted<E>, made: Result<(), Lack>) -> u8 {
         Err(Lack::NotReached) => return NOT_REACHED,
         Err(Lack::Failed) => b"a read or a write failed\n",
         Err(Lack::Memory) => b"out of memory\n",
+        Err(Lack::Unread(pc, r0)) => {
+            stand(errors, b"cannot read input", pc, r0);
+            return REFUSED;
+        }
+        Err(Lack::Unwritten(pc, r0)) => {
+            stand(errors, b"cannot write output", pc, r0);
+            return REFUSED;
+        }
         Err(Lack::Refused(letter, number, text)) => {
             refuse(errors, letter, number, text);
             return REFUSED;
