@@ -381,11 +381,6 @@ wants "$j2" 0 '1024' '' ring
 wants "$plain" 0 "$words" '' program
 wants "$plain" 0 "$words" '' context
 wants "$plain" 0 "$words" '' source
-cp calls.o script
-bytes linked 85 10 00 00 06 00 00 00 bf 01 00 00 00 00 00 00 85 10 00 00 01 00 00 00 EXIT \
-    bf 10 00 00 00 00 00 00 07 00 00 00 01 00 00 00 EXIT bf 10 00 00 00 00 00 00 27 00 00 00 03 00 00 00 EXIT
-wants "$e26" 0 "$text" '' link
-
 # replies CALL: scripts over a list of entries, whose pushes take memory: the runs in which a request is refused, alone (one) or with each
 # later one (all), up to the first that meets no refusal. Each is a part of the file `told` that begins with its number and how.
 replies() {

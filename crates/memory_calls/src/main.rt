@@ -33,11 +33,10 @@ pub const REFUSED: u8 = 2;
 pub const NOT_REACHED: u8 = 3;
 
 /// The calls.
-const CALLS: [&str; 18] = [
+const CALLS: [&str; 17] = [
     "check",
     "assemble",
     "disassemble",
-    "link",
     "memory",
     "machine",
     "list",
@@ -122,7 +121,6 @@ fn made<W: Write>(rt: &HostRuntime, name: &str, output: &mut Counted<W>) -> Resu
         "check" => programs::check_words(alloc, output),
         "assemble" => programs::assemble_listing(alloc, output),
         "disassemble" => programs::disassemble_program(alloc, output),
-        "link" => programs::link_object(rt, output),
         "memory" => programs::open_memory(alloc, output),
         "machine" => programs::open_machine(alloc, output),
         "list" => scripts::open_list(alloc, output),

@@ -1,14 +1,11 @@
-//! Programs: their words, listings and objects, and the machines that are opened on them.
-ghost use Rattle.std.specs.Prelude.{◌≤◌};
-
+//! Programs: their words and listings, and the machines that are opened on them.
 use crate::telling::{Lack, say};
 use bpf_isa::{MapTable, Program, check};
-use bpf_link::link;
 use bpf_machine::{Cpu, Memory};
 use bpf_text::{assemble, disassemble};
 use counted_io::Counted;
 use std::alloc::Global;
-use std::io::{Read, Write};
+use std::io::Write;
 
 /// A listing with a label, a comment and a number in hexadecimal.
 const LISTING: &[u8] = b"; count\nloop: add r0, 1\njlt r0, 0x3, loop\nexit\n";
@@ -18,9 +15,6 @@ pub const WORDS: &[u8] = b"\x07\0\0\0\x01\0\0\0\xa5\0\xfe\xff\x03\0\0\0\x95\0\0\
 
 /// The bytes of a context.
 pub const CONTEXT: &[u8] = b"\x01\x02\x03\x04\x05\x06\x07\x08";
-
-/// The most bytes of an object.
-const OBJECT_BYTES: usize = 4_096;
 
 /// The program of the listing; none where memory runs out.
 fn program(alloc: Global) -> Option<Program> {
@@ -51,26 +45,6 @@ pub fn disassemble_program<W: Write>(alloc: Global, output: &mut Counted<W>) -> 
     match disassemble(alloc, &program) {
         Ok(text) => say(output, &text),
         Err(_) => Err(Lack::Memory),
-    }
-}
-
-/// `link`: the words of the object on standard input.
-pub fn link_object<W: Write>(rt: &HostRuntime, output: &mut Counted<W>) -> Result<(), Lack> {
-    let mut object = [0u8; OBJECT_BYTES];
-    let count = first_bytes(&mut rt.reader(), &mut object);
-    match link(rt.alloc(), &object[..count], b"") {
-        Ok(linked) => say(output, &linked.words),
-        Err(fault) => Err(Lack::Refused("E", fault.number(), fault.text())),
-    }
-}
-
-/// How many bytes one read gives. (A small file is read whole by it.)
-fn first_bytes<R: Read>(reader: &mut R, bytes: &mut [u8; OBJECT_BYTES]) -> usize
-    ensures { result ≤ 4096 }
-{
-    match reader.read(bytes) {
-        Ok(count) => count.min(OBJECT_BYTES),
-        Err(_) => 0,
     }
 }
 
