@@ -1,5 +1,5 @@
 //! Counted readers and writers, blanks, and numbers as they are read and written.
-//! Their tests stand in `bpf_base_tests`.
+//! What no contract says of them is asked of `memory_calls`.
 #![tactic(auto)]
 
 mod blank;
