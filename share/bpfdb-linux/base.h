@@ -42,6 +42,9 @@ enum { ANY = 0, NOEXIST = 1, EXIST = 2 };
 #define MAPS 0x300000000ull
 enum { FRAME_STRIDE = 1024, FRAME_SIZE = 512, MOST_FRAMES = 8, MAP_STRIDE = 0x100000, MOST_MAPS = 16, MAP_SIZE = 65536 };
 
+/* The most bytes that a context has. */
+enum { MOST_CONTEXT = 65536 };
+
 struct bpfdb_world bpfdb_world WORLD = {
 	.time = 1000000000ull,
 	.time_step = 1000,
@@ -53,7 +56,7 @@ struct bpfdb_world bpfdb_world WORLD = {
 	.under_cgroup = 1,
 };
 
-u64 bpfdb_context_len WORLD = 65536;
+u64 bpfdb_context_len WORLD = MOST_CONTEXT;
 
 /* Loops over bytes must stay loops: clang would make them calls of memcpy and memset, and so a frame more. */
 #define STAY_A_LOOP() asm volatile("" ::: "memory")

@@ -2,6 +2,15 @@
    behind the last. */
 enum { ETHERNET = 14, MOST_META = 32, LONGEST_PACKET = 0xffff };
 
+/* How far into the context packets may grow: as far as it goes, where somebody said so; else as far as one has reached.
+   (Ends change in bpf_xdp_adjust_tail alone, so the first that it sees is where the packet ended.) */
+INLINE u32 farthest_end(const struct packet *p)
+{
+	if (bpfdb_packet_end < (u32)p->data_end)
+		bpfdb_packet_end = (u32)p->data_end;
+	return bpfdb_context_len < MOST_CONTEXT ? (u32)bpfdb_context_len : bpfdb_packet_end;
+}
+
 HELPER long bpf_xdp_adjust_head(struct packet *p, s32 delta)
 {
 	u64 data = p->data + (s64)delta, meta = p->data - p->data_meta;
@@ -18,7 +27,7 @@ HELPER long bpf_xdp_adjust_tail(struct packet *p, s32 delta)
 {
 	u64 end = p->data_end + (s64)delta;
 
-	if (end > CONTEXT + bpfdb_context_len || end < p->data + ETHERNET)
+	if (end < p->data + ETHERNET || (u32)end > farthest_end(p))
 		return -EINVAL;
 	if (delta > 0)
 		clear((u8 *)p->data_end, delta);

@@ -5,6 +5,8 @@
 int LINUX_KERNEL_VERSION WORLD = 0x060100;
 _Bool LINUX_HAS_BPF_COOKIE WORLD = 1;
 _Bool LINUX_HAS_SYSCALL_WRAPPER WORLD = 1;
+/* (This one stands where there are bytes left between two others.) How far into the context a packet has reached. */
+u32 bpfdb_packet_end WORLD = 0;
 u64 CONFIG_HZ WORLD = 250;
 u64 CONFIG_BPF_SYSCALL WORLD = 1;
 u64 CONFIG_CGROUP_PIDS WORLD = 1;

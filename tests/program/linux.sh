@@ -248,9 +248,28 @@ ROWS
         done
     fi
 
-    # Each program of libbpf-tools, xdp-tools and libxdp, where these packages are installed: it is linked with the library, and the checker accepts it.
-    # (What an object of XDP computes so means nothing: r1 is no struct of the kernel's.)
-    files=$(ls /usr/lib/*/bpf/*.o /usr/sbin/xdp-* /usr/sbin/xdpdump 2> /dev/null)
+    # Each program of libbpf-tools, xdp-tools and libxdp, where these packages are installed (INSTALLED names other files): it is linked with the library,
+    # ends on a context whose words are addresses within it, and so do all of an object in turn, each at a place of its own. Those for XDP get a packet.
+    # ends_on WHAT OPTION.. FILE: links an object with the library; what comes of it ends.
+    ends_on() {
+        what=$1
+        shift
+        count=$((count + 1))
+        "$program" link --as-compiled --with library.o "$@" > words 2> told &&
+            "$program" run --steps 1000000 $(grep '^--maps ' told) -m context words > told 2>&1 || complain "$what: $(cat told)"
+    }
+    # by_section SECTION: of a program of this section, its context and what `link` needs for it.
+    by_section() {
+        cp room context
+        packet=
+        case $1 in
+        xdp*)
+            cp "$top/examples/firewall/context.bin" context
+            packet='--packet xdp'
+            ;;
+        esac
+    }
+    files=$(ls ${INSTALLED:-/usr/lib/*/bpf/*.o /usr/sbin/xdp-* /usr/sbin/xdpdump} 2> /dev/null)
     # (names without blanks)
     [ ! -e /var/lib/dpkg/info/libbpf-tools.list ] || files="$files $(grep '^/usr/sbin/.' /var/lib/dpkg/info/libbpf-tools.list)"
     if [ -z "$files" ]; then
@@ -259,19 +278,20 @@ ROWS
         mkdir installed
         python3 "$parts/linux/objects.py" installed $files > programs
         [ -s programs ] || complain 'no program in the objects that are installed'
+        bytes room $(seq 512 | sed 's/.*/00 00 00 00 01 00 00 00/')
         while read -r object section entry; do
-            count=$((count + 1))
-            "$program" link --as-compiled --section "$section" --entry "$entry" --with library.o "installed/$object" > words 2> told &&
-                "$program" check $(grep '^--maps ' told) words > told 2>&1 || complain "$object, $entry: $(cat told)"
+            by_section "$section"
+            # (options and names have no blanks within)
+            ends_on "$object, $entry" $packet --section "$section" --entry "$entry" "installed/$object"
         done < programs
-        # All programs of an object in turn, each at a place of its own.
-        awk '{ names[$1] = names[$1] " " $3 "@" 8 * n[$1]++ } END { for (object in n) if (n[object] > 1 && n[object] <= 16) print object names[object] }' programs > several
-        while read -r object names; do
-            count=$((count + 1))
-            # (names without blanks)
-            "$top/share/bpfdb-turns" "installed/$object" $names > turns.o 2> told &&
-                "$program" link --as-compiled --entry turns --with library.o turns.o > words 2> told &&
-                "$program" check $(grep '^--maps ' told) words > told 2>&1 || complain "$object, in turn: $(cat told)"
+        awk '
+            { of = $1 " " ($2 ~ /^xdp/ ? "xdp" : "room"); names[of] = names[of] " " $3 ($2 ~ /^xdp/ ? "" : "@" 8 * n[of]); n[of]++ }
+            END { for (of in n) if (n[of] > 1 && n[of] <= 16) print of names[of] }
+        ' programs > several
+        while read -r object section names; do
+            by_section "$section"
+            "$top/share/bpfdb-turns" "installed/$object" $names > turns.o 2> told || complain "$object, in turn: $(cat told)"
+            ends_on "$object, $section, in turn" $packet --entry turns turns.o
         done < several
     fi
 fi

@@ -33,6 +33,43 @@ TEST(tail_of_a_packet)
 	return 0;
 }
 
+/* Where nobody says how long the context is, a packet grows to where it ended, and no byte further: neither as the
+   first thing that is done, nor later, nor where one that begins elsewhere is looked at next. */
+TEST(tail_where_no_length_is_known)
+{
+	PACKET;
+
+	WANT(xdp_adjust_tail(&p, 1) == -EINVAL && p.data_end == 0x10000003c);
+	WANT(xdp_adjust_tail(&p, 65536) == -EINVAL && xdp_adjust_tail(&p, 0x7fffffff) == -EINVAL);
+	WANT(xdp_adjust_tail(&p, -1) == 0 && xdp_adjust_tail(&p, 2) == -EINVAL);
+	WANT(xdp_adjust_tail(&p, 1) == 0 && p.data_end == 0x10000003c && BYTE(58) == 58 && BYTE(59) == 0);
+	WANT(bpfdb_context_len == 65536);
+	p = (struct packet){ (u64)context, (u64)context + 20, (u64)context };
+	WANT(xdp_adjust_tail(&p, 41) == -EINVAL);
+	return 0;
+}
+
+/* One that ends nearer is shortened first; the next one ends further on. */
+TEST(tails_of_two_packets)
+{
+	struct packet first = { (u64)context, (u64)context + 20, (u64)context };
+	PACKET;
+
+	WANT(xdp_adjust_tail(&first, 1) == -EINVAL && xdp_adjust_tail(&first, -3) == 0);
+	WANT(xdp_adjust_tail(&first, 4) == -EINVAL && xdp_adjust_tail(&first, 3) == 0);
+	WANT(xdp_adjust_tail(&p, 1) == -EINVAL && xdp_adjust_tail(&p, -40) == 0 && xdp_adjust_tail(&p, 40) == 0);
+	return 0;
+}
+
+/* (As an empty context gives one: its address is 0.) */
+TEST(tail_of_no_packet)
+{
+	struct packet p = { 0, 0, 0 };
+
+	WANT(xdp_adjust_tail(&p, 20) == -EINVAL && xdp_adjust_tail(&p, 0) == -EINVAL);
+	return 0;
+}
+
 TEST(metadata_of_a_packet)
 {
 	PACKET;
