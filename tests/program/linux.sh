@@ -221,8 +221,9 @@ ROWS
         ln -s "$program" bin/bpfdb
         ln -s "$top/share/bpfdb-events" "$top/share/bpfdb-context" "$top/share/bpfdb-shell" "$top/share/bpfdb-turns" bin
         built clang "$top/share/bpfdb-linux.c" installed-here/bpfdb-linux.o
+        cp "$top/share/bpfdb-linux.h" "$top/share/bpfdb-map.h" installed-here
         awk '
-            /^## / { inside = /^## (An event that is wrong|Two programs in turn|An installed tool)$/ }
+            /^## / { inside = /^## (An event that is wrong|Two programs in turn|The world|An installed tool)$/ }
             /^```/ { block = !block; next }
             inside && block && /^\$ / { n++; print substr($0, 3) > ("shown/command-" n); printf "" > ("shown/text-" n); next }
             inside && block { print > ("shown/text-" n) }
@@ -238,7 +239,7 @@ ROWS
                     left_out 'the installed tool in docs/LINUX.md' 'there is no bashreadline (libbpf-tools)'
                     break
                 fi
-                sed -i "s|/usr/local/share/bpfdb/|$PWD/installed-here/|" "shown/command-$command"
+                sed -i "s|/usr/local/share/bpfdb|$PWD/installed-here|" "shown/command-$command"
                 (cd typed && PATH=$PWD/../bin:$PATH BPFDB=$program sh "../shown/command-$command") > found/out 2>&1
                 # (the end of a long line is left out there)
                 sed 's/\(d20400006c73202d6c00\)[0-9a-f]*$/\1../' found/out > found/cut
