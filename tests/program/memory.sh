@@ -184,50 +184,37 @@ plan='1..2\n' one='ok 1 - a\n'
 two='not ok 2 - b\n# the test in line 10\n# came: exited at 1: r0 0x2\n# wanted: result 3, and map-after\n'
 cell='# cell 0 0 came: 0x300000000: 0000\n# cell 0 0 wanted: 0.01\n'
 show="# debug: bpfdb-show 'b' 'two.test'\n"
-: > met
-request=1 found=
-while [ "$found" != 1 ] && [ "$request" -le "$most" ]; do
-    for all in '' all; do
-        refuse "$request" "$all" test two.test
-        if [ "$found" = 1 ]; then
-            check "bpfdb test: request $request for memory refused, $all, and made again" 1 "$plan$one$two$cell$show" ''
-            continue
-        fi
-        lines=$(wc -l < found/out)
-        echo "$lines lines" >> met
-        case $lines in
-            0) reported= ;;
-            1) reported=$plan ;;
-            *) reported=$plan$one ;;
-        esac
-        check "bpfdb test: request $request for memory refused, $all" 2 "$reported" "$plain"
+# reports WHOLE [WORD]: of these tests with a word each request is refused, and what was reported by then stands; where the last one is made, all of it.
+reports() {
+    whole=$1
+    shift
+    : > met
+    request=1 found=
+    while [ "$found" != 1 ] && [ "$request" -le "$most" ]; do
+        for all in '' all; do
+            refuse "$request" "$all" test "$@" two.test
+            if [ "$found" = 1 ]; then
+                check "bpfdb test $*: request $request for memory refused, $all, and made again" 1 "$whole" ''
+                continue
+            fi
+            lines=$(wc -l < found/out)
+            echo "$lines lines" >> met
+            case $lines in
+                0) reported= ;;
+                1) reported=$plan ;;
+                2) reported=$plan$one ;;
+                *) reported=$plan$one$two$cell$show ;;
+            esac
+            check "bpfdb test $*: request $request for memory refused, $all" 2 "$reported" "$plain"
+        done
+        request=$((request + 1))
     done
-    request=$((request + 1))
-done
+}
+reports "$plan$one$two$cell$show"
 said 'bpfdb test' '0 lines\n1 lines\n2 lines\n'
 # With --cover there is no table, then, or all of it.
 table='# cover of the program in line 3: 2 of 2 instructions, 0 of 0 branches both ways\n'
-: > met
-request=1 found=
-while [ "$found" != 1 ] && [ "$request" -le "$most" ]; do
-    for all in '' all; do
-        refuse "$request" "$all" test --cover two.test
-        if [ "$found" = 1 ]; then
-            check "bpfdb test --cover: request $request for memory refused, $all, and made again" 1 "$plan$one$two$cell$show$table" ''
-            continue
-        fi
-        lines=$(wc -l < found/out)
-        echo "$lines lines" >> met
-        case $lines in
-            0) reported= ;;
-            1) reported=$plan ;;
-            2) reported=$plan$one ;;
-            *) reported=$plan$one$two$cell$show ;;
-        esac
-        check "bpfdb test --cover: request $request for memory refused, $all" 2 "$reported" "$plain"
-    done
-    request=$((request + 1))
-done
+reports "$plan$one$two$cell$show$table" --cover
 said 'bpfdb test --cover' '0 lines\n1 lines\n2 lines\n9 lines\n'
 wants "$plain" 0 'set cell 0 1 0102\ncontinue\n' '' test --show script --only b two.test
 wants "$plain" 0 '--maps=2x2\n--steps=1000000\n' '' test --show options --only a two.test

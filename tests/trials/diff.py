@@ -9,38 +9,26 @@ import sys
 import tempfile
 
 REGISTERS = [0, 3, 4, 6, 7]
+# The forms of an instruction, and how often each comes among a hundred.
+FORMS = {
+    'mov r{reg}, {number}': 25, 'mov r{reg}, r2': 3,
+    'add r{reg}, r{other}': 5, 'sub r{reg}, r{other}': 5, 'xor r{reg}, r{other}': 5,
+    'ldxb r{reg}, [r1+{number}]': 10, 'ldxb r{reg}, [r{other}+0]': 2,
+    'stxb [r10-{byte}], r{reg}': 4, 'stxdw [r10-{word}], r{reg}': 4, 'stb [r1+{number}], {number}': 4,
+    'atomic_xchg64 [r10-8], r{reg}': 3, 'atomic_fetch_add64 [r10-8], r{reg}': 1,
+    'jeq r{reg}, {number}, L{to}': 6, 'jne r{reg}, {number}, L{to}': 6, 'jlt r{reg}, {number}, L{to}': 6,
+    'ja L{to}': 4, 'callf L{to}': 5, 'exit': 2,
+}
 
 
 def program(rng):
-    """A listing: arithmetic, loads of the context, stores and fetches, maps, jumps, calls, and faults now and then."""
+    """A listing: arithmetic, loads of the context, stores and fetches, jumps, calls, and faults now and then."""
     size = rng.randint(2, 12)
     lines = []
-    for at in range(size):
-        reg, other, number = rng.choice(REGISTERS), rng.choice(REGISTERS), rng.randint(0, 3)
-        kind = rng.random()
-        if kind < 0.25:
-            text = f'mov r{reg}, {number}'
-        elif kind < 0.4:
-            text = f'{rng.choice(["add", "sub", "xor"])} r{reg}, r{other}'
-        elif kind < 0.5:
-            text = f'ldxb r{reg}, [r1+{number}]'
-        elif kind < 0.62:
-            text = rng.choice([f'stxb [r10-{1 + number}], r{reg}', f'stxdw [r10-{8 * (1 + number)}], r{reg}', f'stb [r1+{number}], {number}'])
-        elif kind < 0.66:
-            text = f'atomic_xchg64 [r10-8], r{reg}' if number else f'atomic_fetch_add64 [r10-8], r{reg}'
-        elif kind < 0.84:
-            text = f'{rng.choice(["jeq", "jne", "jlt"])} r{reg}, {number}, L{rng.randint(0, size)}'
-        elif kind < 0.88:
-            text = f'ja L{rng.randint(0, size)}'
-        elif kind < 0.93:
-            text = f'callf L{rng.randint(0, size)}'
-        elif kind < 0.96:
-            text = f'mov r{reg}, r2'
-        elif kind < 0.98:
-            text = f'ldxb r{reg}, [r{other}+0]'
-        else:
-            text = 'exit'
-        lines.append(text)
+    for form in rng.choices(list(FORMS), list(FORMS.values()), k=size):
+        number = rng.randint(0, 3)
+        lines.append(form.format(reg=rng.choice(REGISTERS), other=rng.choice(REGISTERS), number=number, byte=1 + number, word=8 * (1 + number),
+                                 to=rng.randint(0, size)))
     return lines + ['exit']
 
 
