@@ -148,6 +148,12 @@ elif has_clang 'the library of Linux'; then
             done
         done
 
+        # A packet of 60 bytes, by the kernel's own struct: whoever made that has told the library nothing of its length.
+        built "$compiler" "$parts/kernels/grown.c" grown.o
+        "$program" link --packet xdp --with library.o grown.o > words 2> told || complain "grown.o: $(cat told)"
+        maps=$(grep '^--maps ' told)
+        comes_to "a packet that is to grow, $compiler" 0x3c000016
+
         # Each row is a test of events.c, and what it sends out.
         bytes context $(seq 0 15 | awk '{ printf "%02x ", $1 }')
         while IFS='|' read -r entry output; do
