@@ -1,11 +1,13 @@
 -- When a test passes.
-use Rattle.std.specs.Prelude.{ℕ, Bool, true, false, not, ◌==◌, ◌&&◌, ◌||◌, nat_lt, List, [], ◌∷◌, ◌++◌, codes, drop, filter, length, Option, Some, None, Ok, Err, if◌then◌else◌, slice_get, unwrap_or}
+use Rattle.std.specs.Prelude.{ℕ, Bool, true, false, not, ◌==◌, ◌&&◌, ◌||◌, nat_lt, List, [], ◌∷◌, ◌++◌, codes, decimal, drop, filter, length, Option, Some, None, Ok, Err, if◌then◌else◌, slice_get, unwrap_or}
 use Rattle.std.specs.List.{starts_with}
 use Rattle.std.specs.Option.{option_and_then, option_map_or}
 use Rattle.bpf_isa.specs.declared.maps.MapShape.{MapShape}
 use Rattle.bpf_steps.specs.Platform.{cell_address, context_base}
 use Rattle.bpf_steps.specs.Regions.{run_at}
 use Rattle.bpf_steps.specs.State.{State, register}
+use Rattle.bpf_entries.specs.declared.status.Fault.{Fault}
+use Rattle.bpf_entries.specs.declared.status.Fault.TheVariants as fault
 use Rattle.bpf_entries.specs.declared.status.Status.{Status}
 use Rattle.bpf_entries.specs.declared.status.Status.TheVariants as status
 use Rattle.bpf_suite.specs.Bodies.{fits, number_of, solid, trimmed}
@@ -51,10 +53,32 @@ abbrev pub results : ℕ → Outcome → Bool
 results n (Ok x) = has_exited x.status && register x 0 == n
 results n (Err refusal) = false
 
--- A result is compared as a number, any other outcome as it is printed.
+-- A fault's kind, as it is printed; and a fault as it is printed, with this in place of its kind and its number.
+abbrev pub kind_of_fault : Fault → List ℕ
+kind_of_fault (fault.Access address) = codes " access"
+kind_of_fault (fault.Token token) = codes " token"
+kind_of_fault fault.Depth = codes " depth"
+
+abbrev pub fault_text : List ℕ → ℕ → List ℕ
+fault_text middle pc = codes "fault" ++ middle ++ codes " at " ++ decimal pc
+
+-- A text tells of the fault at a slot by its kind alone, or tells of any.
+abbrev pub tells_fault : List ℕ → Status → ℕ → Bool
+tells_fault expected (status.Faulted f) pc = tells expected (fault_text (kind_of_fault f) pc) || tells expected (fault_text [] pc)
+tells_fault expected _ pc = false
+
+abbrev pub tells_kind : List ℕ → Outcome → Bool
+tells_kind expected (Ok x) = tells_fault expected x.status x.pc
+tells_kind expected (Err refusal) = false
+
+-- A result is compared as a number, any other outcome as it is printed; of a fault the number, or number and kind, may be left out.
+abbrev pub tells_outcome : Kind → List ℕ → Outcome → Bool
+tells_outcome k body outcome = tells (expected_text k body) (outcome_text outcome)
+
 abbrev pub meets : Kind → List ℕ → Outcome → Bool
 meets kind.Result body outcome = option_map_or (λ n. results n outcome) (number_of body) false
-meets k body outcome = tells (expected_text k body) (outcome_text outcome)
+meets kind.Fault body outcome = tells_outcome kind.Fault body outcome || tells_kind (expected_text kind.Fault body) outcome
+meets k body outcome = tells_outcome k body outcome
 
 abbrev pub is_met : List Section → Outcome → Bool
 is_met test outcome = option_map_or (λ section. meets section.kind section.body outcome) (section_for part.Expected test) false

@@ -5,7 +5,8 @@ ghost use Rattle.counted_io.specs.Writing.{WritesAfter};
 ghost use Rattle.bpf_suite.specs.Bodies.{number_of};
 ghost use Rattle.bpf_suite.specs.Outcomes.{outcome_text};
 ghost use Rattle.bpf_suite.specs.Reports.{AreTold};
-ghost use Rattle.bpf_suite.specs.Verdicts.{cells_left, context_after, expected_text, has_exited, is_left, is_met, is_stop, lead, leaves, meets, passes, results, tells, wrong_cells};
+ghost use Rattle.bpf_suite.specs.Verdicts.{cells_left, context_after, expected_text, fault_text, has_exited, is_left, is_met, is_stop, kind_of_fault, lead, leaves, meets, passes, results, tells, tells_fault, tells_outcome, wrong_cells};
+ghost use Rattle.bpf_suite.specs.declared.kind.Kind.TheVariants as kinds;
 
 use crate::body::{fits, number_of, solid, trimmed};
 use crate::kind::{Kind, Part};
@@ -13,7 +14,7 @@ use crate::outcome::put_outcome;
 use crate::refusal::Refusal;
 use crate::test::Test;
 use crate::values::WrongCells;
-use bpf_machine::{Cpu, Status};
+use bpf_machine::{Cpu, Fault, Status};
 use bpfdb_replies::number_in;
 use counted_io::{Counted, Piece, WriteFault, put_all};
 use std::alloc::{AllocError, Global};
@@ -119,12 +120,103 @@ fn meets(
 {
     match kind {
         Kind::Result => Ok(meets_number(body, outcome)),
-        _ => {
-            let expected = expected_text(alloc, kind, body)?;
-            let told = outcome_text(alloc, outcome)?;
-            Ok(tells(expected.as_slice(), told.as_slice()))
-        }
+        Kind::Fault => meets_fault(alloc, body, outcome),
+        _ => tells_outcome(alloc, kind, body, outcome),
     }
+}
+
+/// Whether an outcome is printed as a section says.
+fn tells_outcome(
+    alloc: Global,
+    kind: Kind,
+    body: &[u8],
+    outcome: &Result<Cpu, Refusal>,
+) -> Result<bool, AllocError>
+    ensures { IfOk result (λ told. told ≡ tells_outcome kind body.now outcome.now) }
+{
+    let expected = expected_text(alloc, kind, body)?;
+    let told = outcome_text(alloc, outcome)?;
+    Ok(tells(expected.as_slice(), told.as_slice()))
+}
+
+/// Whether an outcome is the fault that a section says, or one of its kind, or any where it says
+/// none.
+fn meets_fault(
+    alloc: Global,
+    body: &[u8],
+    outcome: &Result<Cpu, Refusal>,
+) -> Result<bool, AllocError>
+    ensures { IfOk result (λ met. met ≡ meets kinds.Fault body.now outcome.now) }
+{
+    if tells_outcome(alloc, Kind::Fault, body, outcome)? {
+        return Ok(true);
+    }
+    match outcome {
+        Ok(cpu) => {
+            let expected = expected_text(alloc, Kind::Fault, body)?;
+            tells_fault(alloc, expected.as_slice(), cpu.status(), cpu.pc())
+        }
+        Err(_) => Ok(false),
+    }
+}
+
+/// Whether a text tells of the fault at a slot by its kind alone, or of any.
+fn tells_fault(alloc: Global, expected: &[u8], status: Status, pc: u16) -> Result<bool, AllocError>
+    ensures { IfOk result (λ told. told ≡ tells_fault expected.now status pc) }
+{
+    match status {
+        Status::Faulted(fault) => {
+            let named = fault_text(alloc, kind_of_fault(fault), pc)?;
+            if tells(expected, named.as_slice()) {
+                return Ok(true);
+            }
+            let any = fault_text(alloc, b"", pc)?;
+            Ok(tells(expected, any.as_slice()))
+        }
+        Status::Running | Status::Exited => Ok(false),
+    }
+}
+
+/// A fault's kind, as it is printed.
+fn kind_of_fault(fault: Fault) -> &'static [u8]
+    ensures { result.now ≡ kind_of_fault fault }
+{
+    match fault {
+        Fault::Access { .. } => b" access",
+        Fault::Token { .. } => b" token",
+        Fault::Depth => b" depth",
+    }
+}
+
+/// A fault as it is printed, with this in place of its kind and its number.
+fn fault_text(alloc: Global, middle: &[u8], pc: u16) -> Result<Vec<u8>, AllocError>
+    ensures { IfOk result (λ text. text.items ≡ fault_text middle.now pc) }
+{
+    let mut writer = Counted::new(Vec::new(alloc));
+    match put_fault(&mut writer, Ok(()), middle, pc) {
+        Ok(()) => Ok(writer.into_inner()),
+        Err(WriteFault) => Err(AllocError),
+    }
+}
+
+/// Writes a fault as it is printed, with this in place of its kind and its number.
+fn put_fault<W: Write>(
+    writer: &mut Counted<W>,
+    so_far: Result<(), WriteFault>,
+    middle: &[u8],
+    pc: u16,
+) -> Result<(), WriteFault>
+    ensures { WritesAfter W.contents writer.old so_far writer.new result
+        (fault_text middle.now pc) }
+{
+    let slot = u64::from(pc);
+    let pieces = [
+        Piece::Text(b"fault"),
+        Piece::Text(middle),
+        Piece::Text(b" at "),
+        Piece::Decimal(slot),
+    ];
+    put_all(writer, so_far, &pieces)
 }
 
 /// Whether a program exited with the number that a body is.
