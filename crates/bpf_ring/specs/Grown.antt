@@ -1,5 +1,5 @@
 -- What a ring of entries holds once steps were kept in it. Its size stays.
-use Rattle.std.specs.Prelude.{◌≡◌, ◌≤◌, ◌+◌, ◌-◌, ℕ, Bool, true, false, if◌then◌else◌, List, length, is_some}
+use Rattle.std.specs.Prelude.{◌≡◌, ◌≤◌, ◌+◌, ◌-◌, ℕ, Bool, true, if◌then◌else◌, List, length, is_some}
 use Rattle.bpf_entries.specs.Keeping.{IsSize, Kept, fit, keep, kept_weight}
 use Rattle.bpf_entries.specs.Past.{replaced}
 use Rattle.bpf_entries.specs.Status.{has_ended}
@@ -8,9 +8,7 @@ use Rattle.bpf_machine.specs.Moves.{Leads}
 use Rattle.bpf_steps.specs.Next.{next}
 use Rattle.bpf_steps.specs.State.{State}
 use Rattle.bpf_machine.specs.declared.moves.Move.TheVariants.{Step}
-use Rattle.bpf_ring.specs.Edges.{HoldsAs}
 use Rattle.bpf_ring.specs.Held.{RingHolds}
-use Rattle.bpf_ring.specs.Moments.{Moment}
 use Rattle.bpf_ring.specs.Runs.{AreSteps, RunsTo, kept_after, kept_on, state_after}
 use Rattle.bpf_ring.specs.declared.keeper.RingKeeper.{RingKeeper}
 
@@ -33,13 +31,6 @@ pub record TakesStep (test : Bool → State → Bool) (x y : State) (old new : R
   pub stops : is_over ≡ (if has_ended y.status then true else test (is_some (replaced 0 (step_entry x))) y)
   pub size : new.ring.size ≡ old.ring.size
   pub held : (ks : List Kept) → RingHolds old ks → RingHolds new (keep kept_weight old.ring.size ks (step_entry x, mark))
-
--- Scaffolding: the same of a step without a mark, in a ring that is ragged or not.
-pub record TakesNext (test : Bool → State → Bool) (ragged : Bool) (old new : Moment RingKeeper) (is_over : Bool) : Type 0 where
-  pub leads : Leads old.state Step new.state
-  pub stops : is_over ≡ (if has_ended new.state.status then true else test (is_some (replaced 0 (step_entry old.state))) new.state)
-  pub size : new.keeper.ring.size ≡ old.keeper.ring.size
-  pub held : (ks : List Kept) → HoldsAs ragged old.keeper ks → HoldsAs ragged new.keeper (keep kept_weight old.keeper.ring.size ks (step_entry old.state, false))
 
 -- A run from x to y of n steps, at most so many, was kept, its first step with a mark.
 pub record KeepsRun (test : Bool → State → Bool) (most : ℕ) (x y : State) (old new : RingKeeper) (n : ℕ) : Type 0 where

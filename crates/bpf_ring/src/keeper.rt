@@ -13,11 +13,11 @@ ghost use Rattle.bpf_machine.specs.Moves.{HasComeBy};
 ghost use Rattle.bpf_steps.specs.Next.{change as change_of};
 ghost use Rattle.bpf_ring.specs.Counted.{Counted};
 ghost use Rattle.bpf_ring.specs.Heads.{head_of};
-ghost use Rattle.bpf_ring.specs.Grown.{KeepsRun, MakesRoom, RecordsStep, TakesNext, TakesStep};
+ghost use Rattle.bpf_ring.specs.Grown.{KeepsRun, MakesRoom, RecordsStep, TakesStep};
 ghost use Rattle.bpf_ring.specs.Held.{HoldsWay, RingHolds};
 ghost use Rattle.bpf_ring.specs.Opening.{RefusesSize};
 ghost use Rattle.bpf_ring.specs.Moments.{beside};
-ghost use Rattle.bpf_ring.specs.Pieces.{KeepsRest};
+ghost use Rattle.bpf_ring.specs.Pieces.{KeepsRest, TakesNext};
 ghost use Rattle.bpf_ring.specs.Runs.{GoesOn};
 ghost use Rattle.bpf_ring.specs.Taking.{HandsOver, TakesBack, TakesText};
 
