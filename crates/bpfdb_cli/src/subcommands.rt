@@ -22,6 +22,8 @@ pub(crate) enum CliOption {
     Branches,
     /// `--profile`.
     Profile,
+    /// `--strict`.
+    Strict,
     /// `--listing`.
     Listing,
     /// `--object`.
@@ -88,6 +90,7 @@ pub(crate) const SUBCOMMANDS: [CliSubcommand<'static>; 13] = [
             CliOption::Mem,
             CliOption::Maps,
             CliOption::Steps,
+            CliOption::Strict,
             CliOption::Listing,
             CliOption::Object,
             CliOption::Section,
@@ -110,6 +113,7 @@ pub(crate) const SUBCOMMANDS: [CliSubcommand<'static>; 13] = [
             CliOption::Count,
             CliOption::Branches,
             CliOption::Profile,
+            CliOption::Strict,
             CliOption::Listing,
             CliOption::Object,
             CliOption::Section,
