@@ -62,8 +62,8 @@ _bpfdb() {
         return
     fi
     case $job in
-    run) words="-m --mem --maps --steps --strict --listing --object --section --entry --stub --as-compiled -h --help" ;;
-    trace) words="-m --mem --maps --steps --from --count --branches --profile --strict --listing --object --section --entry --stub --as-compiled -h --help" ;;
+    run) words="-m --mem --maps --steps --listing --object --section --entry --stub --as-compiled -h --help" ;;
+    trace) words="-m --mem --maps --steps --from --count --branches --profile --listing --object --section --entry --stub --as-compiled -h --help" ;;
     debug) words="-m --mem --maps --journal --steps --listing --object --section --entry --stub --as-compiled -h --help" ;;
     origin) words="-m --mem --maps --journal --steps --listing --object --section --entry --stub --script --as-compiled --lines --addresses -h --help" ;;
     whynot) words="-m --mem --maps --journal --steps --listing --object --section --entry --stub --script --as-compiled --lines --addresses --alone -h --help" ;;
@@ -76,7 +76,7 @@ _bpfdb() {
     gdb) words="-m --mem --maps --journal --steps --listing --object --registers --section --entry --stub --as-compiled -h --help" ;;
     test) words="--only --show --cover -h --help" ;;
     shell) words="-m --mem --maps --journal --steps --listing --object --section --entry --stub --as-compiled --packet -h --help" ;;
-    page) words="-m --mem --maps --steps --strict --listing --section --entry --stub --as-compiled --packet -o --output --from --count --title --object -h --help" ;;
+    page) words="-m --mem --maps --steps --listing --section --entry --stub --as-compiled --packet -o --output --from --count --title --object -h --help" ;;
     dap) words="--port --over -h --help" ;;
     help) words="run trace debug origin whynot diff asm disasm lines check link gdb test" ;;
     *) return ;;

@@ -54,8 +54,6 @@ complete -c bpfdb -n "__fish_seen_subcommand_from trace" -l from -x -d "The numb
 complete -c bpfdb -n "__fish_seen_subcommand_from trace" -l count -x -d "The most steps that are shown"
 complete -c bpfdb -n "__fish_seen_subcommand_from trace" -l branches -d "Shows of these steps the conditional jumps alone"
 complete -c bpfdb -n "__fish_seen_subcommand_from trace" -l profile -d "Shows how often each instruction ran"
-complete -c bpfdb -n "__fish_seen_subcommand_from run trace" -l strict -d "Stops before an instruction that reads a byte of the stack which nothing wrote since the call of its function (below(#strict-runs))"
-complete -c bpfdb-page -l strict -d "Stops before an instruction that reads a byte of the stack which nothing wrote since the call of its function (below(#strict-runs))"
 complete -c bpfdb -n "__fish_seen_subcommand_from run trace debug origin whynot diff disasm check gdb" -l listing -d "FILE is a listing"
 complete -c bpfdb-shell -l listing -d "FILE is a listing"
 complete -c bpfdb-page -l listing -d "FILE is a listing"

@@ -183,7 +183,6 @@ cp "$parts/suites/cells.test" "$parts/suites/alone.test" .
     result '0xfffe\n' run -m context --maps $sixteen --listing two.s
     result 'ok 65535 instructions in 65535 slots\n' check --maps $sixteen --listing two.s
     result '0x7\n' run --listing line.s
-    result '0x7\n' run --strict --listing line.s
     output 'asm with 256 kB of stack' jumps asm labels.s
     output 'disasm with 256 kB of stack' canonical.s disasm --maps $sixteen jumps
     output 'lines with 256 kB of stack' slots lines two.s

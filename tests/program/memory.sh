@@ -130,10 +130,6 @@ wants "$plain$a7$c13$o2${others}refused A7: out of memory (the other run)\n" 0 '
 wants "$plain$c13$o2" 0 '1 0: mov r0, 42; r0 = 0x2a\n2 1: exit\nexited at 1: r0 0x2a\n' '' trace -m context --maps 8x2 program
 wants "$plain$c13$o2" 0 'exited at 1: r0 0x2a\n' '' trace --branches program
 wants "$plain$c13$o2" 0 '1 0: mov r0, 42\n1 1: exit\nexited at 1: r0 0x2a\n' '' trace --profile program
-wants "$plain$c13$o2" 0 '0x2a\n' '' run --strict -m context --maps 8x2 program
-wants "$plain$c13$o2" 0 '1 0: mov r0, 42; r0 = 0x2a\n2 1: exit\nexited at 1: r0 0x2a\n' '' trace --strict program
-printf 'mov r0, 42\nldxb r0, [r10-1]\nexit\n' > unread.s
-wants "$plain$a7$c13$o2" 1 '1 0: mov r0, 42; r0 = 0x2a\nread of 0x2000001ff at 1: not written since the call\n' '' trace --strict --listing unread.s
 wants "$plain$a7" 0 "$words" '' asm program.s
 wants "$plain$a7" 0 '0 1 start\n1 2\n' '' lines program.s
 wants "$plain$c13" 0 'mov r0, 42\nexit\n' '' disasm --maps 8x2 program

@@ -63,10 +63,6 @@ branches_rule = record (new_rule (codes "branches")) { long = Some (codes "branc
 abbrev pub profile_rule : Rule
 profile_rule = record (new_rule (codes "profile")) { long = Some (codes "profile"); action = Some SetTrue }
 
--- `--strict`: the run stops at a read of the stack where nothing was written.
-abbrev pub strict_rule : Rule
-strict_rule = record (new_rule (codes "strict")) { long = Some (codes "strict"); action = Some SetTrue }
-
 -- `--listing`: FILE is a listing.
 abbrev pub listing_rule : Rule
 listing_rule = record (new_rule (codes "listing")) { long = Some (codes "listing"); action = Some SetTrue }
@@ -170,11 +166,11 @@ with_file_kinds app = with_link_rules (with_rule (with_rule app listing_rule) ob
 
 -- The subcommands and their options.
 abbrev pub run_app : App
-run_app = with_rule (with_file_kinds (with_rule (with_rule (with_rule (with_rule (new_app (codes "run")) mem_rule) maps_rule) steps_rule) strict_rule)) file_rule
+run_app = with_rule (with_file_kinds (with_rule (with_rule (with_rule (new_app (codes "run")) mem_rule) maps_rule) steps_rule)) file_rule
 
 abbrev pub trace_app : App
-trace_app = with_rule (with_file_kinds (with_rule (with_rule (with_rule (with_rule (with_rule (with_rule (with_rule (with_rule (new_app (codes "trace"))
-    mem_rule) maps_rule) steps_rule) from_rule) count_rule) branches_rule) profile_rule) strict_rule)) file_rule
+trace_app = with_rule (with_file_kinds (with_rule (with_rule (with_rule (with_rule (with_rule (with_rule (with_rule (new_app (codes "trace"))
+    mem_rule) maps_rule) steps_rule) from_rule) count_rule) branches_rule) profile_rule)) file_rule
 
 abbrev pub debug_app : App
 debug_app = with_rule (with_file_kinds (with_rule (with_rule (with_rule (with_rule (new_app (codes "debug"))

@@ -58,7 +58,6 @@ pub record Chooses (rows : List Row) (options : Options) : Type 0 where
   pub count : options.count ≡ number_or greatest_count (first_of (codes "count") rows)
   pub branches : options.only_branches ≡ is_given (first_of (codes "branches") rows)
   pub profile : options.is_profile ≡ is_given (first_of (codes "profile") rows)
-  pub strict : options.is_strict ≡ is_given (first_of (codes "strict") rows)
   pub listing : options.is_listing ≡ is_given (first_of (codes "listing") rows)
   pub object : options.is_object ≡ is_given (first_of (codes "object") rows)
   pub section : option_map (λ s. s.now) options.section ≡ first_of (codes "section") rows
@@ -127,21 +126,15 @@ names_other rows = if is_some (first_of (codes "other") rows)
     then not (is_some (first_of (codes "other-mem") rows)) && not (is_given (first_of (codes "object") rows))
     else is_some (first_of (codes "other-mem") rows)
 
--- Options go together: an object is no listing and has maps of its own, of a link is asked only where an object is linked, `diff` is told
--- of one other run, and steps that are counted are those of a run that isn't strict.
+-- Options go together: an object is no listing and has maps of its own, of a link is asked only where an object is linked, and `diff` is told
+-- of one other run.
 abbrev pub link_fits : Text → List Row → Bool
 link_fits name rows = if is_given (first_of (codes "object") rows)
     then not (is_given (first_of (codes "listing") rows)) && not (is_some (first_of (codes "maps") rows))
     else bytes_eq name (codes "link") || not (asks_of_link rows)
 
-abbrev pub run_fits : Text → List Row → Bool
-run_fits name rows = if bytes_eq name (codes "diff") then names_other rows && link_fits name rows else link_fits name rows
-
-abbrev pub counts_strictly : List Row → Bool
-counts_strictly rows = is_given (first_of (codes "strict") rows) && is_given (first_of (codes "profile") rows)
-
 abbrev pub go_together : Text → List Row → Bool
-go_together name rows = not (counts_strictly rows) && run_fits name rows
+go_together name rows = if bytes_eq name (codes "diff") then names_other rows && link_fits name rows else link_fits name rows
 
 -- A plan says what a subcommand's matches say, with numbers in their ranges and options that go together.
 pub record IsPlanOf (name : Text) (rows : List Row) (plan : Plan) : Type 0 where

@@ -47,9 +47,7 @@ pub const RUN_LONG: &str = "Runs a program to its end and prints r0.
 Reads FILE, and the context from the file that -m names. Writes r0 to standard
 output, as 0x and hexadecimal digits. If the program faults or reaches the limit
 of steps, a line on standard error says so, with the slot of the instruction.
-Then the exit status is 1, and nothing is on standard output. --strict stops
-so, too, before an instruction that reads a byte of the stack which nothing
-wrote since the call of its function.";
+Then the exit status is 1, and nothing is on standard output.";
 
 pub const RUN_EXAMPLE: &str = "Example:
   $ bpfdb run --steps 5000 --listing count.s
@@ -66,8 +64,7 @@ says where the program ended, or that the limit of steps is reached; then, and
 where it faults, the exit status is 1. --branches shows of these steps the
 conditional jumps alone: the registers that each one compared, and whether it
 jumped or went on. --profile tells how often each instruction ran, in place of
-the steps. --strict stops before an instruction that reads a byte of the stack
-which nothing wrote since the call of its function.";
+the steps.";
 
 pub const TRACE_EXAMPLE: &str = "Example:
   $ bpfdb trace --from 5 --listing count.s
@@ -353,9 +350,6 @@ pub const BRANCHES: &str = "Shows conditional jumps alone, and where each went";
 
 /// `--profile`.
 pub const PROFILE: &str = "Tells how often each instruction ran, and no steps";
-
-/// `--strict`.
-pub const STRICT: &str = "Stops before a read of stack that nothing wrote";
 
 /// `--listing`.
 pub const LISTING: &str = "FILE is a listing (LISTING.md), assembled first";

@@ -5,7 +5,7 @@ ghost use Rattle.clap.specs.Words.{Row, Text, first_of, found_of, rows_of, subco
 ghost use Rattle.bpfdb_limits.specs.Limits.{IsLimit};
 ghost use Rattle.bpfdb_options.specs.Lines.{most_further};
 ghost use Rattle.bpfdb_cli.specs.Scaffolding.{AskAlike};
-ghost use Rattle.bpfdb_cli.specs.Plans.{AreInRange, Chooses, HasKindIfTold, IsFaultOf, IsPlan, IsPlanOf, NamesPart, NamesRegisters, Says, Tells, asks_of_link, counts_strictly, go_together, is_given, link_fits, names_other, number_or, other_in, run_fits, given_or, NamesPacket, further_in};
+ghost use Rattle.bpfdb_cli.specs.Plans.{AreInRange, Chooses, HasKindIfTold, IsFaultOf, IsPlan, IsPlanOf, NamesPart, NamesRegisters, Says, Tells, asks_of_link, go_together, is_given, link_fits, names_other, number_or, other_in, given_or, NamesPacket, further_in};
 
 use crate::command_line::command_line;
 use crate::plans::{Plan, PlanFault};
@@ -31,8 +31,6 @@ const TWO_OTHERS: &str = "the argument '[OTHER]' cannot be used with '--other-me
 const OBJECT_AND_OTHER: &str = "the argument '--object' cannot be used with '[OTHER]'";
 
 const NO_OTHER: &str = "a second program, '[OTHER]', or '--other-mem <PATH>' is needed";
-
-const STRICT_AND_PROFILE: &str = "the argument '--strict' cannot be used with '--profile'";
 
 const MANY_OBJECTS: &str = "the argument '--with <OBJECT>' is used more than 16 times";
 
@@ -163,25 +161,6 @@ fn misfit_in(name: &str, found: &ArgMatches<'_>) -> Option<&'static str>
     ensures none { IfNone result (go_together name.now (rows_of (found_of found.now)) ≡ true) }
     ensures some { OnSome result (go_together name.now (rows_of (found_of found.now)) ≡ false) }
 {
-    if counts_strictly(found) {
-        Some(STRICT_AND_PROFILE)
-    } else {
-        misfit_of_run(name, found)
-    }
-}
-
-/// Whether the steps of a strict run are to be counted.
-fn counts_strictly(found: &ArgMatches<'_>) -> bool
-    ensures { result ≡ counts_strictly (rows_of (found_of found.now)) }
-{
-    is_given(text_of(found, "strict")) && is_given(text_of(found, "profile"))
-}
-
-/// Why what is asked of runs and of a link doesn't go together, if it doesn't.
-fn misfit_of_run(name: &str, found: &ArgMatches<'_>) -> Option<&'static str>
-    ensures none { IfNone result (run_fits name.now (rows_of (found_of found.now)) ≡ true) }
-    ensures some { OnSome result (run_fits name.now (rows_of (found_of found.now)) ≡ false) }
-{
     if name == "diff" {
         match misfit_of_other(found) {
             Some(why) => Some(why),
@@ -290,7 +269,6 @@ fn options_in<'a>(found: &ArgMatches<'a>) -> Option<Options<'a>>
         count,
         only_branches: is_given(text_of(found, "branches")),
         is_profile: is_given(text_of(found, "profile")),
-        is_strict: is_given(text_of(found, "strict")),
         is_listing: is_given(text_of(found, "listing")),
         is_object: is_given(text_of(found, "object")),
         section: text_of(found, "section"),

@@ -22,8 +22,6 @@ pub(crate) enum CliOption {
     Branches,
     /// `--profile`.
     Profile,
-    /// `--strict`.
-    Strict,
     /// `--listing`.
     Listing,
     /// `--object`.
@@ -90,7 +88,6 @@ pub(crate) const SUBCOMMANDS: [CliSubcommand<'static>; 13] = [
             CliOption::Mem,
             CliOption::Maps,
             CliOption::Steps,
-            CliOption::Strict,
             CliOption::Listing,
             CliOption::Object,
             CliOption::Section,
@@ -113,7 +110,6 @@ pub(crate) const SUBCOMMANDS: [CliSubcommand<'static>; 13] = [
             CliOption::Count,
             CliOption::Branches,
             CliOption::Profile,
-            CliOption::Strict,
             CliOption::Listing,
             CliOption::Object,
             CliOption::Section,

@@ -29,9 +29,6 @@ use Rattle.bpf_session.specs.declared.plain.Ending.TheVariants.{Exited, Faulted,
 use Rattle.bpf_text.specs.Canonical.{canon}
 use Rattle.bpf_text.specs.LineTable.{IsLineTable}
 use Rattle.bpf_text.specs.Listing.{IsListing}
-use Rattle.bpf_strict.specs.Texts.{trace_until, unwritten_line}
-use Rattle.bpf_strict.specs.Written.{unwritten_of}
-use Rattle.bpf_strict.specs.declared.run.Unwritten.{Unwritten}
 use Rattle.bpf_trace.specs.Profiles.{profile_text}
 use Rattle.bpf_trace.specs.Traces.{limit_line, trace_text}
 use Rattle.bpf_trace.specs.declared.trace.Shown.{Shown}
@@ -173,14 +170,6 @@ run_print limit Limit end = stopped (limit_line limit end.pc)
 abbrev pub run_end : Job → Checked → State
 run_end job code = plain_end job.options.limit (initial code job.context.now)
 
--- With `--strict` it stops before the first step that would read a byte of the stack which nothing wrote since the call.
-abbrev pub unwritten_in : Job → State → Option Unwritten
-unwritten_in job x = if job.options.is_strict then unwritten_of job.options.limit x else None
-
-abbrev pub run_or_stopped : Option Unwritten → Print → Print
-run_or_stopped None a = a
-run_or_stopped (Some read) a = stopped (unwritten_line read)
-
 -- `trace`: the steps that are shown, with `--branches` the conditional jumps among them, or with `--profile` how often each instruction ran, and where
 -- the run ended. Its status is 1 where `run` has no result.
 abbrev pub shown_of : Job → Shown
@@ -200,11 +189,6 @@ status_of_end _ = 1
 
 abbrev pub trace_print : Job → State → State → Print
 trace_print job x end = record { out = Some (trace_out job x); err = None; status = status_of_end end.status }
-
--- With `--strict` it stops there, too.
-abbrev pub trace_or_stopped : Option Unwritten → Job → State → State → Print
-trace_or_stopped None job x end = trace_print job x end
-trace_or_stopped (Some read) job x end = record { out = Some (trace_until read (shown_of job) x); err = None; status = 1 }
 
 -- `origin`: where the machine stands, and where the values came from that are asked about. Where that is, by the job; or why its script is
 -- refused.
@@ -275,10 +259,8 @@ IsTable true job table = (object : List ℕ) × (counted : Option ℕ) × (progr
 
 -- What a subcommand prints of a job that has what it needs: one that reads no standard input. (`test` has a definition of its own.)
 abbrev pub Prints : Subcommand → Job → Print → Type 0
-Prints Run job a = (code : Checked) × Opens job code × (a ≡ run_or_stopped (unwritten_in job (initial code job.context.now))
-    (run_print job.options.limit (ending_of (run_end job code).status) (run_end job code)))
-Prints Trace job a = (code : Checked) × Opens job code
-    × (a ≡ trace_or_stopped (unwritten_in job (initial code job.context.now)) job (initial code job.context.now) (run_end job code))
+Prints Run job a = (code : Checked) × Opens job code × (a ≡ run_print job.options.limit (ending_of (run_end job code).status) (run_end job code))
+Prints Trace job a = (code : Checked) × Opens job code × (a ≡ trace_print job (initial code job.context.now) (run_end job code))
 Prints Debug job a = ⊥
 Prints Origin job a = (code : Checked) × (at : Arrival) × (what : Option What) × OpensSession job code × (arrival_of job code ≡ Ok at)
     × Asks job.options.what at.point.state what × (a ≡ origin_print at.point.state (answer_by job.options what at))

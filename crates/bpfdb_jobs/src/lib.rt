@@ -21,7 +21,6 @@ mod row;
 mod run;
 mod script;
 mod show;
-mod strict;
 mod suite;
 mod trace;
 mod whynot;
