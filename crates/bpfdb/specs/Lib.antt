@@ -1,4 +1,5 @@
 pub mod Done
 pub mod Files
+pub mod Turns
 pub mod Jobs
 pub mod Words

@@ -14,6 +14,7 @@ mod input;
 mod job;
 mod opening;
 mod prompt;
+mod turns;
 mod words;
 
 use bpfdb_cli::{Plan, PlanFault, plan};
