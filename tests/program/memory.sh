@@ -171,12 +171,6 @@ if has_clang 'link --with where memory is refused'; then
     "$program" lines --object --with functions.o --section cells program.o > table
     wants "$plain$e26$of_functions" 0 "$(text table)" '' lines --object --with functions.o --section cells program.o
 fi
-# Programs in turn.
-if has_clang 'link --entry where memory is refused'; then
-    clang -g -O2 -target bpf -c "$parts/turns/pair.c" -o pair.o 2> found/err || complain "pair.c: $(cat found/err)"
-    "$program" link --entry store --entry take@8 pair.o > linked 2> told || complain "store and take: $(cat told)"
-    wants "$plain$e26" 0 "$(od -An -v -b linked | tr -d '\n' | sed 's/ /\\0/g')" "$(cat told)\n" link --entry store --entry take@8 pair.o
-fi
 # A program of the kernel's for packets.
 if has_clang 'link --packet where memory is refused'; then
     clang -g -O2 -target bpf -c "$parts/kernels/works.c" -o works.o 2> found/err || complain "works.c: $(cat found/err)"

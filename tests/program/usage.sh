@@ -148,7 +148,7 @@ for subcommand in run trace debug origin whynot diff gdb disasm check; do
     usage "the argument '--object' cannot be used multiple times" $subcommand --object --object first $what
     usage "unexpected value 'yes' for '--object' found; no more were expected" $subcommand --object=yes first $what
     usage "a value is required for '--section <NAME>' but none was supplied" $subcommand first $what --object --section
-    usage "the argument '--stub <NUMBER=VALUE>' cannot be used multiple times" $subcommand --object --stub 1=0 --stub 1=0 first $what
+    usage "the argument '--entry <NAME>' cannot be used multiple times" $subcommand --object --entry a --entry a first $what
 done
 usage 'a value is none of those that its option takes' test --show words two.test
 for subcommand in $subcommands; do
@@ -197,8 +197,7 @@ usage "unexpected value 'yes' for '--addresses' found; no more were expected" or
 usage "a value is required for '--section <NAME>' but none was supplied" link first --section
 usage "the argument '--section <NAME>' cannot be used multiple times" link --section a --section a first
 usage "a value is required for '--entry <NAME>' but none was supplied" link first --entry
-# (several entries are programs of the object)
-refused 'refused E1: no ELF file' link --entry a --entry a first
+usage "the argument '--entry <NAME>' cannot be used multiple times" link --entry a --entry a first
 usage "a value is required for '--stub <NUMBER=VALUE>' but none was supplied" link first --stub
 usage "the argument '--stub <NUMBER=VALUE>' cannot be used multiple times" link --stub 5=0 --stub 6=0 first
 for number in 0x400 1k 1024.0; do

@@ -1,5 +1,4 @@
 pub mod Done
 pub mod Files
-pub mod Turns
 pub mod Jobs
 pub mod Words

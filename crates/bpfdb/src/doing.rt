@@ -1,6 +1,6 @@
 //! What is done of a command line, over any files, reader and writers.
 ghost use Rattle.std.specs.Prelude.{◌≤◌};
-ghost use Rattle.bpfdb.specs.Done.{DoesHinted, DoesOver, DoesPlan, Helps};
+ghost use Rattle.bpfdb.specs.Done.{DoesHinted, DoesPlan, Helps};
 ghost use Rattle.bpfdb.specs.Files.{contents};
 ghost use Rattle.bpfdb.specs.Jobs.{IsJobOf};
 ghost use Rattle.bpfdb_jobs.specs.declared.job.Job.{Job};
@@ -9,8 +9,7 @@ ghost use Rattle.counted_io.specs.Writing.{Writes};
 ghost use Rattle.bpfdb_faults.specs.Streams.{stream};
 
 use crate::files::{kind_of, read_each, read_given, read_named};
-use crate::job::{is_turned, job_of};
-use crate::turns::{refuse_turns, turned_file};
+use crate::job::job_of;
 use bpfdb_cli::Plan;
 use bpfdb_faults::{JobFault, give_up};
 use bpfdb_files::{FileKind, Opener};
@@ -54,7 +53,7 @@ pub fn do_plan<F: Opener, R: Read, W: Write, E: Write>(
         Ok(further) => further,
         Err(fault) => return give_up(errors, &fault),
     };
-    do_turned(
+    do_read(
         alloc,
         plan,
         file.as_slice(),
@@ -66,56 +65,6 @@ pub fn do_plan<F: Opener, R: Read, W: Write, E: Write>(
         writer,
         errors,
     )
-}
-
-/// Does a plan with the bytes of its files: over FILE, or over the object of programs in turn.
-fn do_turned<R: Read, W: Write, E: Write>(
-    alloc: Global,
-    plan: &Plan<'_>,
-    file: &[u8],
-    context: &[u8],
-    other: &[u8],
-    further: &[Vec<u8>],
-    at_terminal: bool,
-    reader: &mut Counted<R>,
-    writer: &mut Counted<W>,
-    errors: &mut Counted<E>,
-) -> u8
-    requires limit { IsLimit plan.now.options.limit }
-    ensures does { DoesOver at_terminal plan.now file.now context.now other.now
-        (contents further.now) (stream R.remaining reader.old reader.new)
-        (stream W.contents writer.old writer.new) (stream E.contents errors.old errors.new) result }
-    ensures status { result ≤ 2 }
-{
-    if !is_turned(plan) {
-        return do_read(
-            alloc,
-            plan,
-            file,
-            context,
-            other,
-            further,
-            at_terminal,
-            reader,
-            writer,
-            errors,
-        );
-    }
-    match turned_file(alloc, plan, file) {
-        Ok(bytes) => do_read(
-            alloc,
-            plan,
-            bytes.as_slice(),
-            context,
-            other,
-            further,
-            at_terminal,
-            reader,
-            writer,
-            errors,
-        ),
-        Err(fault) => refuse_turns(file, fault, errors),
-    }
 }
 
 /// Does the job of a plan, with the bytes of its files, and adds its hint.

@@ -14,7 +14,6 @@ mod input;
 mod job;
 mod opening;
 mod prompt;
-mod turns;
 mod words;
 
 use bpfdb_cli::{Plan, PlanFault, plan};

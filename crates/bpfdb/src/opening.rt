@@ -55,7 +55,6 @@ pub fn first_plan() -> Plan<'static>
         memory: None,
         other: None,
         further: ArrayVec::new(),
-        turns: ArrayVec::new(),
         options: NO_OPTIONS,
     }
 }

@@ -75,9 +75,9 @@ object_rule = record (new_rule (codes "object")) { long = Some (codes "object");
 abbrev pub section_rule : Rule
 section_rule = record (new_rule (codes "section")) { long = Some (codes "section"); value_names = 1 }
 
--- `--entry NAME[@OFFSET]`: the function at which the program begins; or functions that it calls in turn, one each time.
+-- `--entry NAME`: the function at which the program begins.
 abbrev pub entry_rule : Rule
-entry_rule = record (new_rule (codes "entry")) { long = Some (codes "entry"); value_names = 1; action = Some Append }
+entry_rule = record (new_rule (codes "entry")) { long = Some (codes "entry"); value_names = 1 }
 
 -- `--stub NUMBER=VALUE,NUMBER=VALUE`: the helpers whose calls are answered by a constant.
 abbrev pub stub_rule : Rule

@@ -1,6 +1,5 @@
 -- What a plan says, by what `clap`'s exact matches give for the words.
 use Rattle.std.specs.Prelude.{◌≡◌, ◌⊎◌, ◌<◌, ◌≤◌, ◌^◌, ◌||◌, ◌&&◌, ℕ, Bool, true, false, not, if◌then◌else◌, List, [], Option, Some, None, is_some, option_map, unwrap_or, codes, drop, length, map}
-use Rattle.std.specs.List.{list_all}
 use Rattle.std.specs.Option.{option_map_or}
 use Rattle.std.specs.Str.{bytes_eq}
 use Rattle.std.specs.Str.Parse.{IsNumeral, digits_value, without_leading_plus}
@@ -14,7 +13,6 @@ use Rattle.bpfdb_cli.specs.declared.plans.PlanFault.{PlanFault}
 use Rattle.bpfdb_cli.specs.declared.plans.PlanFault.TheVariants.{Usage, Memory}
 use Rattle.bpf_packet.specs.Names.{packet_name}
 use Rattle.bpf_packet.specs.declared.packet.Packet.{Packet}
-use Rattle.turn_texts.specs.Texts.{offset_in}
 use Rattle.bpfdb_limits.specs.Limits.{IsLimit, default_journal, default_limit, greatest_count}
 use Rattle.bpfdb_options.specs.Lines.{default_lines, most_further}
 use Rattle.bpfdb_options.specs.Registers.{registers_name}
@@ -88,16 +86,9 @@ abbrev pub other_in : List Row → Option Text
 other_in rows = given_or (given_or (first_of (codes "script") rows) (first_of (codes "with") rows))
     (given_or (first_of (codes "other-mem") rows) (first_of (codes "other") rows))
 
--- What an option says behind the first time: objects behind the first one, by `--with`, and programs in turn, by `--entry`.
-abbrev pub further_in : Text → List Row → List Text
-further_in id rows = drop 1 (unwrap_or (all_of id rows) [])
-
--- What stands behind an `@` of `--entry` is a number, at most 65,535.
-abbrev pub has_offset : Text → Bool
-has_offset text = is_some (offset_in text)
-
-abbrev pub entries_fit : List Row → Bool
-entries_fit rows = list_all has_offset (unwrap_or (all_of (codes "entry") rows) [])
+-- The objects behind the first one: so many uses of `--with` there may be besides the first.
+abbrev pub further_in : List Row → List Text
+further_in rows = drop 1 (unwrap_or (all_of (codes "with") rows) [])
 
 -- A plan says what they say.
 pub record Says (name : Text) (rows : List Row) (plan : Plan) : Type 0 where
@@ -105,10 +96,8 @@ pub record Says (name : Text) (rows : List Row) (plan : Plan) : Type 0 where
   pub file : first_of (codes "file") rows ≡ Some plan.file.now
   pub memory : option_map (λ s. s.now) plan.memory ≡ first_of (codes "mem") rows
   pub other : option_map (λ s. s.now) plan.other ≡ other_in rows
-  pub further : map (λ s. s.now) plan.further.items ≡ further_in (codes "with") rows
-  pub few : length (further_in (codes "with") rows) ≤ most_further
-  pub turns : map (λ s. s.now) plan.turns.items ≡ further_in (codes "entry") rows
-  pub few_turns : length (further_in (codes "entry") rows) ≤ most_further
+  pub further : map (λ s. s.now) plan.further.items ≡ further_in rows
+  pub few : length (further_in rows) ≤ most_further
   pub options : Chooses rows plan.options
 
 -- A number that is given is one below 2^64.
@@ -137,16 +126,15 @@ names_other rows = if is_some (first_of (codes "other") rows)
     then not (is_some (first_of (codes "other-mem") rows)) && not (is_given (first_of (codes "object") rows))
     else is_some (first_of (codes "other-mem") rows)
 
--- Options go together: an object is no listing and has maps of its own, of a link is asked only where an object is linked, `diff` is told
--- of one other run, and entries have numbers.
+-- Options go together: an object is no listing and has maps of its own, of a link is asked only where an object is linked, and `diff` is told
+-- of one other run.
 abbrev pub link_fits : Text → List Row → Bool
 link_fits name rows = if is_given (first_of (codes "object") rows)
     then not (is_given (first_of (codes "listing") rows)) && not (is_some (first_of (codes "maps") rows))
     else bytes_eq name (codes "link") || not (asks_of_link rows)
 
 abbrev pub go_together : Text → List Row → Bool
-go_together name rows =
-    entries_fit rows && (if bytes_eq name (codes "diff") then names_other rows && link_fits name rows else link_fits name rows)
+go_together name rows = if bytes_eq name (codes "diff") then names_other rows && link_fits name rows else link_fits name rows
 
 -- A plan says what a subcommand's matches say, with numbers in their ranges and options that go together.
 pub record IsPlanOf (name : Text) (rows : List Row) (plan : Plan) : Type 0 where

@@ -76,11 +76,7 @@ fn argument_of<'a>(alloc: Global, option: CliOption) -> Arg<'a>
         CliOption::Object => flag(alloc, "object", help::OBJECT),
         CliOption::Registers => registers_option(alloc),
         CliOption::Section => section_option(alloc),
-        CliOption::Entry => {
-            text_option(alloc, "entry", "NAME", help::ENTRY, help::ENTRY_LONG).action(
-                ArgAction::Append,
-            )
-        }
+        CliOption::Entry => text_option(alloc, "entry", "NAME", help::ENTRY, help::ENTRY_LONG),
         CliOption::Stub => text_option(alloc, "stub", "NUMBER=VALUE", help::STUB, help::STUB_LONG),
         CliOption::Script => {
             text_option(alloc, "script", "PATH", help::SCRIPT, help::SCRIPT_LONG)

@@ -376,10 +376,8 @@ Example: --section xdp";
 pub const ENTRY: &str = "Function to begin at; without it the only one";
 
 pub const ENTRY_LONG: &str = "Name of the function of that section at which the program begins.
-Without it that is the only one that isn't static. Up to 16 times: the
-program calls these functions, of any sections, in turn. Behind a name
-and an @ may stand the place of its context, in bytes.
-Example: --entry enter --entry exit@168";
+Without it that is the only one that isn't static.
+Example: --entry handle";
 
 /// `--stub`.
 pub const STUB: &str = "Helpers whose calls a constant answers";

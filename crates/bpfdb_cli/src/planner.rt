@@ -1,12 +1,11 @@
 //! From the words of a command line to a plan.
 ghost use Rattle.std.specs.Prelude.{◌≡◌, ◌≤◌, ◌<◌, ◌^◌, IfErr, IfNone, IfOk, IfSome, MatchOption, OnErr, OnOk, OnSome, Option, Some, List, codes, drop, false, is_some, length, map, not, option_map, true, ◌&&◌};
-ghost use Rattle.std.specs.List.{list_all};
 ghost use Rattle.std.specs.Str.Parse.{IsNumeral, digits_value, without_leading_plus};
 ghost use Rattle.clap.specs.Words.{Row, Text, first_of, found_of, rows_of, subcommand_rows_of};
 ghost use Rattle.bpfdb_limits.specs.Limits.{IsLimit};
 ghost use Rattle.bpfdb_options.specs.Lines.{most_further};
 ghost use Rattle.bpfdb_cli.specs.Scaffolding.{AskAlike};
-ghost use Rattle.bpfdb_cli.specs.Plans.{AreInRange, Chooses, HasKindIfTold, IsFaultOf, IsPlan, IsPlanOf, NamesPart, NamesRegisters, Says, Tells, asks_of_link, go_together, is_given, link_fits, names_other, number_or, other_in, given_or, NamesPacket, entries_fit, further_in, has_offset};
+ghost use Rattle.bpfdb_cli.specs.Plans.{AreInRange, Chooses, HasKindIfTold, IsFaultOf, IsPlan, IsPlanOf, NamesPart, NamesRegisters, Says, Tells, asks_of_link, go_together, is_given, link_fits, names_other, number_or, other_in, given_or, NamesPacket, further_in};
 
 use crate::command_line::command_line;
 use crate::plans::{Plan, PlanFault};
@@ -17,7 +16,6 @@ use bpfdb_options::{DEFAULT_LINES, MOST_FURTHER, Options, Registers, Subcommand,
 use clap::error::ErrorKind;
 use clap::{ArgMatches, Command, Error};
 use std::alloc::Global;
-use turn_texts::offset_in;
 
 /// What is said of a name that `--registers` doesn't take. It would be said of a number, too, that
 /// `clap` lets pass out of its range: it lets none pass, which isn't drawn from its contract here.
@@ -35,11 +33,6 @@ const OBJECT_AND_OTHER: &str = "the argument '--object' cannot be used with '[OT
 const NO_OTHER: &str = "a second program, '[OTHER]', or '--other-mem <PATH>' is needed";
 
 const MANY_OBJECTS: &str = "the argument '--with <OBJECT>' is used more than 16 times";
-
-const MANY_ENTRIES: &str = "the argument '--entry <NAME>' is used more than 16 times";
-
-const BAD_ENTRY: &str =
-    "behind the '@' of '--entry <NAME>' a number is wanted, in bytes, at most 65535";
 
 const NO_OBJECT: &str = "'--section', '--entry', '--stub' and '--as-compiled' need '--object'";
 
@@ -148,13 +141,9 @@ fn plan_in<'a>(name: &'a str, found: &ArgMatches<'a>) -> Result<Plan<'a>, &'stat
         Some(why) => return Err(why),
         None => {}
     }
-    let further = match further_of(found, "with") {
+    let further = match further_of(found) {
         Some(further) => further,
         None => return Err(MANY_OBJECTS),
-    };
-    let turns = match further_of(found, "entry") {
-        Some(turns) => turns,
-        None => return Err(MANY_ENTRIES),
     };
     Ok(Plan {
         subcommand,
@@ -162,7 +151,6 @@ fn plan_in<'a>(name: &'a str, found: &ArgMatches<'a>) -> Result<Plan<'a>, &'stat
         memory: text_of(found, "mem"),
         other: other_of(found),
         further,
-        turns,
         options,
     })
 }
@@ -173,9 +161,6 @@ fn misfit_in(name: &str, found: &ArgMatches<'_>) -> Option<&'static str>
     ensures none { IfNone result (go_together name.now (rows_of (found_of found.now)) ≡ true) }
     ensures some { OnSome result (go_together name.now (rows_of (found_of found.now)) ≡ false) }
 {
-    if !entries_fit(found) {
-        return Some(BAD_ENTRY);
-    }
     if name == "diff" {
         match misfit_of_other(found) {
             Some(why) => Some(why),
@@ -184,25 +169,6 @@ fn misfit_in(name: &str, found: &ArgMatches<'_>) -> Option<&'static str>
     } else {
         misfit_of_link(name, found)
     }
-}
-
-/// Whether each entry that names a place of the context has a number for it.
-fn entries_fit(found: &ArgMatches<'_>) -> bool
-    ensures { result ≡ entries_fit (rows_of (found_of found.now)) }
-{
-    match found.get_strs("entry") {
-        Some(texts) => have_offsets(texts),
-        None => true,
-    }
-}
-
-/// Whether each of some texts has a number where it has an `@`.
-fn have_offsets(texts: &[&str]) -> bool
-    ensures { result ≡ list_all (λ text. has_offset text.now) texts.now }
-{
-    texts
-        .iter()
-        .all(|text| offset_in(text.as_bytes()).is_some())
 }
 
 /// Why the other run is none, if it isn't.
@@ -399,14 +365,14 @@ fn text_of<'a>(found: &ArgMatches<'a>, id: &str) -> Option<&'a str>
     found.get_str(id)
 }
 
-/// What an option says behind the first time. None where that is too much.
-fn further_of<'a>(found: &ArgMatches<'a>, id: &str) -> Option<ArrayVec<&'a str, MOST_FURTHER>>
+/// The paths of the objects behind the first one. None where they are too many.
+fn further_of<'a>(found: &ArgMatches<'a>) -> Option<ArrayVec<&'a str, MOST_FURTHER>>
     ensures found { IfSome result (λ further. map (λ path. path.now) further.items
-        ≡ further_in id.now (rows_of (found_of found.now))) }
-    ensures few { OnSome result (length (further_in id.now (rows_of (found_of found.now))) ≤ most_further) }
-    ensures none { IfNone result (most_further < length (further_in id.now (rows_of (found_of found.now)))) }
+        ≡ further_in (rows_of (found_of found.now))) }
+    ensures few { OnSome result (length (further_in (rows_of (found_of found.now))) ≤ most_further) }
+    ensures none { IfNone result (most_further < length (further_in (rows_of (found_of found.now)))) }
 {
-    match found.get_strs(id) {
+    match found.get_strs("with") {
         Some(paths) => behind_first(paths),
         None => Some(ArrayVec::new()),
     }

@@ -21,9 +21,6 @@ pub struct Plan<'a> {
     pub other: Option<&'a str>,
     /// The paths of further such objects.
     pub further: ArrayVec<&'a str, MOST_FURTHER>,
-    /// What is said of the programs of an object that are called behind the first one, which the
-    /// options name.
-    pub turns: ArrayVec<&'a str, MOST_FURTHER>,
     pub options: Options<'a>,
 }
 

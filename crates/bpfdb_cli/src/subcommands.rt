@@ -30,7 +30,7 @@ pub(crate) enum CliOption {
     Registers,
     /// `--section NAME`.
     Section,
-    /// `--entry NAME[@OFFSET]`.
+    /// `--entry NAME`.
     Entry,
     /// `--stub NUMBER=VALUE,NUMBER=VALUE`.
     Stub,

@@ -1,5 +1,0 @@
-pub mod Seats
-pub mod Calls
-pub mod Turned
-pub mod Objects
-pub mod Parts
