@@ -212,35 +212,12 @@ reports() {
 }
 reports "$plan$one$two$cell$show"
 said 'bpfdb test' '0 lines\n1 lines\n2 lines\n'
-# Registers that are set, and a fault that is expected by its kind alone, or is any.
-for kind in access ''; do
-    printf -- '-- listing\nldxb r0, [r3+1]\nexit\n-- regs\nr3 = 8\n\nr4 = 1\n-- fault\n%s\n' "$kind" > kind.test
-    : > met
-    request=1 found=
-    while [ "$found" != 0 ] && [ "$request" -le "$most" ]; do
-        for all in '' all; do
-            refuse "$request" "$all" test kind.test
-            if [ "$found" = 0 ]; then
-                check "bpfdb test of fault $kind: request $request for memory refused, $all, and made again" 0 '1..1\nok 1\n' ''
-                continue
-            fi
-            lines=$(wc -l < found/out)
-            echo "$lines lines" >> met
-            reported=
-            [ "$lines" = 0 ] || reported='1..1\n'
-            check "bpfdb test of fault $kind: request $request for memory refused, $all" 2 "$reported" "$plain"
-        done
-        request=$((request + 1))
-    done
-    said "bpfdb test of fault $kind" '0 lines\n1 lines\n'
-done
 # With --cover there is no table, then, or all of it.
 table='# cover of the program in line 3: 2 of 2 instructions, 0 of 0 branches both ways\n'
 reports "$plan$one$two$cell$show$table" --cover
 said 'bpfdb test --cover' '0 lines\n1 lines\n2 lines\n9 lines\n'
 wants "$plain" 0 'set cell 0 1 0102\ncontinue\n' '' test --show script --only b two.test
 wants "$plain" 0 '--maps=2x2\n--steps=1000000\n' '' test --show options --only a two.test
-wants "$plain" 0 'set reg r3 8\nset reg r4 1\ncontinue\n' '' test --show script kind.test
 wants "$plain" 2 '' 'cannot read missing\n' run missing
 wants "$plain" 0 "$(text "$parts/help/bpfdb.txt")" '' --help
 wants "$plain" 0 "$(version)" '' --version

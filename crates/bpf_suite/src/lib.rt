@@ -12,7 +12,6 @@ mod kind;
 mod list;
 mod outcome;
 mod refusal;
-mod regs;
 mod report;
 mod section;
 mod setting;

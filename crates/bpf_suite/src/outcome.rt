@@ -7,15 +7,11 @@ ghost use Rattle.counted_io.specs.Writing.{WritesAfter};
 ghost use Rattle.bpf_suite.specs.Benches.{Loads, RefusesProgram};
 ghost use Rattle.bpf_suite.specs.Cells.{cell_of};
 ghost use Rattle.bpf_suite.specs.Images.{IsImageFor};
-ghost use Rattle.bpf_suite.specs.Regs.{reg_lines, with_regs};
-ghost use Rattle.bpf_suite.specs.declared.refusal.Refusal.TheVariants.{Open};
-ghost use Rattle.bpf_steps.specs.declared.fault.OpenFault.TheVariants as unopened;
 ghost use Rattle.bpf_suite.specs.Outcomes.{Ends, GivesCell, GivesCells, HasMaps, HasWords, IsProgramOf, Reads, Refuses, RefusesCells, limit_word, missing, outcome_text, with_cells};
 
 use crate::cells::{Cell, CellLine, cell_of};
 use crate::image::{Image, put_runs};
 use crate::refusal::{Refusal, put_refusal};
-use crate::regs::set_regs;
 use crate::setting::Setting;
 use crate::words::Words;
 use bpf_isa::{MapTable, Program, check};
@@ -160,19 +156,12 @@ fn open_again(alloc: Global, cpu: &mut Cpu, setting: &Setting<'_, '_>) -> Result
     }
 }
 
-/// Gives registers their numbers, and runs a program to its end, or as many steps as it may take.
-fn run(alloc: Global, cpu: &mut Cpu, setting: &Setting<'_, '_>) -> Result<(), Refusal>
-    ensures next { OnOk result (cpu.new
-        ≡ plain_end setting.now.limit (with_regs (reg_lines setting.now.regs) cpu.old)) }
-    ensures err { IfErr result (λ refusal. refusal ≡ Open unopened.OutOfMemory) }
+/// Runs a program to its end, or as many steps as it may take.
+fn run(cpu: &mut Cpu, limit: u64)
+    ensures next { cpu.new ≡ plain_end limit cpu.old }
     ensures program { cpu.new.program ≡ cpu.old.program }
 {
-    match set_regs(alloc, cpu, setting.regs.bytes) {
-        Ok(()) => {}
-        Err(_) => return Err(Refusal::Open(OpenFault::OutOfMemory)),
-    }
-    let _ending = run_plain(cpu, setting.limit, &mut Counted::new(sink()));
-    Ok(())
+    let _ending = run_plain(cpu, limit, &mut Counted::new(sink()));
 }
 
 /// What comes of a program on a machine that stands on it, whatever that did before: cells get
@@ -191,10 +180,8 @@ pub fn outcome_on(alloc: Global, cpu: &mut Cpu, setting: &Setting<'_, '_>) -> Re
         Ok(()) => {}
         Err(refusal) => return Err(refusal),
     }
-    match run(alloc, cpu, setting) {
-        Ok(()) => Ok(()),
-        Err(refusal) => Err(refusal),
-    }
+    run(cpu, setting.limit);
+    Ok(())
 }
 
 /// The same, where it is known what its cells make of its maps.
@@ -217,10 +204,8 @@ pub fn outcome_by_image(
         Ok(runs) => put_runs(cpu, runs),
         Err(refusal) => return Err(*refusal),
     }
-    match run(alloc, cpu, setting) {
-        Ok(()) => Ok(()),
-        Err(refusal) => Err(refusal),
-    }
+    run(cpu, setting.limit);
+    Ok(())
 }
 
 /// Writes an outcome.
