@@ -48,7 +48,6 @@ for compiler in $compilers; do
         gives 0x3a length
         gives 0x2 spilled
         gives 0xbf6 called
-        gives 0x422 beside
         gives 0xfffffffffffffffb negative
         gives 0x2 unread
         struct=tc
@@ -107,7 +106,6 @@ for compiler in $compilers; do
         unfit "$escapes: xdp" keeps
         unfit "$escapes: xdp" passes
         unfit "$escapes: xdp" returns
-        unfit "$escapes: xdp" through_frame
         unfit "$no_field: .text" in_text
         struct=tc
         unfit "$no_field: tc" socket

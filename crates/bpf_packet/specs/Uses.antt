@@ -1,13 +1,13 @@
 -- What a program may do with the context's address: load and store its fields, move it by a number, and keep it in registers and in its frame.
-use Rattle.std.specs.Prelude.{ℕ, ◌+◌, ◌-◌, ◌/◌, ◌%◌, ◌==◌, nat_lt, Bool, true, not, ◌&&◌, ◌||◌, if◌then◌else◌, List, Option, Some, None, is_some}
+use Rattle.std.specs.Prelude.{ℕ, ◌+◌, ◌-◌, ◌/◌, ◌%◌, ◌==◌, Bool, not, ◌&&◌, ◌||◌, if◌then◌else◌, List, Option, Some, None, is_some}
 use Rattle.bpf_packet.specs.Fields.{field_of}
 use Rattle.bpf_packet.specs.Flow.{is_move, is_spill}
-use Rattle.bpf_packet.specs.Holding.{all_below, held_in, is_free, is_shown}
+use Rattle.bpf_packet.specs.Holding.{all_below, held_in, is_free}
 use Rattle.bpf_packet.specs.Slots.{class_of, is_call, is_local}
 use Rattle.bpf_packet.specs.declared.fault.UseFault.{UseFault}
 use Rattle.bpf_packet.specs.declared.fault.UseFault.TheVariants.{NoField, Mixed, Arithmetic, Escapes}
 use Rattle.bpf_packet.specs.declared.held.Held.{Held}
-use Rattle.bpf_packet.specs.declared.held.Held.TheVariants.{Nothing, Other, Frame, Context, Either, Left}
+use Rattle.bpf_packet.specs.declared.held.Held.TheVariants.{Nothing, Other, Context, Either}
 use Rattle.bpf_packet.specs.declared.packet.Access.{Access}
 use Rattle.bpf_packet.specs.declared.packet.Packet.{Packet}
 use Rattle.bpf_packet.specs.declared.slot.Slot.{Slot}
@@ -29,9 +29,7 @@ abbrev pub through : Packet → Slot → Held → Option Access
 through packet slot (Context at) = from_place at (field_of packet slot.opcode ((at + slot.offset) % 65536))
 through packet slot Nothing = None
 through packet slot Other = None
-through packet slot (Frame at) = None
 through packet slot Either = None
-through packet slot Left = None
 
 unfoldable pub patch_of : Packet → Slot → List Held → Option Access
 patch_of packet slot state = if is_access slot then through packet slot (held_in state (base_of slot)) else None
@@ -40,10 +38,8 @@ patch_of packet slot state = if is_access slot then through packet slot (held_in
 abbrev pub through_fault : Packet → Slot → Held → Option UseFault
 through_fault packet slot (Context at) = if is_some (through packet slot (Context at)) then None else Some NoField
 through_fault packet slot Either = Some Mixed
-through_fault packet slot Left = Some Mixed
 through_fault packet slot Nothing = None
 through_fault packet slot Other = None
-through_fault packet slot (Frame at) = None
 
 -- A store of the address itself: in all eight bytes of a piece of the frame, and nowhere else.
 abbrev pub stores_address : Slot → List Held → Bool
@@ -81,27 +77,11 @@ is_free_argument state k = is_free (held_in state (k + 1))
 abbrev pub helper_fault : Slot → List Held → Option UseFault
 helper_fault slot state = if all_below (is_free_argument state) (arguments_of slot.imm) then None else Some Escapes
 
--- A function that is given an address of the frame may read what lies there and behind it: no piece of the frame from there on shows the address.
-abbrev pub hides : List Held → ℕ → ℕ → Bool
-hides state at k = nat_lt k (at / 8) || not (is_shown (held_in state (k + 11)))
-
-abbrev pub shows_none : List Held → Held → Bool
-shows_none state (Frame at) = all_below (hides state at) 64
-shows_none state Nothing = true
-shows_none state Other = true
-shows_none state (Context at) = true
-shows_none state Either = true
-shows_none state Left = true
-
-abbrev pub shows_none_by : List Held → ℕ → Bool
-shows_none_by state k = shows_none state (held_in state (k + 1))
-
--- A call of a function of the program is followed, but for what it reads in its caller's frame. What `exit`, 0x95, returns isn't.
+-- A call of a function of the program is followed. What `exit`, 0x95, returns isn't.
 abbrev pub control_fault : Slot → List Held → Option UseFault
 control_fault slot state =
     if is_call slot && not (is_local slot) then helper_fault slot state
-    else (if is_local slot && not (all_below (shows_none_by state) 5) then Some Escapes
-    else (if (slot.opcode == 0x95) && not (is_free (held_in state 0)) then Some Escapes else None))
+    else (if (slot.opcode == 0x95) && not (is_free (held_in state 0)) then Some Escapes else None)
 
 -- Why an instruction may not be run in a state.
 unfoldable pub use_fault : Packet → Slot → List Held → Option UseFault

@@ -22,9 +22,6 @@ fn join(a: Held, b: Held) -> Held {
     if covers(b, a) {
         return b;
     }
-    if covers(Held::Frame(0), a) && covers(Held::Frame(0), b) {
-        return Held::Frame(0);
-    }
     Held::Either
 }
 
@@ -118,13 +115,13 @@ fn begun(alloc: Global, slots: usize) -> Result<Draft, AllocError> {
 
 /// A table for words: the least that is right, unless the words leave themselves.
 ///
-/// A state rises at most five times a place, so the rounds are at most 375 a slot.
+/// A state rises at most twice a place, so the rounds are at most 150 a slot.
 pub fn solved(alloc: Global, words: &[u8]) -> Result<Vec<Held>, AllocError>
     requires { slots_in words.now ≤ 4294967296 }
 {
     let slots = words.len() / 8;
     let mut draft = begun(alloc, slots)?;
-    for _ in 0..slots.saturating_mul(375).saturating_add(1) {
+    for _ in 0..slots.saturating_mul(150).saturating_add(1) {
         let p = match draft.risen.pop() {
             Some(p) => p,
             None => return Ok(draft.table),

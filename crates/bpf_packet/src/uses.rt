@@ -1,12 +1,12 @@
 //! What a program does with the context's address.
 ghost use Rattle.std.specs.Prelude.{◌≡◌, ◌≤◌, ◌<◌, ◌+◌, length};
 ghost use Rattle.bpf_packet.specs.Holding.{all_below};
-ghost use Rattle.bpf_packet.specs.Uses.{access_fault, arguments_of, arithmetic_fault, base_of, control_fault, from_place, helper_fault, is_access, is_arithmetic, is_free_argument, hides, patch_of, reads_dst, reads_src, shows_none, shows_none_by, stores_address, through, through_fault, use_fault};
+ghost use Rattle.bpf_packet.specs.Uses.{access_fault, arguments_of, arithmetic_fault, base_of, control_fault, from_place, helper_fault, is_access, is_arithmetic, is_free_argument, patch_of, reads_dst, reads_src, stores_address, through, through_fault, use_fault};
 
 use crate::fault::UseFault;
 use crate::fields::field_of;
 use crate::flow::{is_move, is_spill};
-use crate::held::{Held, held_in, is_free, is_shown};
+use crate::held::{Held, held_in, is_free};
 use crate::packet::{Access, Packet};
 use crate::slot::{Slot, class_of, is_call, is_local};
 
@@ -53,7 +53,7 @@ fn through(packet: Packet, slot: &Slot, held: Held) -> Option<Access>
             let place = (u32::from(at) + u32::from(slot.offset)) % 65536;
             from_place(at, field_of(packet, slot.opcode, place as u16))
         }
-        Held::Nothing | Held::Other | Held::Frame(_) | Held::Either | Held::Left => None,
+        Held::Nothing | Held::Other | Held::Either => None,
     }
 }
 
@@ -81,8 +81,8 @@ fn through_fault(packet: Packet, slot: &Slot, held: Held) -> Option<UseFault>
                 Some(UseFault::NoField)
             }
         }
-        Held::Either | Held::Left => Some(UseFault::Mixed),
-        Held::Nothing | Held::Other | Held::Frame(_) => None,
+        Held::Either => Some(UseFault::Mixed),
+        Held::Nothing | Held::Other => None,
     }
 }
 
@@ -171,48 +171,11 @@ fn helper_fault(slot: &Slot, state: &[Held]) -> Option<UseFault>
     }
 }
 
-/// Whether no piece of the frame shows the address, from this byte of it on.
-fn hides_from(state: &[Held], at: u16, pieces: usize) -> bool
-    requires { pieces ≤ 64 }
-    ensures { result ≡ all_below (hides state.now at) pieces }
-{
-    let mut free = true;
-    for k in 0..pieces {
-        free = free && (k < usize::from(at) / 8 || !is_shown(held_in(state, k + 11)));
-    }
-    free
-}
-
-/// Whether by what a register holds no function finds the address in its caller's frame.
-fn shows_none(state: &[Held], held: Held) -> bool
-    ensures { result ≡ shows_none state.now held }
-{
-    match held {
-        Held::Frame(at) => hides_from(state, at, 64),
-        Held::Nothing | Held::Other | Held::Context(_) | Held::Either | Held::Left => true,
-    }
-}
-
-/// Whether by none of the first registers from r1 on does it.
-fn hides_frame(state: &[Held], count: usize) -> bool
-    requires { count ≤ 5 }
-    ensures { result ≡ all_below (shows_none_by state.now) count }
-{
-    let mut hides = true;
-    for k in 0..count {
-        hides = hides && shows_none(state, held_in(state, k + 1));
-    }
-    hides
-}
-
 fn control_fault(slot: &Slot, state: &[Held]) -> Option<UseFault>
     ensures { result ≡ control_fault slot.now state.now }
 {
     if is_call(slot) && !is_local(slot) {
         return helper_fault(slot, state);
-    }
-    if is_local(slot) && !hides_frame(state, 5) {
-        return Some(UseFault::Escapes);
     }
     if slot.opcode == 0x95 && !is_free(held_in(state, 0)) {
         return Some(UseFault::Escapes);

@@ -84,26 +84,6 @@ int in_text(struct xdp_md *ctx)
 	return deep(ctx);
 }
 
-/* A function finds the context's address in its caller's frame. */
-struct pair {
-	int add;
-	struct xdp_md *ctx;
-};
-
-static __attribute__((noinline)) int of_pair(struct pair *pair)
-{
-	asm volatile("");
-	return pair->ctx->data_end - pair->ctx->data + pair->add;
-}
-
-SEC("xdp")
-int through_frame(struct xdp_md *ctx)
-{
-	struct pair pair = { 1000, ctx };
-
-	return of_pair(&pair);
-}
-
 SEC("tc")
 int socket(struct __sk_buff *skb)
 {

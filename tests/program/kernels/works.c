@@ -74,22 +74,6 @@ int unread(struct xdp_md *ctx)
 	return XDP_PASS;
 }
 
-/* A function gets a piece of the frame, while the context's address is kept in another one. */
-static __attribute__((noinline)) int of_number(int *number)
-{
-	asm volatile("r6 = 1\nr7 = 2\nr8 = 3\nr9 = 4" ::: "r6", "r7", "r8", "r9", "memory");
-	return *number;
-}
-
-SEC("xdp")
-int beside(struct xdp_md *ctx)
-{
-	int number = 1000, sum = of_number(&number);
-
-	asm volatile("r6 = 1\nr7 = 2\nr8 = 3\nr9 = 4" ::: "r6", "r7", "r8", "r9");
-	return sum + ctx->data_end - ctx->data;
-}
-
 SEC("tc")
 int classify(struct __sk_buff *skb)
 {
