@@ -55,6 +55,7 @@ fn with_slot(
 }
 
 /// Words, and after them those of a program whose accesses to the context are to bpfdb's struct.
+#[tactic(auto, using(std::proofs::lemmas::List::append_assoc))]
 pub fn with_rewritten(
     packet: Packet,
     words: &[u8],
@@ -67,10 +68,7 @@ pub fn with_rewritten(
 {
     let mut new = begun;
     for p in 0..words.len() / 8 {
-        match with_slot(packet, words, table, p, new) {
-            Ok(done) => new = done,
-            Err(fault) => return Err(fault),
-        }
+        new = with_slot(packet, words, table, p, new)?;
     }
     Ok(new)
 }
