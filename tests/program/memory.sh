@@ -44,7 +44,6 @@ lacks() {
     case $line in
         'out of memory' | 'refused A7: out of memory' | 'refused C13: out of memory' | 'refused O2: out of memory' | \
             'refused J2: out of memory' | 'refused E26: out of memory' | 'refused E26: out of memory (--with)' | \
-            'refused E26: out of memory (--with, object 2)' | \
             'refused A7: out of memory (the other run)' | 'refused C13: out of memory (the other run)' | 'refused O2: out of memory (the other run)')
             echo "$line" >> met ;;
         *) line='out of memory' more=none ;;
@@ -164,16 +163,13 @@ wants "$plain$e26$c13$o2$j2" 0 'exited at 1: r0 0x7\nit was reached 2 moves back
 wants "$plain$e26$c13$o2$j2" 0 '' '' debug --journal 1024 --object text.o
 # Two objects as one: the code of both, and the records of maps.
 if has_clang 'link --with where memory is refused'; then
-    for source in program functions twice; do
+    for source in program functions; do
         clang -g -O2 -target bpf -c "$parts/join/$source.c" -o $source.o 2> found/err || complain "$source.c: $(cat found/err)"
     done
     "$program" link --with functions.o --section cells program.o > linked 2> told || complain "cells: $(cat told)"
     wants "$plain$e26$of_functions" 0 "$(od -An -v -b linked | tr -d '\n' | sed 's/ /\\0/g')" "$(cat told)\n" link --with functions.o --section cells program.o
     "$program" lines --object --with functions.o --section cells program.o > table
     wants "$plain$e26$of_functions" 0 "$(text table)" '' lines --object --with functions.o --section cells program.o
-    "$program" lines --object --with functions.o --with twice.o --section time program.o > table
-    wants "$plain$e26${of_functions}refused E26: out of memory (--with, object 2)\n" 0 "$(text table)" '' \
-        lines --object --with functions.o --with twice.o --section time program.o
 fi
 # A program of the kernel's for packets.
 if has_clang 'link --packet where memory is refused'; then

@@ -1,4 +1,3 @@
 pub mod Blocks
-pub mod Chains
 pub mod Marking
 pub mod Texts

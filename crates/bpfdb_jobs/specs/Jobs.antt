@@ -1,5 +1,5 @@
 -- What a job asks for: its program and its session, and what each subcommand prints that reads no standard input.
-use Rattle.std.specs.Prelude.{◌≡◌, ◌≤◌, ℕ, Bool, true, false, List, [], ◌∷◌, ◌++◌, Option, Some, None, Result, Ok, is_some, length, map, count_by, codes, decimal, if◌then◌else◌}
+use Rattle.std.specs.Prelude.{◌≡◌, ◌≤◌, ℕ, Bool, true, false, List, [], ◌++◌, Option, Some, None, Result, Ok, is_some, length, map, count_by, codes, decimal, if◌then◌else◌}
 use Rattle.std.specs.Borrow.{Bor}
 use Rattle.bpf_entries.specs.Keeping.{IsSize}
 use Rattle.bpf_diff.specs.Differences.{diff_text, end_alike}
@@ -15,7 +15,7 @@ use Rattle.bpf_link.specs.StubLists.{stubs_in}
 use Rattle.bpf_link.specs.declared.fault.LinkFault.{LinkFault}
 use Rattle.bpf_link.specs.declared.linker.Linked.{Linked}
 use Rattle.bpf_link.specs.declared.stubs.Stub.{Stub}
-use Rattle.bpf_lines.specs.Objects.{AreBehind, AreLinesOf, program_table}
+use Rattle.bpf_lines.specs.Objects.{AreLinesOf, joined_table, own_table}
 use Rattle.bpf_lines.specs.declared.objects.ObjectLines.{ObjectLines}
 use Rattle.bpf_steps.specs.Platform.{context_limit}
 use Rattle.bpf_steps.specs.State.{State, initial}
@@ -246,22 +246,16 @@ LinkPrints false job a = (object : List ℕ) × (counted : Option ℕ) × (progr
     × (a ≡ link_print job object counted program)
 LinkPrints true job a = ListsStubs job × (object : List ℕ) × (counted : Option ℕ) × IsObjectOf job object counted × (a ≡ printed object)
 
--- `lines`: the table of a listing; or of the program to which an object is linked, alone or joined with others, in their order.
-abbrev pub others_of : Option (Bor (List ℕ)) → Job → List (List ℕ)
-others_of None job = []
-others_of (Some functions) job = others functions.now job.further.now
-
-pub record IsTableOf (job : Job) (words table : List ℕ) : Type 0 where
-  pub own : ObjectLines
-  pub first : AreLinesOf job.file.now (section_of job) own
-  pub all : List ObjectLines
-  pub behind : AreBehind (own ∷ []) (others_of job.other job) all
-  pub rows : table ≡ program_table words all
+-- `lines`: the table of a listing; or of the program to which an object is linked, alone or joined with functions.
+abbrev pub IsTableOf : Option (Bor (List ℕ)) → Job → List ℕ → List ℕ → Type 0
+IsTableOf None job words table = (own : ObjectLines) × AreLinesOf job.file.now (section_of job) own × (table ≡ own_table words own)
+IsTableOf (Some functions) job words table = (own : ObjectLines) × (more : ObjectLines) × AreLinesOf job.file.now (section_of job) own
+    × AreLinesOf functions.now (codes ".text") more × (table ≡ joined_table words own more)
 
 abbrev pub IsTable : Bool → Job → List ℕ → Type 0
 IsTable false job table = IsLineTable job.file.now table
 IsTable true job table = (object : List ℕ) × (counted : Option ℕ) × (program : Linked) × IsLinkedTo job object counted program
-    × IsTableOf job program.words.items table
+    × IsTableOf job.other job program.words.items table
 
 -- What a subcommand prints of a job that has what it needs: one that reads no standard input. (`test` has a definition of its own.)
 abbrev pub Prints : Subcommand → Job → Print → Type 0
