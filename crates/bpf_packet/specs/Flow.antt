@@ -1,9 +1,9 @@
 -- What places hold behind an instruction, by what they hold before it.
-use Rattle.std.specs.Prelude.{ℕ, ◌%◌, ◌==◌, nat_le, nat_lt, Bool, ◌&&◌, ◌||◌, if◌then◌else◌, List}
-use Rattle.bpf_packet.specs.Holding.{frame_place, held_in, is_framed, is_whole, shifted}
+use Rattle.std.specs.Prelude.{ℕ, ◌%◌, ◌==◌, nat_le, nat_lt, Bool, not, ◌&&◌, ◌||◌, if◌then◌else◌, List}
+use Rattle.bpf_packet.specs.Holding.{frame_place, held_in, is_framed, is_whole, outside, shifted, summed}
 use Rattle.bpf_packet.specs.Slots.{class_of, is_call, is_local}
 use Rattle.bpf_packet.specs.declared.held.Held.{Held}
-use Rattle.bpf_packet.specs.declared.held.Held.TheVariants.{Other, Context, Either}
+use Rattle.bpf_packet.specs.declared.held.Held.TheVariants.{Other, Frame, Context, Left}
 use Rattle.bpf_packet.specs.declared.slot.Slot.{Slot}
 
 -- Atomic operations: in class STX of mode 6, of W and DW.
@@ -25,18 +25,23 @@ replaces slot place =
     if is_call slot then place == 0
     else (if is_atomic slot then fetches_to slot place else (gives_dst slot && (place == slot.dst)))
 
--- What it holds then: a move of 64 bits takes over what src holds, an addition moves an address, and a load of eight bytes of the frame gives what is there.
+-- What it holds then: a move of 64 bits takes over what src holds, an addition moves an address, a load of eight bytes of the frame gives what is there, and
+-- what comes of an address of the frame and a register is one, too.
 abbrev pub is_move : Slot → Bool
 is_move slot = (slot.opcode == 0xbf) && (slot.offset == 0)
 
 abbrev pub is_fill : Slot → Bool
 is_fill slot = (slot.opcode == 0x79) && ((slot.src == 10) && is_whole slot.offset)
 
+abbrev pub is_sum : Slot → Bool
+is_sum slot = (slot.opcode == 0x0f) || (slot.opcode == 0x1f)
+
 abbrev pub given : Slot → List Held → Held
 given slot state =
     if is_move slot then held_in state slot.src
     else (if slot.opcode == 0x07 then shifted (held_in state slot.dst) slot.imm
-    else (if is_fill slot then held_in state (frame_place slot.offset) else Other))
+    else (if is_fill slot then held_in state (frame_place slot.offset)
+    else (if is_sum slot then summed (held_in state slot.dst) (held_in state slot.src) else Other)))
 
 -- A called function may leave anything in r1 to r5.
 abbrev pub forgets : Slot → ℕ → Bool
@@ -57,14 +62,16 @@ stored slot state = if is_spill slot then held_in state slot.src else Other
 unfoldable pub after : Slot → List Held → ℕ → Held
 after slot state place =
     if replaces slot place then given slot state
-    else (if forgets slot place then Either
+    else (if forgets slot place then Left
     else (if is_frame_store slot && (place == frame_place slot.offset) then stored slot state
     else held_in state place))
 
--- What it holds where an instruction jumps. A called function has a frame of its own.
+-- What it holds where an instruction jumps. A called function has a frame of its own, and r10 has the address of its end.
 unfoldable pub entering : Slot → List Held → ℕ → Held
-entering slot state place = if is_call slot && nat_lt 10 place then Other else held_in state place
+entering slot state place =
+    if not (is_call slot) then held_in state place
+    else (if nat_lt 10 place then Other else (if place == 10 then Frame 512 else outside (held_in state place)))
 
--- What it holds at the entry: r1 the context's address.
+-- What it holds at the entry: r1 the context's address, and r10 that of the frame's end.
 unfoldable pub at_entry : ℕ → Held
-at_entry place = if place == 1 then Context 0 else Other
+at_entry place = if place == 1 then Context 0 else (if place == 10 then Frame 512 else Other)

@@ -1,8 +1,8 @@
 //! What places hold behind an instruction.
 ghost use Rattle.std.specs.Prelude.{◌≡◌, ◌≤◌, ◌<◌, length};
-ghost use Rattle.bpf_packet.specs.Flow.{after, at_entry, entering, fetches_to, forgets, given, gives_dst, is_atomic, is_fill, is_frame_store, is_move, is_spill, replaces, stored};
+ghost use Rattle.bpf_packet.specs.Flow.{after, at_entry, entering, fetches_to, forgets, given, gives_dst, is_atomic, is_fill, is_frame_store, is_move, is_spill, is_sum, replaces, stored};
 
-use crate::held::{Held, frame_place, held_in, is_framed, is_whole, shifted};
+use crate::held::{Held, frame_place, held_in, is_framed, is_whole, outside, shifted, summed};
 use crate::slot::{Slot, class_of, is_call, is_local};
 
 /// Whether it is an atomic operation.
@@ -56,6 +56,13 @@ fn is_fill(slot: &Slot) -> bool
     slot.opcode == 0x79 && (slot.src == 10 && is_whole(slot.offset))
 }
 
+/// Whether it adds or subtracts a register, of 64 bits.
+fn is_sum(slot: &Slot) -> bool
+    ensures { result ≡ is_sum slot.now }
+{
+    slot.opcode == 0x0f || slot.opcode == 0x1f
+}
+
 /// What the register that it replaces holds then.
 fn given(slot: &Slot, state: &[Held]) -> Held
     ensures { result ≡ given slot.now state.now }
@@ -68,6 +75,12 @@ fn given(slot: &Slot, state: &[Held]) -> Held
     }
     if is_fill(slot) {
         return held_in(state, frame_place(slot.offset));
+    }
+    if is_sum(slot) {
+        return summed(
+            held_in(state, usize::from(slot.dst)),
+            held_in(state, usize::from(slot.src)),
+        );
     }
     Held::Other
 }
@@ -113,7 +126,7 @@ pub fn after(slot: &Slot, state: &[Held], place: usize) -> Held
         return given(slot, state);
     }
     if forgets(slot, place) {
-        return Held::Either;
+        return Held::Left;
     }
     if is_frame_store(slot) && place == frame_place(slot.offset) {
         return stored(slot, state);
@@ -126,11 +139,16 @@ pub fn after(slot: &Slot, state: &[Held], place: usize) -> Held
 pub fn entering(slot: &Slot, state: &[Held], place: usize) -> Held
     ensures { result ≡ entering slot.now state.now place }
 {
-    if is_call(slot) && place > 10 {
-        Held::Other
-    } else {
-        held_in(state, place)
+    if !is_call(slot) {
+        return held_in(state, place);
     }
+    if place > 10 {
+        return Held::Other;
+    }
+    if place == 10 {
+        return Held::Frame(512);
+    }
+    outside(held_in(state, place))
 }
 
 /// What a place holds at the entry.
@@ -139,8 +157,10 @@ pub fn at_entry(place: usize) -> Held
     ensures { result ≡ at_entry place }
 {
     if place == 1 {
-        Held::Context(0)
-    } else {
-        Held::Other
+        return Held::Context(0);
     }
+    if place == 10 {
+        return Held::Frame(512);
+    }
+    Held::Other
 }

@@ -1,6 +1,6 @@
 //! What places hold: registers, and the eight bytes at each multiple of eight of the frame.
 ghost use Rattle.std.specs.Prelude.{◌≡◌, ◌≤◌, ◌<◌, ◌+◌, ◌*◌, true, length};
-ghost use Rattle.bpf_packet.specs.Holding.{covers, frame_place, held_in, is_framed, is_free, is_something, is_whole, most_places, shifted, state_of};
+ghost use Rattle.bpf_packet.specs.Holding.{covers, frame_place, held_in, is_frame, is_framed, is_free, is_shown, is_something, is_whole, most_pieces, most_places, moved, outside, shifted, state_of, summed};
 
 /// What a place holds, on all ways that lead to a slot.
 #[derive(Clone, Copy)]
@@ -9,10 +9,14 @@ pub enum Held {
     Nothing,
     /// Something else than the context's address.
     Other,
+    /// An address of the frame, at this byte of its 512 or behind it.
+    Frame(u16),
     /// The address of this byte of the context.
     Context(u8),
     /// Not the same on all ways.
     Either,
+    /// On some way what a called function left, which a program for the kernel doesn't read.
+    Left,
 }
 
 /// How many places there are: 11 registers, and 64 pieces of the frame.
@@ -23,6 +27,15 @@ pub fn most_places() -> usize
     75
 }
 
+/// How many pieces of the frame.
+#[tactic(auto, unfolding(crate::specs::Holding::most_pieces))]
+pub fn most_pieces() -> usize
+    ensures value { result ≡ most_pieces }
+    ensures few { result ≤ 64 }
+{
+    64
+}
+
 /// Whether one holds at least what another one does.
 pub fn covers(held: Held, given: Held) -> bool
     ensures { result ≡ covers held given }
@@ -31,14 +44,23 @@ pub fn covers(held: Held, given: Held) -> bool
         Held::Nothing => !is_something(given),
         Held::Other => match given {
             Held::Nothing | Held::Other => true,
-            Held::Context(_) | Held::Either => false,
+            Held::Frame(_) | Held::Context(_) | Held::Either | Held::Left => false,
+        },
+        Held::Frame(at) => match given {
+            Held::Nothing | Held::Other => true,
+            Held::Frame(other) => at <= other,
+            Held::Context(_) | Held::Either | Held::Left => false,
         },
         Held::Context(at) => match given {
             Held::Nothing => true,
             Held::Context(other) => at == other,
-            Held::Other | Held::Either => false,
+            Held::Other | Held::Frame(_) | Held::Either | Held::Left => false,
         },
-        Held::Either => true,
+        Held::Either => match given {
+            Held::Left => false,
+            Held::Nothing | Held::Other | Held::Frame(_) | Held::Context(_) | Held::Either => true,
+        },
+        Held::Left => true,
     }
 }
 
@@ -47,8 +69,18 @@ pub fn is_free(held: Held) -> bool
     ensures { result ≡ is_free held }
 {
     match held {
-        Held::Nothing | Held::Other => true,
-        Held::Context(_) | Held::Either => false,
+        Held::Nothing | Held::Other | Held::Frame(_) => true,
+        Held::Context(_) | Held::Either | Held::Left => false,
+    }
+}
+
+/// Whether it may be read, and is the context's address on some way.
+pub fn is_shown(held: Held) -> bool
+    ensures { result ≡ is_shown held }
+{
+    match held {
+        Held::Context(_) | Held::Either => true,
+        Held::Nothing | Held::Other | Held::Frame(_) | Held::Left => false,
     }
 }
 
@@ -58,7 +90,17 @@ pub fn is_something(held: Held) -> bool
 {
     match held {
         Held::Nothing => false,
-        Held::Other | Held::Context(_) | Held::Either => true,
+        Held::Other | Held::Frame(_) | Held::Context(_) | Held::Either | Held::Left => true,
+    }
+}
+
+/// Whether it is an address of the frame.
+pub fn is_frame(held: Held) -> bool
+    ensures { result ≡ is_frame held }
+{
+    match held {
+        Held::Frame(_) => true,
+        Held::Nothing | Held::Other | Held::Context(_) | Held::Either | Held::Left => false,
     }
 }
 
@@ -95,6 +137,46 @@ pub fn is_whole(offset: u16) -> bool
     is_framed(offset) && offset % 8 == 0
 }
 
+/// An address of the frame where a number is added.
+fn moved(at: u16, imm: u32) -> Held
+    ensures { result ≡ moved at imm }
+{
+    let place = (u64::from(at) + u64::from(imm)) % 4_294_967_296;
+    if 0 < at && place <= 512 {
+        Held::Frame(place as u16)
+    } else {
+        Held::Frame(0)
+    }
+}
+
+/// What one holds of two that are added, of which one may be an address of the frame.
+pub fn summed(a: Held, b: Held) -> Held
+    ensures { result ≡ summed a b }
+{
+    match a {
+        Held::Frame(at) => Held::Frame(at),
+        Held::Nothing | Held::Other | Held::Context(_) | Held::Either | Held::Left => match b {
+            Held::Frame(at) => Held::Frame(at),
+            Held::Nothing | Held::Other | Held::Context(_) | Held::Either | Held::Left =>
+                Held::Other,
+        },
+    }
+}
+
+/// What a called function finds: an address of its caller's frame is none of its own.
+pub fn outside(held: Held) -> Held
+    ensures { result ≡ outside held }
+{
+    match held {
+        Held::Frame(_) => Held::Other,
+        Held::Nothing => Held::Nothing,
+        Held::Other => Held::Other,
+        Held::Context(at) => Held::Context(at),
+        Held::Either => Held::Either,
+        Held::Left => Held::Left,
+    }
+}
+
 /// What is held where a number is added.
 pub fn shifted(held: Held, imm: u32) -> Held
     ensures { result ≡ shifted held imm }
@@ -108,9 +190,11 @@ pub fn shifted(held: Held, imm: u32) -> Held
                 Held::Either
             }
         }
+        Held::Frame(at) => moved(at, imm),
         Held::Nothing => Held::Nothing,
         Held::Other => Held::Other,
         Held::Either => Held::Either,
+        Held::Left => Held::Left,
     }
 }
 

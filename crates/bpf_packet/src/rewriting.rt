@@ -55,7 +55,6 @@ fn with_slot(
 }
 
 /// Words, and after them those of a program whose accesses to the context are to bpfdb's struct.
-#[tactic(auto, using(std::proofs::lemmas::List::append_assoc))]
 pub fn with_rewritten(
     packet: Packet,
     words: &[u8],
@@ -68,7 +67,10 @@ pub fn with_rewritten(
 {
     let mut new = begun;
     for p in 0..words.len() / 8 {
-        new = with_slot(packet, words, table, p, new)?;
+        match with_slot(packet, words, table, p, new) {
+            Ok(done) => new = done,
+            Err(fault) => return Err(fault),
+        }
     }
     Ok(new)
 }

@@ -3,7 +3,7 @@ ghost use Rattle.std.specs.Prelude.{◌≡◌, ◌≤◌, ◌<◌, ◌+◌, ◌*
 ghost use Rattle.bpf_packet.specs.Slots.{slots_in};
 
 use crate::flow::{after, at_entry, entering};
-use crate::held::{Held, covers, held_in, most_places};
+use crate::held::{Held, covers, held_in, is_frame, most_places};
 use crate::slot::{Slot, goes_on, jumps, slot_at, target_of};
 use std::alloc::{AllocError, Global};
 
@@ -14,10 +14,26 @@ struct Draft {
     risen: Vec<usize>,
 }
 
-/// The least that covers both.
+/// An address of the frame that lies here or before: one of 16, so that a loop that goes down rises seldom.
+fn lowered(held: Held) -> Held {
+    match held {
+        Held::Frame(at) => {
+            if at < 64 {
+                return Held::Frame(at - at % 8);
+            }
+            Held::Frame(at - at % 64)
+        }
+        Held::Nothing | Held::Other | Held::Context(_) | Held::Either | Held::Left => held,
+    }
+}
+
+/// What covers both: the least, but for an address of the frame that lies before the other one.
 fn join(a: Held, b: Held) -> Held {
     if covers(a, b) {
         return a;
+    }
+    if is_frame(a) && is_frame(b) {
+        return lowered(b);
     }
     if covers(b, a) {
         return b;
@@ -115,13 +131,13 @@ fn begun(alloc: Global, slots: usize) -> Result<Draft, AllocError> {
 
 /// A table for words: the least that is right, unless the words leave themselves.
 ///
-/// A state rises at most twice a place, so the rounds are at most 150 a slot.
+/// A state rises at most 20 times a place, so the rounds are at most 1500 a slot.
 pub fn solved(alloc: Global, words: &[u8]) -> Result<Vec<Held>, AllocError>
     requires { slots_in words.now ≤ 4294967296 }
 {
     let slots = words.len() / 8;
     let mut draft = begun(alloc, slots)?;
-    for _ in 0..slots.saturating_mul(150).saturating_add(1) {
+    for _ in 0..slots.saturating_mul(1500).saturating_add(1) {
         let p = match draft.risen.pop() {
             Some(p) => p,
             None => return Ok(draft.table),
