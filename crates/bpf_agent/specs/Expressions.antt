@@ -90,7 +90,7 @@ on_address op x [] = None
 on_address op x (a ∷ s) = and_push (memory_read x a (width_of op)) s
 
 -- What an instruction that doesn't jump leaves of the stack; n is what stands behind its opcode.
-abbrev pub stacked : ℕ → ℕ → State → List ℕ → Option (List ℕ)
+unfoldable pub stacked : ℕ → ℕ → State → List ℕ → Option (List ℕ)
 stacked op n x s =
     if nat_le 0x22 op && nat_le op 0x25 then pushed n s
     else if op == 0x26 then and_push (register_read x n) s
@@ -112,7 +112,7 @@ abbrev pub ended : List ℕ → Went
 ended (v ∷ s) = Some (next.Value v, s)
 ended [] = None
 
-abbrev pub done : ℕ → ℕ → ℕ → State → List ℕ → Went
+unfoldable pub done : ℕ → ℕ → ℕ → State → List ℕ → Went
 done op n after x s =
     if op == 0x20 then branched n after s
     else if op == 0x21 then Some (next.At n, s)

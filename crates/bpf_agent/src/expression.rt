@@ -187,6 +187,7 @@ fn on_address(op: u8, cpu: &Cpu, stack: &mut Stack) -> bool
 }
 
 /// What an instruction that doesn't jump does to the stack. False where it has a fault.
+#[tactic(auto, unfolding(crate::specs::Expressions::stacked))]
 fn stacked(op: u8, n: u64, cpu: &Cpu, stack: &mut Stack) -> bool
     ensures { left result stack.new ≡ stacked op n cpu.now stack.old }
 {
@@ -224,6 +225,7 @@ fn ended(stack: &mut Stack) -> Option<Next>
 
 /// Does an instruction, n being what stands behind its opcode and `after` where the next one begins.
 /// None where it has a fault.
+#[tactic(auto, unfolding(crate::specs::Expressions::done))]
 fn done(op: u8, n: u64, after: usize, cpu: &Cpu, stack: &mut Stack) -> Option<Next>
     ensures { went result stack.new ≡ done op n after cpu.now stack.old }
 {

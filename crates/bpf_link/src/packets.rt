@@ -1,5 +1,6 @@
 //! The words of a program by what context its entry takes.
-ghost use Rattle.std.specs.Prelude.{◌≡◌, ◌≤◌, IfOk, IfErr};
+ghost use Rattle.std.specs.Prelude.{◌≡◌, ◌≤◌, ◌*◌, IfOk, IfErr, length};
+ghost use Rattle.bpf_isa.specs.Checker.{most_slots};
 ghost use Rattle.bpf_link.specs.Links.{planned};
 ghost use Rattle.bpf_link.specs.Packets.{HasWords, IsPacketRefusal, IsWordsFault, source_in, told_of_packet};
 ghost use Rattle.bpf_packet.specs.Packets.{IsOnPacket};
@@ -48,7 +49,8 @@ fn packet_words(
 ) -> Result<Vec<u8>, LinkFault>
     requires { slots_in own.now ≤ 4294967296 }
     ensures ok { IfOk result (λ words.
-        IsOnPacket packet own.now words.items) }
+        IsOnPacket packet own.now words.items
+        × (length words.items ≤ 8 * most_slots)) }
     ensures err { IfErr result (IsPacketRefusal packet object.now section.now own.now) }
 {
     let words = match on_packet(alloc, packet, own) {

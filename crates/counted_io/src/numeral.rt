@@ -52,7 +52,6 @@ impl<'a> Numeral<'a> {
 
 /// The number that a text is: decimal digits, or 0x and hexadecimal digits of either case. None
 /// where it is none.
-#[tactic(auto, using(crate::proofs::Naturals::reads_naturals))]
 pub fn natural(text: &[u8]) -> Option<Numeral<'_>>
     ensures value { result ≡ natural text.now }
     ensures grammar { ReadsNaturals text.now }

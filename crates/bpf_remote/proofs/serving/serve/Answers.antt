@@ -1,6 +1,13 @@
-use Rattle.std.proofs.Common.{sym, ◌∙◌}
-use Rattle.bpf_remote.proofs.Turns.{Serves-ended, after-more, after-left, after-failure}
+use Rattle.std.proofs.Common.{refl, sym, ◌∙◌}
+use Rattle.bpf_remote.proofs.Turns.{Serving-start, Serves-ended, Breaks-read, after-more, after-left, after-failure}
 use Rattle.bpf_remote.proofs.serving.serve.Goals as goal
+
+pub items-init : goal.items-init
+items-init g c = Serving-start _ _ _ _ _ _ _ _ _ _ _ _ refl c.new-conditions.ensures c.new-answer.ensures
+
+pub returns-in-Err-clause-err : goal.returns-in-Err-clause-err
+returns-in-Err-clause-err g c =
+    Breaks-read _ _ _ _ _ _ _ _ _ _ _ _ _ _ _ _ _ _ c.items.invariant (rw c.in-Err.is at c.next_item.ensures)
 
 pub returns-then-is_end-clause-ok : goal.returns-then-is_end-clause-ok
 returns-then-is_end-clause-ok g c =
