@@ -1,3 +1,4 @@
 pub mod Blocks
+pub mod Chains
 pub mod Marking
 pub mod Texts

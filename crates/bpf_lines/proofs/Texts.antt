@@ -1,22 +1,25 @@
 -- The texts of rows, put together.
-use Rattle.std.proofs.Common.{◌≡◌, ◌≢◌, ℕ, suc, ◌+◌, ◌*◌, ◌==◌, false, List, [], ◌++◌, append_assoc, refl, sym, ap, ◌∙◌, arith, codes, decimal}
+use Rattle.std.proofs.Common.{◌≡◌, ◌≢◌, ◌<◌, ℕ, suc, ◌+◌, ◌*◌, ◌/◌, ◌==◌, false, List, [], ◌++◌, append_assoc, refl, sym, ap, ◌∙◌, arith, codes, decimal, length}
+use Rattle.std.proofs.lemmas.List.{get_or_past}
 use Rattle.std.specs.Prelude.{Option, Some, slice_index, if◌then◌else◌}
 use Rattle.bpf_link.specs.Names.{built, short_at}
 use Rattle.bpf_link.specs.declared.parts.Part.{Part}
 use Rattle.bpf_link.specs.declared.plan.Plan.{Plan}
 use Rattle.bpf_lines.specs.Functions.{function_at}
 use Rattle.bpf_lines.specs.LineInfo.{line_at, line_entry, record_place}
-use Rattle.bpf_lines.specs.Objects.{begin_of, joined_table, object_rows, slots_of}
 use Rattle.bpf_lines.specs.Passed.{said_by}
 use Rattle.bpf_lines.specs.Rows.{entry_word, line_word, row_by, row_text, with_row, word_of}
 use Rattle.bpf_lines.specs.Slots.{last_said}
 use Rattle.bpf_lines.specs.declared.line_info.LineEntry.{LineEntry}
-use Rattle.bpf_lines.specs.declared.objects.ObjectLines.{ObjectLines}
 use Rattle.bpf_lines.specs.declared.part_lines.PartLines.{PartLines}
 use Rattle.bpf_lines.specs.declared.rows.Said.{Said}
 
 pub not_zero : (n : ℕ) → n ≢ 0 → (n == 0) ≡ false
 not_zero n h = grind arith
+
+-- a slot behind the words
+pub behind_words : (words : List ℕ) (number : ℕ) → length words / 8 < number → 0 ≡ slice_index words (8 * number)
+behind_words words number behind = sym (get_or_past words (8 * number) 0 (omega (arith, behind)))
 
 pub entry_text : (strings front : List ℕ) (entry : LineEntry) → (entry.line == 0) ≡ false
     → ((front ++ word_of (short_at strings entry.file)) ++ codes ":") ++ decimal entry.line ≡ front ++ entry_word strings entry
@@ -58,11 +61,3 @@ row_more plan part told words first slot n function line at f l =
     ++ row_by plan told words (first + slot) (said_by plan part told (record { function = last_said (function_at plan part.section) (suc slot); line = x })))
     (l ∙ ap (last_said (line_at told.listed told.block)) at)
     ∙ ap (built (with_row plan part told words first)) (sym at)
-
--- both tables
-pub joined_is : (words : List ℕ) (own more : ObjectLines) (first count others : ℕ) → first ≡ begin_of words (count + others) → count ≡ slots_of own
-    → others ≡ slots_of more → object_rows own words first ++ object_rows more words (first + count) ≡ joined_table words own more
-joined_is words own more first count others f c o =
-    ap (λ n. object_rows own words first ++ object_rows more words (first + n)) c
-    ∙ ap (λ n. object_rows own words n ++ object_rows more words (n + slots_of own))
-    (f ∙ ap (λ n. begin_of words (n + others)) c ∙ ap (λ n. begin_of words (slots_of own + n)) o)

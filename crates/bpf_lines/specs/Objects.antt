@@ -1,11 +1,13 @@
 -- The table of a program that was linked: the rows of the objects that it comes from.
-use Rattle.std.specs.Prelude.{◌≡◌, ◌⊎◌, ℕ, ◌+◌, ◌*◌, ◌==◌, if◌then◌else◌, List, ◌++◌, Ok, Err, length}
+use Rattle.std.specs.Prelude.{◌≡◌, ◌⊎◌, ◌<◌, ℕ, ◌+◌, ◌*◌, ◌==◌, if◌then◌else◌, List, [], ◌∷◌, ◌++◌, Ok, Err, codes, get_or, length, sum_by}
+use Rattle.std.specs.List.{AllZip}
 use Rattle.bpf_link.specs.Links.{planned}
 use Rattle.bpf_link.specs.Parts.{slots_in}
 use Rattle.bpf_link.specs.declared.fault.LinkFault.{LinkFault}
 use Rattle.bpf_link.specs.declared.plan.Plan.{Plan}
 use Rattle.bpf_lines.specs.Parts.{ArePartLines, IsLinesFault}
 use Rattle.bpf_lines.specs.Rows.{rows}
+use Rattle.bpf_lines.specs.declared.objects.LinesFault.{LinesFault}
 use Rattle.bpf_lines.specs.declared.objects.ObjectLines.{ObjectLines}
 
 -- What is told of the slots of a section of an object, and of `.text` where that calls it; or why nothing is.
@@ -20,7 +22,23 @@ pub record AreLinesOf (object section : List ℕ) (lines : ObjectLines) : Type 0
 abbrev pub IsLinesRefusal : List ℕ → List ℕ → LinkFault → Type 0
 IsLinesRefusal object section fault = (planned object section ≡ Err fault) ⊎ ((plan : Plan) × (planned object section ≡ Ok plan) × IsLinesFault plan fault)
 
--- How many slots it has.
+-- What is told of the functions of each of some objects, in their order.
+abbrev pub AreFunctions : List (List ℕ) → List ObjectLines → Type 0
+AreFunctions objects all = AllZip (λ object lines. AreLinesOf object (codes ".text") lines) objects all
+
+-- It stands behind what is told of those before.
+pub record AreBehind (before : List ObjectLines) (objects : List (List ℕ)) (all : List ObjectLines) : Type 0 where
+  pub more : List ObjectLines
+  pub functions : AreFunctions objects more
+  pub order : all ≡ before ++ more
+
+-- Why nothing is told: for the functions of one of the objects.
+pub record IsFunctionsRefusal (objects : List (List ℕ)) (told : LinesFault) : Type 0 where
+  pub inside : told.index < length objects
+  pub object : told.object ≡ get_or objects told.index []
+  pub why : IsLinesRefusal told.object (codes ".text") told.fault
+
+-- How many slots an object has.
 abbrev pub slots_of : ObjectLines → ℕ
 slots_of lines = slots_in lines.plan.parts.code + slots_in lines.plan.parts.text
 
@@ -31,14 +49,15 @@ object_rows lines words first =
     rows lines.plan parts.code lines.code words first (slots_in parts.code)
     ++ rows lines.plan parts.text lines.text words (first + slots_in parts.code) (slots_in parts.text)
 
+-- The rows of several objects, of which each begins where the one before it ends.
+abbrev pub rows_of_all : List ObjectLines → List ℕ → ℕ → List ℕ
+rows_of_all [] words first = []
+rows_of_all (lines ∷ rest) words first = object_rows lines words first ++ rows_of_all rest words (first + slots_of lines)
+
 -- The slot at which so many slots of code begin. Where the words are more, slot 0 is a jump before them, and what is behind them is the setup.
 abbrev pub begin_of : List ℕ → ℕ → ℕ
 begin_of words count = if length words == 8 * count then 0 else 1
 
--- The table of a program of one object, and of one that was joined with functions of another one.
-abbrev pub own_table : List ℕ → ObjectLines → List ℕ
-own_table words own = object_rows own words (begin_of words (slots_of own))
-
-abbrev pub joined_table : List ℕ → ObjectLines → ObjectLines → List ℕ
-joined_table words own more =
-    let first = begin_of words (slots_of own + slots_of more) in object_rows own words first ++ object_rows more words (first + slots_of own)
+-- The table of a program that was linked of one object, or of several that were joined.
+abbrev pub program_table : List ℕ → List ObjectLines → List ℕ
+program_table words all = rows_of_all all words (begin_of words (sum_by slots_of all))

@@ -1,4 +1,4 @@
-//! The functions and lines of a linked program's slots, from the symbols and the BTF of its object.
+//! The functions and lines of a linked program's slots, from the symbols and the BTF of its objects.
 #![tactic(auto)]
 
 mod fields;
@@ -12,6 +12,8 @@ mod rows;
 mod slots;
 
 pub use line_info::LineEntry;
-pub use objects::{ObjectLines, object_lines, write_joined, write_own};
+pub use objects::{
+    LinesFault, ObjectLines, first_lines, object_lines, with_functions, write_table,
+};
 pub use part_lines::PartLines;
 pub use rows::Said;

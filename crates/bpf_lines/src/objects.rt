@@ -1,12 +1,14 @@
-//! What is told of the slots of an object's code, and the table of it.
-ghost use Rattle.std.specs.Prelude.{◌≡◌, ◌<◌, IfOk, IfErr};
+//! What is told of the slots of objects' code, and the table of a program.
+ghost use Rattle.std.specs.Prelude.{◌≡◌, ◌<◌, ◌*◌, ◌==◌, ◌++◌, ◌∷◌, [], All, codes, IfOk, IfErr, length, sum_by};
 ghost use Rattle.counted_io.specs.Writing.{Writes, WritesAfter};
-ghost use Rattle.bpf_lines.specs.Objects.{AreLinesOf, HasPartLines, IsLinesRefusal, begin_of, joined_table, object_rows, own_table};
+ghost use Rattle.bpf_join.specs.Chains.{others};
+ghost use Rattle.bpf_lines.specs.Objects.{AreBehind, AreLinesOf, HasPartLines, IsFunctionsRefusal, IsLinesRefusal, object_rows, program_table, rows_of_all, slots_of};
+ghost use Rattle.bpf_lines.specs.declared.objects.ObjectLines.{ObjectLines as Told};
 
 use crate::part_lines::{PartLines, part_lines};
 use crate::rows::put_rows;
-use bpf_link::{LinkFault, Plan, Side, planned};
-use counted_io::{Counted, WriteFault};
+use bpf_link::{Bytes, LinkFault, Plan, Side, planned};
+use counted_io::{Counted, WriteFault, put};
 use std::alloc::Global;
 use std::io::Write;
 
@@ -16,6 +18,15 @@ pub struct ObjectLines<'a> {
     pub plan: Plan<'a>,
     pub code: PartLines<'a>,
     pub text: PartLines<'a>,
+}
+
+/// Why nothing is told of the functions of objects.
+#[derive(Drop)]
+pub struct LinesFault<'a> {
+    /// Which one of the objects it is.
+    pub index: usize,
+    pub object: Bytes<'a>,
+    pub fault: LinkFault,
 }
 
 /// What is told of the slots of a section of an object, named as for `link_with`.
@@ -46,6 +57,89 @@ pub fn object_lines<'a>(
     }
 }
 
+/// What is told of a section of an object, as the first of several that are joined.
+pub fn first_lines<'a>(
+    alloc: Global,
+    object: &'a [u8],
+    section: &[u8],
+) -> Result<Vec<ObjectLines<'a>>, LinkFault>
+    ensures ok { IfOk result (λ all. (own : Told) × AreLinesOf object.now section.now own
+        × (all.items ≡ own ∷ [])) }
+    ensures told { IfOk result (λ all. All HasPartLines all.items) }
+    ensures err { IfErr result (IsLinesRefusal object.now section.now) }
+{
+    let own = match object_lines(alloc, object, section) {
+        Ok(own) => own,
+        Err(fault) => return Err(fault),
+    };
+    let mut all = Vec::new(alloc);
+    match all.push(own) {
+        Ok(()) => Ok(all),
+        Err(_) => Err(LinkFault::Memory),
+    }
+}
+
+/// What is told of the functions of an object, the one of this number, behind what is told of those
+/// before it.
+fn with_object<'a>(
+    alloc: Global,
+    mut all: Vec<ObjectLines<'a>>,
+    index: usize,
+    object: &'a [u8],
+) -> Result<Vec<ObjectLines<'a>>, LinesFault<'a>>
+    ensures ok { IfOk result (λ more. (lines : Told) × AreLinesOf object.now (codes ".text") lines
+        × (more.items ≡ all.entry.items ++ lines ∷ [])) }
+    ensures err { IfErr result (λ told. IsLinesRefusal object.now (codes ".text") told.fault) }
+    ensures index { IfErr result (λ told. told.index ≡ index) }
+    ensures object { IfErr result (λ told. told.object ≡ object.now) }
+{
+    let lines = match object_lines(alloc, object, b".text") {
+        Ok(lines) => lines,
+        Err(fault) => {
+            return Err(LinesFault {
+                index,
+                object: Bytes { bytes: object },
+                fault,
+            });
+        }
+    };
+    match all.push(lines) {
+        Ok(()) => Ok(all),
+        Err(_) => Err(LinesFault {
+            index,
+            object: Bytes { bytes: object },
+            fault: LinkFault::Memory,
+        }),
+    }
+}
+
+/// What is told of the functions of further objects, in the order in which they are joined, behind
+/// what is told of those before them.
+pub fn with_functions<'a>(
+    alloc: Global,
+    before: Vec<ObjectLines<'a>>,
+    second: &'a [u8],
+    further: &'a [Vec<u8>],
+) -> Result<Vec<ObjectLines<'a>>, LinesFault<'a>>
+    requires { All HasPartLines before.items }
+    ensures ok { IfOk result (λ all.
+        AreBehind before.entry.items (others second.now further.now) all.items) }
+    ensures told { IfOk result (λ all. All HasPartLines all.items) }
+    ensures err { IfErr result (IsFunctionsRefusal (others second.now further.now)) }
+{
+    let mut all = match with_object(alloc, before, 0, second) {
+        Ok(all) => all,
+        Err(told) => return Err(told),
+    };
+    for k in 0..further.len() {
+        all = match with_object(alloc, all, k + 1, further[k].as_slice()) {
+            Ok(more) => more,
+            Err(told) => return Err(told),
+        };
+    }
+    Ok(all)
+}
+
 /// Writes the rows of an object, whose first slot is one of the program's words.
 fn put_object<W: Write>(
     writer: &mut Counted<W>,
@@ -55,7 +149,7 @@ fn put_object<W: Write>(
     first: usize,
 ) -> Result<(), WriteFault>
     requires told { HasPartLines lines.now }
-    requires small { first < 400000 }
+    requires small { first < 4611686018427387904 }
     ensures { WritesAfter W.contents writer.old so_far writer.new result
         (object_rows lines.now words.now first) }
 {
@@ -65,47 +159,57 @@ fn put_object<W: Write>(
     put_rows(writer, coded, plan, Side::Text, &lines.text, words, behind)
 }
 
-/// The slot of words at which so many slots of code begin.
-fn begin_of(words: &[u8], count: usize) -> usize
-    requires { count < 400000 }
-    ensures value { result ≡ begin_of words.now count }
-    ensures small { result < 2 }
+/// Writes the rows of several objects, of which the first begins at a slot. (Behind the words none
+/// has a row.)
+fn put_objects<W: Write>(
+    writer: &mut Counted<W>,
+    so_far: Result<(), WriteFault>,
+    all: &[ObjectLines<'_>],
+    words: &[u8],
+    first: usize,
+) -> Result<(), WriteFault>
+    requires { All HasPartLines all.now }
+    ensures { WritesAfter W.contents writer.old so_far writer.new result
+        (rows_of_all all.now words.now first) }
 {
-    if words.len() == 8 * count { 0 } else { 1 }
+    match all.split_first() {
+        None => put(writer, so_far, b""),
+        Some((lines, rest)) => {
+            if first > words.len() / 8 {
+                return put(writer, so_far, b"");
+            }
+            let told = put_object(writer, so_far, lines, words, first);
+            let own = lines.plan.parts.len();
+            put_objects(writer, told, rest, words, first + own)
+        }
+    }
 }
 
-/// Writes the table of a program that was linked of one object.
-pub fn write_own<W: Write>(
-    writer: &mut Counted<W>,
-    words: &[u8],
-    own: &ObjectLines<'_>,
-) -> Result<(), WriteFault>
-    requires { HasPartLines own.now }
-    ensures { Writes W.contents writer.old writer.new result (own_table words.now own.now) }
+/// Whether so many bytes are the slots of several objects.
+fn is_all(all: &[ObjectLines<'_>], bytes: usize) -> bool
+    ensures { result ≡ (bytes == 8 * sum_by slots_of all.now) }
 {
-    put_object(
-        writer,
-        Ok(()),
-        own,
-        words,
-        begin_of(words, own.plan.parts.len()),
-    )
+    match all.split_first() {
+        None => bytes == 0,
+        Some((lines, rest)) => {
+            let own = lines.plan.parts.len();
+            if bytes < 8 * own {
+                return false;
+            }
+            is_all(rest, bytes - 8 * own)
+        }
+    }
 }
 
-/// Writes the table of a program that was linked of two objects.
-pub fn write_joined<W: Write>(
+/// Writes the table of a program that was linked of one object, or of several that were joined.
+pub fn write_table<W: Write>(
     writer: &mut Counted<W>,
     words: &[u8],
-    own: &ObjectLines<'_>,
-    more: &ObjectLines<'_>,
+    all: &[ObjectLines<'_>],
 ) -> Result<(), WriteFault>
-    requires first { HasPartLines own.now }
-    requires second { HasPartLines more.now }
-    ensures { Writes W.contents writer.old writer.new result
-        (joined_table words.now own.now more.now) }
+    requires { All HasPartLines all.now }
+    ensures { Writes W.contents writer.old writer.new result (program_table words.now all.now) }
 {
-    let count = own.plan.parts.len();
-    let first = begin_of(words, count + more.plan.parts.len());
-    let begun = put_object(writer, Ok(()), own, words, first);
-    put_object(writer, begun, more, words, first + count)
+    let first = if is_all(all, words.len()) { 0 } else { 1 };
+    put_objects(writer, Ok(()), all, words, first)
 }

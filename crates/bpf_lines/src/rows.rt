@@ -1,5 +1,5 @@
 //! The rows that tell of the slots of a part.
-ghost use Rattle.std.specs.Prelude.{◌≡◌, ◌<◌, ℕ, IfSome, Option, length};
+ghost use Rattle.std.specs.Prelude.{◌≡◌, ◌<◌, ◌*◌, ℕ, IfSome, Option, length, slice_index};
 ghost use Rattle.counted_io.specs.Writing.{WritesAfter};
 ghost use Rattle.bpf_link.specs.Parts.{part_of, slots_in};
 ghost use Rattle.bpf_lines.specs.Marks.{AreMarks};
@@ -133,6 +133,16 @@ fn line_since(lines: &[usize], slot: Option<usize>, start: Option<usize>) -> Opt
     }
 }
 
+/// The byte with which a slot begins, 0 past the end.
+fn first_byte(words: &[u8], number: usize) -> u8
+    ensures { result ≡ slice_index words.now (8 * number) }
+{
+    if number > words.len() / 8 {
+        return 0;
+    }
+    byte_at(words, 8 * number)
+}
+
 /// Writes the row of a slot, by the last slots up to it that say something, if an instruction
 /// begins there.
 fn put_slot<W: Write>(
@@ -147,12 +157,11 @@ fn put_slot<W: Write>(
 ) -> Result<(), WriteFault>
     requires told { ArePartLines plan.now (part_of plan.now.parts side) told.now }
     requires last { AreLast told.now last }
-    requires small { number < 1000000 }
     ensures { WritesAfter W.contents writer.old so_far writer.new result
         (row_by plan.now told.now words.now number
         (said_by plan.now (part_of plan.now.parts side) told.now last)) }
 {
-    if byte_at(words, 8 * number) == 0 {
+    if first_byte(words, number) == 0 {
         return put(writer, so_far, b"");
     }
     let said = Said {
@@ -173,7 +182,7 @@ pub fn put_rows<W: Write>(
     first: usize,
 ) -> Result<(), WriteFault>
     requires told { ArePartLines plan.now (part_of plan.now.parts side) told.now }
-    requires small { first < 500000 }
+    requires small { first < 9223372036854775808 }
     ensures { WritesAfter W.contents writer.old so_far writer.new result
         (rows plan.now (part_of plan.now.parts side) told.now words.now first
         (slots_in (part_of plan.now.parts side))) }

@@ -20,6 +20,6 @@ returns g c =
     WritesAfter-text g.W.Write.contents _ _ _ _ _ _ c.put_row.ensures
     (row_is c.args.plan.now c.args.told.now c.args.words.now c.args.number c.said_of.result c.line_since.result
     (said_by c.args.plan.now part c.args.told.now c.args.last)
-    (not_zero _ (λ zero. c.if-byte_at-eq0.false (c.byte_at.ensures ∙ zero)))
+    (not_zero _ (λ zero. c.if-first_byte-eq0.false (c.first_byte.ensures ∙ zero)))
     ((rw c.deref.ensures.value at c.said_of.ensures) (function_at c.args.plan.now part.section) c.requires.told.functions)
     ((rw c.deref-2.ensures.value at c.line_since.ensures) (line_at c.args.told.now.listed c.args.told.now.block) c.requires.told.lines))
