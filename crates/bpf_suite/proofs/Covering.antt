@@ -1,15 +1,15 @@
 -- What is found of programs, test by test.
 use Rattle.std.proofs.Common.{ℕ, ◌≡◌, Bool, true, false, not, cond, List, [], ◌∷◌, ◌++◌, append_assoc, Option, Some, None, Result, Ok, Err, refl, sym, ap, subst, ◌∙◌}
-use Rattle.std.specs.Prelude.{IfOk, OnOk, filter, map, unwrap_or}
+use Rattle.std.specs.Prelude.{IfOk, OnOk, filter, unwrap_or}
 use Rattle.std.specs.Option.{option_or}
 use Rattle.std.proofs.lemmas.List.{append-nil, map-append}
 use Rattle.std.proofs.lemmas.List.Elements.{filter-append}
 use Rattle.bpf_isa.specs.Programs.{Checked}
 use Rattle.bpf_steps.specs.State.{State}
-use Rattle.bpf_cover.specs.Coverage.{Covered, covered, table_text}
+use Rattle.bpf_cover.specs.Coverage.{Covered, covered}
 use Rattle.bpf_cover.specs.Runs.{steps_of}
 use Rattle.bpf_suite.specs.Benches.{shares_program}
-use Rattle.bpf_suite.specs.Covers.{AddsSharing, AreBegun, CoversEach, CoversProgram, Finds, IsFound, IsFoundBy, Notes, found_text, has_program, program_by, program_in, steps_from, steps_in}
+use Rattle.bpf_suite.specs.Covers.{AddsSharing, AreBegun, CoversEach, CoversProgram, Finds, IsFound, IsFoundBy, Notes, has_program, program_by, program_in, steps_from, steps_in}
 use Rattle.bpf_suite.specs.Files.{with_shared}
 use Rattle.bpf_suite.specs.Outcomes.{Comes, Outcome}
 use Rattle.bpf_suite.specs.Tests.{limit, limited, program_line, setting}

@@ -5,6 +5,7 @@ pub mod Images
 pub mod Lists
 pub mod Patterns
 pub mod Programs
+pub mod RegValues
 pub mod Reporting
 pub mod Shares
 pub mod Tests

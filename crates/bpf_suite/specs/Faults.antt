@@ -5,6 +5,7 @@ use Rattle.bpf_suite.specs.Bodies.{are_remarks, bytes_of, is_line, is_pattern, i
 use Rattle.bpf_suite.specs.Cells.{are_cells, are_patterns}
 use Rattle.bpf_suite.specs.Files.{front, sections, until_name}
 use Rattle.bpf_suite.specs.Kinds.{is_name, is_part, part_of}
+use Rattle.bpf_suite.specs.Regs.{are_regs}
 use Rattle.bpf_suite.specs.Tests.{first_line}
 use Rattle.bpf_suite.specs.declared.kind.Kind.{Kind}
 use Rattle.bpf_suite.specs.declared.kind.Kind.TheVariants as kind
@@ -37,6 +38,7 @@ is_well_formed kind.Words body = is_some (bytes_of body)
 is_well_formed kind.Mem body = is_some (bytes_of body)
 is_well_formed kind.Maps body = is_line (trimmed body)
 is_well_formed kind.Cells body = are_cells body
+is_well_formed kind.Regs body = are_regs body
 is_well_formed kind.Steps body = is_some (limit_of body)
 is_well_formed kind.Result body = is_some (number_of body)
 is_well_formed kind.Fault body = is_line (trimmed body)

@@ -16,6 +16,7 @@ kind_named name =
     else if bytes_eq name (codes "mem") then kind.Mem
     else if bytes_eq name (codes "maps") then kind.Maps
     else if bytes_eq name (codes "cells") then kind.Cells
+    else if bytes_eq name (codes "regs") then kind.Regs
     else if bytes_eq name (codes "steps") then kind.Steps
     else if bytes_eq name (codes "result") then kind.Result
     else if bytes_eq name (codes "fault") then kind.Fault
@@ -33,6 +34,7 @@ part_of kind.Words = part.Program
 part_of kind.Mem = part.Context
 part_of kind.Maps = part.Maps
 part_of kind.Cells = part.Cells
+part_of kind.Regs = part.Registers
 part_of kind.Steps = part.Steps
 part_of kind.Result = part.Expected
 part_of kind.Fault = part.Expected
@@ -49,11 +51,12 @@ part_number part.Program = 1
 part_number part.Context = 2
 part_number part.Maps = 3
 part_number part.Cells = 4
-part_number part.Steps = 5
-part_number part.Expected = 6
-part_number part.After = 7
-part_number part.CellsAfter = 8
-part_number part.Nothing = 9
+part_number part.Registers = 5
+part_number part.Steps = 6
+part_number part.Expected = 7
+part_number part.After = 8
+part_number part.CellsAfter = 9
+part_number part.Nothing = 10
 
 abbrev pub is_part : Part → Kind → Bool
 is_part p k = part_number (part_of k) == part_number p

@@ -9,6 +9,7 @@ pub mod Images
 pub mod Kinds
 pub mod Outcomes
 pub mod Refusals
+pub mod Regs
 pub mod Reports
 pub mod Shown
 pub mod Tests

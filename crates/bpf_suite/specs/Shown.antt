@@ -4,8 +4,9 @@ use Rattle.bstr.specs.Utf8.{pieces, spans_from}
 use Rattle.hex.specs.Hex.{encode_lower}
 use Rattle.shown_text.specs.Shown.{steers}
 use Rattle.bpf_text.specs.Listing.{IsFaultOf}
-use Rattle.bpf_suite.specs.Tests.{cells, has_listing, limit, maps, program}
+use Rattle.bpf_suite.specs.Tests.{cells, has_listing, limit, maps, program, regs}
 use Rattle.bpf_suite.specs.declared.cells.Cell.{Cell}
+use Rattle.bpf_suite.specs.declared.regs.RegLine.{RegLine}
 use Rattle.bpf_suite.specs.declared.section.Section.{Section}
 use Rattle.bpf_suite.specs.declared.shown.WordsFault.{WordsFault}
 use Rattle.bpf_suite.specs.declared.shown.WordsFault.TheVariants.{Listing, Memory}
@@ -23,12 +24,15 @@ maps_option (Some text) = codes "--maps=" ++ text ++ codes "\n"
 unfoldable pub options_text : List Section → List ℕ
 options_text test = maps_option (maps test) ++ codes "--steps=" ++ decimal (limit test) ++ codes "\n"
 
--- The commands of the debugger that lead to where it ends: its cells get their values, and it goes on.
+-- The commands of the debugger that lead to where it ends: its cells and registers get their values, and it goes on.
 unfoldable pub cell_command : Cell → List ℕ
 cell_command cell = codes "set cell " ++ decimal cell.map ++ codes " " ++ decimal cell.index ++ codes " " ++ encode_lower cell.value ++ codes "\n"
 
+unfoldable pub reg_command : RegLine → List ℕ
+reg_command line = codes "set reg r" ++ decimal line.register ++ codes " " ++ decimal line.value ++ codes "\n"
+
 abbrev pub script_text : List Section → List ℕ
-script_text test = flat_map cell_command (cells test) ++ codes "continue\n"
+script_text test = flat_map cell_command (cells test) ++ flat_map reg_command (regs test) ++ codes "continue\n"
 
 -- A word between single quotes (39), as a shell takes it. One in it is spelled '\'', and a character that steers a terminal is a question
 -- mark (63).

@@ -7,11 +7,13 @@ use Rattle.bpfdb_limits.specs.Limits.{default_limit}
 use Rattle.bpf_suite.specs.Bodies.{bytes_of, limit_of, trimmed}
 use Rattle.bpf_suite.specs.Cells.{cells_of}
 use Rattle.bpf_suite.specs.Kinds.{is_part}
+use Rattle.bpf_suite.specs.Regs.{reg_lines}
 use Rattle.bpf_suite.specs.declared.cells.Cell.{Cell}
 use Rattle.bpf_suite.specs.declared.kind.Kind.{Kind}
 use Rattle.bpf_suite.specs.declared.kind.Kind.TheVariants as kind
 use Rattle.bpf_suite.specs.declared.kind.Part.{Part}
 use Rattle.bpf_suite.specs.declared.kind.Part.TheVariants as part
+use Rattle.bpf_suite.specs.declared.regs.RegLine.{RegLine}
 use Rattle.bpf_suite.specs.declared.section.Section.{Section}
 use Rattle.bpf_suite.specs.declared.setting.Setting.{Setting}
 
@@ -66,6 +68,10 @@ maps sections = option_map (λ section. trimmed section.body) (section_for part.
 abbrev pub cells : List Section → List Cell
 cells sections = cells_of (body_for part.Cells sections)
 
+-- The registers that it sets.
+abbrev pub regs : List Section → List RegLine
+regs sections = reg_lines (body_for part.Registers sections)
+
 -- The most steps that it takes.
 abbrev pub limit : List Section → ℕ
 limit sections = unwrap_or (option_and_then (λ section. limit_of section.body) (section_for part.Steps sections)) default_limit
@@ -78,6 +84,7 @@ setting sections = record {
   program = program sections;
   context = context sections;
   cells = cells sections;
+  regs = body_for part.Registers sections;
   limit = limit sections;
 }
 

@@ -18,6 +18,8 @@ pub enum Kind {
     Maps,
     /// What cells of maps hold before the first step, a line each.
     Cells,
+    /// What registers hold before the first step, a line each.
+    Regs,
     /// The most steps that are taken.
     Steps,
     /// r0 of the program that has exited.
@@ -45,6 +47,7 @@ pub enum Part {
     Context,
     Maps,
     Cells,
+    Registers,
     Steps,
     Expected,
     After,
@@ -63,11 +66,12 @@ impl Part {
             Part::Context => 2,
             Part::Maps => 3,
             Part::Cells => 4,
-            Part::Steps => 5,
-            Part::Expected => 6,
-            Part::After => 7,
-            Part::CellsAfter => 8,
-            Part::Nothing => 9,
+            Part::Registers => 5,
+            Part::Steps => 6,
+            Part::Expected => 7,
+            Part::After => 8,
+            Part::CellsAfter => 9,
+            Part::Nothing => 10,
         }
     }
 }
@@ -91,6 +95,8 @@ impl Kind {
             Kind::Maps
         } else if is(name, "cells") {
             Kind::Cells
+        } else if is(name, "regs") {
+            Kind::Regs
         } else if is(name, "steps") {
             Kind::Steps
         } else if is(name, "result") {
@@ -121,6 +127,7 @@ impl Kind {
             Kind::Mem => Part::Context,
             Kind::Maps => Part::Maps,
             Kind::Cells => Part::Cells,
+            Kind::Regs => Part::Registers,
             Kind::Steps => Part::Steps,
             Kind::Result => Part::Expected,
             Kind::Fault => Part::Expected,

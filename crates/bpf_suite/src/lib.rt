@@ -12,6 +12,7 @@ mod kind;
 mod list;
 mod outcome;
 mod refusal;
+mod regs;
 mod report;
 mod section;
 mod setting;

@@ -7,11 +7,15 @@ ghost use Rattle.counted_io.specs.Writing.{WritesAfter};
 ghost use Rattle.bpf_suite.specs.Benches.{Loads, RefusesProgram};
 ghost use Rattle.bpf_suite.specs.Cells.{cell_of};
 ghost use Rattle.bpf_suite.specs.Images.{IsImageFor};
+ghost use Rattle.bpf_suite.specs.Regs.{reg_lines, with_regs};
+ghost use Rattle.bpf_suite.specs.declared.refusal.Refusal.TheVariants.{Open};
+ghost use Rattle.bpf_steps.specs.declared.fault.OpenFault.TheVariants as unopened;
 ghost use Rattle.bpf_suite.specs.Outcomes.{Ends, GivesCell, GivesCells, HasMaps, HasWords, IsProgramOf, Reads, Refuses, RefusesCells, limit_word, missing, outcome_text, with_cells};
 
 use crate::cells::{Cell, CellLine, cell_of};
 use crate::image::{Image, put_runs};
 use crate::refusal::{Refusal, put_refusal};
+use crate::regs::set_regs;
 use crate::setting::Setting;
 use crate::words::Words;
 use bpf_isa::{MapTable, Program, check};
@@ -156,12 +160,19 @@ fn open_again(alloc: Global, cpu: &mut Cpu, setting: &Setting<'_, '_>) -> Result
     }
 }
 
-/// Runs a program to its end, or as many steps as it may take.
-fn run(cpu: &mut Cpu, limit: u64)
-    ensures next { cpu.new ≡ plain_end limit cpu.old }
+/// Gives registers their numbers, and runs a program to its end, or as many steps as it may take.
+fn run(alloc: Global, cpu: &mut Cpu, setting: &Setting<'_, '_>) -> Result<(), Refusal>
+    ensures next { OnOk result (cpu.new
+        ≡ plain_end setting.now.limit (with_regs (reg_lines setting.now.regs) cpu.old)) }
+    ensures err { IfErr result (λ refusal. refusal ≡ Open unopened.OutOfMemory) }
     ensures program { cpu.new.program ≡ cpu.old.program }
 {
-    let _ending = run_plain(cpu, limit, &mut Counted::new(sink()));
+    match set_regs(alloc, cpu, setting.regs.bytes) {
+        Ok(()) => {}
+        Err(_) => return Err(Refusal::Open(OpenFault::OutOfMemory)),
+    }
+    let _ending = run_plain(cpu, setting.limit, &mut Counted::new(sink()));
+    Ok(())
 }
 
 /// What comes of a program on a machine that stands on it, whatever that did before: cells get
@@ -180,8 +191,10 @@ pub fn outcome_on(alloc: Global, cpu: &mut Cpu, setting: &Setting<'_, '_>) -> Re
         Ok(()) => {}
         Err(refusal) => return Err(refusal),
     }
-    run(cpu, setting.limit);
-    Ok(())
+    match run(alloc, cpu, setting) {
+        Ok(()) => Ok(()),
+        Err(refusal) => Err(refusal),
+    }
 }
 
 /// The same, where it is known what its cells make of its maps.
@@ -204,8 +217,10 @@ pub fn outcome_by_image(
         Ok(runs) => put_runs(cpu, runs),
         Err(refusal) => return Err(*refusal),
     }
-    run(cpu, setting.limit);
-    Ok(())
+    match run(alloc, cpu, setting) {
+        Ok(()) => Ok(()),
+        Err(refusal) => Err(refusal),
+    }
 }
 
 /// Writes an outcome.

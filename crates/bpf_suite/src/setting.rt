@@ -3,6 +3,7 @@ ghost use Rattle.std.specs.Prelude.{◌≡◌};
 ghost use Rattle.bpf_suite.specs.Tests.{cells as cells_of, context as context_of, program as program_of, limited, setting};
 
 use crate::cells::Cells;
+use crate::kind::Part;
 use crate::section::Text;
 use crate::test::Test;
 
@@ -17,6 +18,8 @@ pub struct Setting<'a, 'x> {
     pub context: Text<'x>,
     /// The cells of maps that have a value before the first step.
     pub cells: Cells<'x, 'a>,
+    /// The lines that set registers before the first step.
+    pub regs: Text<'a>,
     /// The most steps.
     pub limit: u64,
 }
@@ -40,6 +43,9 @@ pub fn setting_of<'a, 'x>(
         program: Text { bytes: program },
         context: Text { bytes: context },
         cells,
+        regs: Text {
+            bytes: test.text(Part::Registers),
+        },
         limit,
     }
 }

@@ -5,11 +5,12 @@ ghost use Rattle.hex.specs.Hex.{encode_lower};
 ghost use Rattle.counted_io.specs.Writing.{Writes, WritesAfter};
 ghost use Rattle.bpf_suite.specs.Cells.{cell_of};
 ghost use Rattle.bpf_suite.specs.Outcomes.{HasWords};
-ghost use Rattle.bpf_suite.specs.Shown.{IsWordsFault, cell_command, options_text, quoted, quoted_as, quoted_char, script_text};
+ghost use Rattle.bpf_suite.specs.Shown.{IsWordsFault, cell_command, options_text, reg_command, quoted, quoted_as, quoted_char, script_text};
 ghost use Rattle.bpf_suite.specs.Tests.{has_listing, program};
 
 use crate::cells::{Cell, CellLine, cell_lines, cell_of};
 use crate::kind::Part;
+use crate::regs::{RegLine, reg_lines};
 use crate::section::Text;
 use crate::test::Test;
 use bpf_text::{AsmFault, assemble};
@@ -64,14 +65,15 @@ impl<'b, 'a> Test<'b, 'a> {
         }
     }
 
-    /// The commands of the debugger that lead to where its program ends: its cells get their
-    /// values, and it goes on.
+    /// The commands of the debugger that lead to where its program ends: its cells and registers
+    /// get their values, and it goes on.
     pub fn script_text(&self, alloc: Global) -> Result<Vec<u8>, AllocError>
         ensures { IfOk result (λ text. text.items ≡ script_text self.now) }
     {
         let lines = cell_lines(alloc, self.text(Part::Cells))?;
+        let regs = reg_lines(alloc, self.text(Part::Registers))?;
         let mut writer = Counted::new(Vec::new(alloc));
-        match write_script(alloc, &mut writer, lines.as_slice())? {
+        match write_script(alloc, &mut writer, lines.as_slice(), regs.as_slice())? {
             Ok(()) => Ok(writer.into_inner()),
             Err(WriteFault) => Err(AllocError),
         }
@@ -114,17 +116,55 @@ fn bytes_in<'a>(text: &Text<'a>) -> &'a [u8]
     text.bytes
 }
 
-/// Writes the script of a test whose lines give these cells their values.
+/// Writes the script of a test whose lines give these cells and these registers their values.
 fn write_script<W: Write>(
     alloc: Global,
     writer: &mut Counted<W>,
     lines: &[CellLine<'_>],
+    regs: &[RegLine],
 ) -> Result<Result<(), WriteFault>, AllocError>
     ensures { IfOk result (λ told. Writes W.contents writer.old writer.new told
-        (flat_map cell_command (filter_map cell_of lines.now) ++ codes "continue\n")) }
+        (flat_map cell_command (filter_map cell_of lines.now) ++ flat_map reg_command regs.now
+        ++ codes "continue\n")) }
 {
-    let told = put_cell_commands(alloc, writer, Ok(()), lines)?;
+    let begun = put_cell_commands(alloc, writer, Ok(()), lines)?;
+    let told = put_reg_commands(writer, begun, regs);
     Ok(put(writer, told, b"continue\n"))
+}
+
+/// Writes the commands that give registers their numbers.
+fn put_reg_commands<W: Write>(
+    writer: &mut Counted<W>,
+    so_far: Result<(), WriteFault>,
+    regs: &[RegLine],
+) -> Result<(), WriteFault>
+    ensures { WritesAfter W.contents writer.old so_far writer.new result
+        (flat_map reg_command regs.now) }
+{
+    let mut told = so_far;
+    for line in regs {
+        told = put_reg_command(writer, told, line);
+    }
+    told
+}
+
+/// Writes the command that gives a register its number.
+fn put_reg_command<W: Write>(
+    writer: &mut Counted<W>,
+    so_far: Result<(), WriteFault>,
+    line: &RegLine,
+) -> Result<(), WriteFault>
+    ensures { WritesAfter W.contents writer.old so_far writer.new result (reg_command line.now) }
+{
+    let register = u64::from(line.register.number());
+    let pieces = [
+        Piece::Text(b"set reg r"),
+        Piece::Decimal(register),
+        Piece::Text(b" "),
+        Piece::Decimal(line.value),
+        Piece::Text(b"\n"),
+    ];
+    put_all(writer, so_far, &pieces)
 }
 
 /// Writes the commands that give cells their values.

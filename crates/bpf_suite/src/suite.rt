@@ -15,6 +15,7 @@ use crate::cover::cover_text;
 use crate::fault::{FileFault, SectionFault};
 use crate::kind::{Kind, Part};
 use crate::list::{Own, TestList};
+use crate::regs::are_regs;
 use crate::section::{Section, front, sections, until_name};
 use crate::test::{Test, has_part};
 use std::alloc::{AllocError, Global};
@@ -300,6 +301,7 @@ fn is_well_formed(alloc: Global, kind: Kind, body: &[u8]) -> Result<bool, AllocE
         Kind::Refused => Ok(is_phrase(trimmed(body))),
         Kind::MemAfter => is_pattern_body(alloc, body),
         Kind::Cells => are_cells(alloc, body),
+        Kind::Regs => Ok(are_regs(body)),
         Kind::MapAfter => are_patterns(alloc, body),
         Kind::Listing | Kind::Unknown => Ok(true),
     }

@@ -1,4 +1,4 @@
-use Rattle.std.proofs.Common.{◌++◌, ap, sym, ◌∙◌}
+use Rattle.std.proofs.Common.{ap, sym, ◌∙◌}
 use Rattle.bpf_suite.specs.Benches.{shares_program}
 use Rattle.bpf_suite.proofs.Covering.{adds-sharing, on-ok}
 use Rattle.bpf_suite.proofs.cover.cover_next.Goals as goal
