@@ -11,7 +11,7 @@ use Rattle.bpf_steps.specs.State.{State}
 use Rattle.bpfdb_replies.proofs.Telling.{Telling, Telling-start, Telling-step, Telling-end}
 use Rattle.bpf_session.specs.Plain.{plain_end}
 use Rattle.bpf_trace.specs.Runs.{steps_of}
-use Rattle.bpf_trace.specs.Traces.{end_line, line_of, lines_from, trace_text}
+use Rattle.bpf_trace.specs.Traces.{end_line, line_of, lines_from, lines_text, trace_text}
 use Rattle.bpf_trace.specs.declared.trace.Shown.{Shown}
 use Rattle.bpf_trace.proofs.Stepping.{none_ended, none_left, one_more_step, shown_steps}
 
@@ -60,6 +60,13 @@ shown_lines branches limit s count passed x y run = elim (shown_steps limit s co
   | inr none ↦ ap (lines_from branches (passed + 1)) none.1 ∙ ap (lines_from branches (s + 1)) (sym none.0)
 ]
 
+-- all of them
+pub shown_are : (limit most passed : ℕ) (shown : Shown) (x y : State) → Advances (min limit (shown.from - 1)) x y passed
+    → most ≡ min (limit - passed) shown.count → lines_from shown.only_branches (passed + 1) (steps_of most y) ≡ lines_text limit shown x
+shown_are limit most passed shown x y run e =
+    ap (λ (n : ℕ). lines_from shown.only_branches (passed + 1) (steps_of n y)) e
+    ∙ shown_lines shown.only_branches limit (shown.from - 1) shown.count passed x y run
+
 -- what was written before a write failed is a beginning of more
 pub broken_more : {W A E : Type 0} (contents : W → Option (List ℕ)) (old : Tally W) (before : Result A E) (now : Tally W) (e : E) (text more whole : List ℕ)
     → WritesAfter contents old before now (Err e) text → text ++ more ≡ whole → WritesAfter contents old before now (Err e) whole
@@ -72,9 +79,8 @@ pub trace_is : (limit most passed : ℕ) (shown : Shown) (x y z : State) → Adv
     → most ≡ min (limit - passed) shown.count → z ≡ plain_end limit x
     → lines_from shown.only_branches (passed + 1) (steps_of most y) ++ end_line limit z ≡ trace_text limit shown x
 trace_is limit most passed shown x y z run e is =
-    ap (λ (n : ℕ). lines_from shown.only_branches (passed + 1) (steps_of n y) ++ end_line limit z) e
-    ∙ ap (λ (text : List ℕ). text ++ end_line limit z) (shown_lines shown.only_branches limit (shown.from - 1) shown.count passed x y run)
-    ∙ ap (λ (w : State). lines_from shown.only_branches (shown.from - 1 + 1) (take shown.count (drop (shown.from - 1) (steps_of limit x))) ++ end_line limit w) is
+    ap (λ (text : List ℕ). text ++ end_line limit z) (shown_are limit most passed shown x y run e)
+    ∙ ap (λ (w : State). lines_text limit shown x ++ end_line limit w) is
 
 -- what holds anyway
 pub anyway : {A E : Type 0} {P : Type 0} (r : Result A E) → P → OnOk r P

@@ -45,8 +45,9 @@ limit_line limit slot = codes "step limit " ++ decimal limit ++ codes " reached 
 abbrev pub end_line : ℕ → State → List ℕ
 end_line limit y = if has_ended y.status then place y ++ codes "\n" else limit_line limit y.pc
 
--- The trace of a run: the lines of the steps that are shown, and where it ended.
+-- The lines of the steps of a run that are shown; and its trace: these, and where it ended.
+abbrev pub lines_text : ℕ → Shown → State → List ℕ
+lines_text limit shown x = lines_from shown.only_branches (shown.from - 1 + 1) (shown_of shown (steps_of limit x))
+
 abbrev pub trace_text : ℕ → Shown → State → List ℕ
-trace_text limit shown x =
-    lines_from shown.only_branches (shown.from - 1 + 1) (shown_of shown (steps_of limit x))
-    ++ end_line limit (plain_end limit x)
+trace_text limit shown x = lines_text limit shown x ++ end_line limit (plain_end limit x)

@@ -16,4 +16,5 @@ mod trace;
 pub use ending::{put_end, put_limit};
 pub use profile::{Profile, put_profile};
 pub use taken::{Taken, put_taken};
-pub use trace::{Shown, TraceFault, write_trace};
+pub use texts::Texts;
+pub use trace::{Shown, TraceFault, put_lines, write_trace};

@@ -6,7 +6,7 @@ ghost use Rattle.bpf_session.specs.Plain.{plain_end};
 ghost use Rattle.bpf_trace.specs.Runs.{IsOnTheWay, Takes, steps_of};
 ghost use Rattle.bpf_trace.specs.Tellings.{Tells};
 ghost use Rattle.bpf_trace.specs.Texts.{texts_of};
-ghost use Rattle.bpf_trace.specs.Traces.{line_of, lines_from, trace_text};
+ghost use Rattle.bpf_trace.specs.Traces.{line_of, lines_from, lines_text, trace_text};
 ghost use Rattle.counted_io.specs.Writing.{WritesAfter};
 
 use crate::branch::put_branch;
@@ -118,6 +118,34 @@ fn put_trace<W: Write>(
     }
     let _rest = cpu.run(left - taken.steps);
     put_end(writer, taken.written, limit, cpu)
+}
+
+/// Takes the steps of a run that are shown, and those before them, and writes their lines, by the
+/// texts of the program.
+pub fn put_lines<W: Write>(
+    cpu: &mut Cpu,
+    limit: u64,
+    shown: Shown,
+    texts: &Texts,
+    writer: &mut Counted<W>,
+    so_far: Result<(), WriteFault>,
+) -> Result<(), WriteFault>
+    requires { texts.now ≡ texts_of cpu.old.program }
+    ensures { WritesAfter W.contents writer.old so_far writer.new result
+        (lines_text limit shown cpu.old) }
+{
+    let passed = cpu.run(limit.min(shown.before()));
+    let most = (limit - passed).min(shown.count);
+    let taken = put_steps(
+        cpu,
+        texts,
+        shown.only_branches,
+        passed,
+        most,
+        writer,
+        so_far,
+    );
+    taken.written
 }
 
 /// Takes at most so many steps, after some, and writes the lines of those that are shown.
