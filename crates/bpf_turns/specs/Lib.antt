@@ -1,0 +1,5 @@
+pub mod Seats
+pub mod Calls
+pub mod Turned
+pub mod Objects
+pub mod Parts

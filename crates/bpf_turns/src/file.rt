@@ -1,0 +1,152 @@
+//! The file of a turned object.
+ghost use Rattle.std.specs.Prelude.{◌≡◌, ◌≤◌, IfErr, IfOk, IsTrue, Ok, length};
+ghost use Rattle.bpf_isa.specs.Checker.{most_slots};
+ghost use Rattle.bpf_link.specs.Links.{MemoryOr};
+ghost use Rattle.bpf_link.specs.declared.fault.LinkFault.TheVariants.{Memory};
+ghost use Rattle.bpf_turns.specs.Calls.{calls_of as calls_for};
+ghost use Rattle.bpf_turns.specs.Objects.{tabled, turned_bytes, with_turned_code};
+ghost use Rattle.bpf_turns.specs.Parts.{AreLaid, AreParts, HasRoom};
+ghost use Rattle.bpf_turns.specs.Turned.{fits, fitted};
+
+use crate::calls::{Call, calls_of, slots_before};
+use crate::code::turned_code;
+use crate::headers::{Lies, with_headers};
+use crate::parts::{with, with_u16, with_u64};
+use crate::relocations::with_relocations;
+use crate::seats::Seat;
+use crate::source::Source;
+use crate::symbols::{table_of, with_symbols};
+use bpf_isa::MOST_SLOTS;
+use bpf_link::LinkFault;
+use std::alloc::Global;
+
+/// The parts of the new file without its table of sections.
+#[derive(Drop)]
+pub struct Parts {
+    pub bytes: Vec<u8>,
+    pub at: Lies,
+}
+
+/// The object's file, and behind it the code.
+fn with_code(
+    alloc: Global,
+    source: &Source<'_>,
+    seats: &[Seat],
+    calls: &[Call],
+) -> Result<Vec<u8>, LinkFault>
+    requires calls { calls.now ≡ calls_for source.now.plan.object seats.now }
+    requires few { length calls.now ≤ most_slots }
+    ensures ok { IfOk result (λ coded. coded.items ≡ with_turned_code source.now seats.now) }
+    ensures err { IfErr result (λ fault. fault ≡ Memory) }
+{
+    let own = match Vec::from_slice(alloc, source.plan.object.bytes()) {
+        Ok(own) => own,
+        Err(_) => return Err(LinkFault::Memory),
+    };
+    match turned_code(alloc, &source.plan.object, seats, calls) {
+        Ok(words) => with(own, words.as_slice()),
+        Err(fault) => Err(fault),
+    }
+}
+
+/// The new file without its table of sections.
+fn put_parts(
+    alloc: Global,
+    source: &Source<'_>,
+    seats: &[Seat],
+    calls: &[Call],
+) -> Result<Parts, LinkFault>
+    requires calls { calls.now ≡ calls_for source.now.plan.object seats.now }
+    requires few { length calls.now ≤ most_slots }
+    ensures ok { IfOk result (AreParts source.now seats.now) }
+    ensures err { IfErr result (λ fault. fault ≡ Memory) }
+{
+    let coded = match with_code(alloc, source, seats, calls) {
+        Ok(coded) => coded,
+        Err(fault) => return Err(fault),
+    };
+    let symbols = coded.len();
+    let marked = match with_symbols(calls, table_of(source), coded) {
+        Ok(marked) => marked,
+        Err(fault) => return Err(fault),
+    };
+    let relocations = marked.len();
+    let bytes = match with_relocations(source, calls, marked) {
+        Ok(bytes) => bytes,
+        Err(fault) => return Err(fault),
+    };
+    let at = Lies {
+        code: source.plan.object.bytes().len(),
+        symbols,
+        relocations,
+        end: bytes.len(),
+    };
+    Ok(Parts { bytes, at })
+}
+
+/// The new file of these calls.
+fn with_table(source: &Source<'_>, calls: &[Call], parts: Parts) -> Result<Vec<u8>, LinkFault>
+    requires room { HasRoom source.now }
+    requires laid { AreLaid parts.at }
+    requires header { 64 ≤ length parts.bytes.items }
+    ensures ok { IfOk result (λ all. all.items ≡ tabled source.now calls.now parts.bytes.items parts.at) }
+    ensures err { IfErr result (λ fault. fault ≡ Memory) }
+{
+    let at = parts.at;
+    let count = source.plan.object.len() + 1;
+    match with_headers(source, calls, &at, parts.bytes) {
+        Ok(all) => Ok(with_u16(with_u64(all, 40, at.end as u64), 60, count as u16)),
+        Err(fault) => Err(fault),
+    }
+}
+
+/// The new file.
+fn turned_bytes(alloc: Global, source: &Source<'_>, seats: &[Seat]) -> Result<Vec<u8>, LinkFault>
+    requires few { length seats.now ≤ most_slots }
+    requires room { HasRoom source.now }
+    ensures ok { IfOk result (λ bytes. bytes.items ≡ turned_bytes source.now seats.now) }
+    ensures err { IfErr result (λ fault. fault ≡ Memory) }
+{
+    let calls = match calls_of(alloc, &source.plan.object, seats) {
+        Ok(calls) => calls,
+        Err(fault) => return Err(fault),
+    };
+    let parts = match put_parts(alloc, source, seats, calls.as_slice()) {
+        Ok(parts) => parts,
+        Err(fault) => return Err(fault),
+    };
+    match with_table(source, calls.as_slice(), parts) {
+        Ok(all) => Ok(all),
+        Err(fault) => Err(fault),
+    }
+}
+
+/// Whether the code isn't longer than a program may be.
+fn fits(source: &Source<'_>, seats: &[Seat]) -> bool
+    ensures value { result ≡ fits source.now seats.now }
+    ensures few { IsTrue result → length seats.now ≤ most_slots }
+{
+    if seats.len() > MOST_SLOTS {
+        return false;
+    }
+    let behind = slots_before(&source.plan.object, seats, source.plan.object.len());
+    5 * seats.len() + 3 + behind as usize <= MOST_SLOTS
+}
+
+/// The new file, if there are programs and room for them.
+pub fn fitted(alloc: Global, source: &Source<'_>, seats: &[Seat]) -> Result<Vec<u8>, LinkFault>
+    requires { HasRoom source.now }
+    ensures ok { IfOk result (λ bytes. fitted source.now seats.now ≡ Ok bytes.items) }
+    ensures err { IfErr result (MemoryOr (fitted source.now seats.now)) }
+{
+    if seats.is_empty() {
+        return Err(LinkFault::NoEntry);
+    }
+    if !fits(source, seats) {
+        return Err(LinkFault::TooLong);
+    }
+    match turned_bytes(alloc, source, seats) {
+        Ok(bytes) => Ok(bytes),
+        Err(fault) => Err(fault),
+    }
+}
