@@ -1,0 +1,31 @@
+use Rattle.std.proofs.Common.{◌≡◌, ◌<◌, ◌⊎◌, ◌∙◌, ℕ, List, [], length, map, subst, sym, add-one}
+use Rattle.std.proofs.lemmas.List.{get_or-map, length-map}
+use Rattle.std.specs.Borrow.{Bor}
+use Rattle.std.specs.Prelude.{get_or}
+use Rattle.bpf_link.specs.declared.fault.LinkFault.TheVariants.{Memory}
+use Rattle.bpf_counts.specs.Counted.{AreCounted, IsCountedBy, IsUncountedBy}
+use Rattle.bpf_counts.proofs.told.counted.Goals as goal
+
+-- a text and what it holds
+named : (texts : List (Bor (List ℕ))) (k : ℕ) (none : Bor (List ℕ)) → k < length texts → (get_or texts k none).now ≡ get_or (map (λ text. text.now) texts) k []
+named texts k none inside = sym (get_or-map (λ text. text.now) texts k none [] inside)
+
+pub loop-k-preserved : goal.loop-k-preserved
+loop-k-preserved c =
+    let new = c.in-Ok-counted_by.new.items in
+    let text = c.as_bytes.ensures.value ∙ named c.args.texts.now c.loop-k.k record { ref_ptr = (0, 0); now = [] } c.loop-k-test.true in
+    let counted = subst (λ (bytes : List ℕ). IsCountedBy bytes c.as_bytes.result.now new) c.as_slice.ensures.value c.in-Ok-counted_by.ensures.ok in
+    subst (λ n. AreCounted c.args.object.now (map (λ text. text.now) c.args.texts.now) n new) (sym (add-one c.loop-k.k))
+    (c.loop-k.all.items, c.loop-k.invariant, subst (λ (text : List ℕ). IsCountedBy c.loop-k.all.items text new) text counted)
+
+pub returns-in-Err-counted_by-clause-err : goal.returns-in-Err-counted_by-clause-err
+returns-in-Err-counted_by-clause-err c =
+    let fault = c.in-Err-counted_by.fault in
+    let text = c.as_bytes.ensures.value ∙ named c.args.texts.now c.loop-k.k record { ref_ptr = (0, 0); now = [] } c.loop-k-test.true in
+    let why =
+    subst (λ (bytes : List ℕ). (fault ≡ Memory) ⊎ IsUncountedBy bytes c.as_bytes.result.now fault) c.as_slice.ensures.value c.in-Err-counted_by.ensures.err in
+    record {
+      before = c.loop-k.all.items;
+      counted = c.loop-k.invariant;
+      why = subst (λ (text : List ℕ). (fault ≡ Memory) ⊎ IsUncountedBy c.loop-k.all.items text fault) text why;
+    }

@@ -1,0 +1,4 @@
+pub mod Walks
+pub mod Btf
+pub mod Files
+pub mod Counted
