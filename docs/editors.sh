@@ -10,16 +10,27 @@ work=$(mktemp -d) || exit 1
 trap 'rm -rf "$work"' EXIT
 trap 'exit 130' HUP INT TERM
 
+# A cell of a table as plain words, for awk: a link is its text, and one between brackets of its own, which leads on, is nothing.
+plain='function plain(text,    n) {
+    gsub(/ \(\[[^][]*\]\([^)]*\)\)/, "", text)
+    while (match(text, /\[[^][]*\]\([^)]*\)/)) {
+        n = index(substr(text, RSTART), "](")
+        text = substr(text, 1, RSTART - 1) substr(text, RSTART + 1, n - 2) substr(text, RSTART + RLENGTH)
+    }
+    gsub(/[`"]/, "", text)
+    return text
+}'
+
 # jobs: 'NAME<tab>WHAT IT DOES' for each subcommand, in a line of a list.
 jobs() {
-    awk -F ' *\\| *' '
+    awk -F ' *\\| *' "$plain"'
         /^\| Subcommand / { inside = 1; next }
         !/^\|/ { inside = 0 }
         inside && $2 ~ /`/ {
-            gsub(/`/, "")
-            sub(/; .*/, "", $3)
-            while (length($3) > 72 && sub(/, [^,]*$/, "", $3)) continue
-            print $2 "\t" $3
+            does = plain($3)
+            sub(/; .*/, "", does)
+            while (length(does) > 72 && sub(/, [^,]*$/, "", does)) continue
+            print plain($2) "\t" does
         }
     ' docs/COMMANDS.md
 }
@@ -27,7 +38,7 @@ jobs() {
 # options: 'LONG<tab>SHORT<tab>VALUE<tab>MEANING<tab>FOR<tab>WORDS' for each option: its names without hyphens, what it takes (empty if it
 # takes nothing), a line on it, the subcommands that have it ('each' if all do, 'bpfdb alone' if none does), and the words that it may take.
 options() {
-    awk -F ' *\\| *' -v OFS='\t' '
+    awk -F ' *\\| *' -v OFS='\t' "$plain"'
         /^## / { inside = $0 == "## OPTIONS" }
         inside && $2 ~ /`-/ {
             long = short = value = words = ""
@@ -39,8 +50,7 @@ options() {
             n = split($3, names, "`")
             for (i = 2; i <= n; i += 2) if (names[i] ~ /^[a-z0-9]+$/) { words = words (words == "" ? "" : " ") names[i]; count[long]++ }
             if (count[long] < 2) words = ""
-            meaning = $3
-            gsub(/[`"\[\]]/, "", meaning)
+            meaning = plain($3)
             sub(/[.:,] .*|\.$|, .*/, "", meaning)
             print long, short, value, meaning, $4, words
         }
@@ -394,6 +404,9 @@ mnemonics > "$work/mnemonics"
 for list in jobs options page dap mnemonics; do
     [ -s "$work/$list" ] || { echo "docs/editors.sh: the pages have no $list" >&2; exit 1; }
 done
+# (a shell shows a description beside its option, on one line)
+awk -F '\t' 'length($4) > 80 || $4 ~ /[][]|\(#/ { print "docs/editors.sh: no short words say what --" $1 " is: " $4; status = 1 } END { exit status }' \
+    "$work/options" >&2 || exit 1
 bash > "$work/made" && hold completion/bpfdb.bash "$work/made"
 zsh > "$work/made" && hold completion/_bpfdb "$work/made"
 fish > "$work/made" && hold completion/bpfdb.fish "$work/made"

@@ -525,8 +525,8 @@ def value_type(name, size):
 
 class Load(Asker):
     """bpf-load FILE [OPTIONS]: links an object of clang, or assembles a listing, loads its symbols, and starts it in bpfdb. OPTIONS are those of
-    'bpfdb gdb', and --section NAME, --entry NAME, --stub NUMBER=VALUE and --as-compiled. Without words it starts the same program again. Breakpoints
-    stay."""
+    'bpfdb gdb', and --section NAME, --entry NAME, --entries NAME=N, --stub NUMBER=VALUE and --as-compiled. Without words it starts the same program
+    again. Breakpoints stay."""
 
     def __init__(self):
         super().__init__("bpf-load", gdb.COMMAND_RUNNING, gdb.COMPLETE_FILENAME)
@@ -579,16 +579,17 @@ def entry_of(file):
 
 def load_object(file, options, base):
     """Links an object to files of this name. Answers the options with which bpfdb starts it, FILE behind them."""
-    section, options = taken(options, "--section")
-    entry, options = taken(options, "--entry")
-    stubs, options = taken(options, "--stub")
-    left = [word for word in options if word == "--as-compiled"]
+    linking = [word for word in options if word == "--as-compiled"]
     options = [word for word in options if word != "--as-compiled"]
-    program = called("bpfdb", ["link", *section, *entry, *stubs, *left, file])
+    for name in ("--section", "--entry", "--entries", "--stub"):
+        words, options = all_taken(options, name)
+        linking += words
+    program = called("bpfdb", ["link", *linking, file])
     with open(base + ".bin", "wb") as output:
         output.write(program.stdout)
     machine_words, _ = taken(options, "--registers")
-    symbols = called("bpfdb-symbols", [*section, *entry, *machine_words, file, base + ".sym"])
+    os.environ.setdefault("BPFDB", found("bpfdb"))
+    symbols = called("bpfdb-symbols", [*linking, *machine_words, file, base + ".sym"])
     said = program.stderr.decode(errors="replace")
     if said.startswith("--maps ") and not taken(options, "--maps")[0]:
         options = [*options, *said.split()[:2]]
@@ -612,6 +613,16 @@ def taken(words, option):
         if word.startswith(option + "="):
             return [word], words[:at] + words[at + 1:]
     return [], words
+
+
+def all_taken(words, option):
+    """The words of an option that may come several times, and the other words."""
+    every = []
+    while True:
+        own, words = taken(words, option)
+        if not own:
+            return every, words
+        every += own
 
 
 def found(name):

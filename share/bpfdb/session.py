@@ -12,8 +12,8 @@ LARGEST_JOURNAL = 16777216
 # Commands of bpfdb that change nothing.
 SHOWS = ('info', 'x', 'disas', 'last-write')
 # The options with a value, and those for `link`.
-WITH_VALUE = ('-m', '--mem', '--maps', '--journal', '--steps', '--section', '--entry', '--stub')
-FOR_LINK = ('--section', '--entry', '--stub', '--as-compiled')
+WITH_VALUE = ('-m', '--mem', '--maps', '--journal', '--steps', '--section', '--entry', '--entries', '--stub')
+FOR_LINK = ('--section', '--entry', '--entries', '--stub', '--as-compiled')
 # What `link` says of a map's name.
 MAP_LINE = re.compile(r'map (\d+): (.*)')
 # The mnemonics of instructions that take two slots.

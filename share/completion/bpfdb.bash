@@ -44,6 +44,7 @@ _bpfdb() {
     --registers) mapfile -t COMPREPLY < <(compgen -W "x86 riscv bpf" -- "$word"); return ;;
     --section) _bpfdb_of_file --section "$word"; return ;;
     --entry) _bpfdb_of_file --entry "$word"; return ;;
+    --entries) :; return ;;
     --stub) :; return ;;
     --script) mapfile -t COMPREPLY < <(compgen -f -- "$word"); return ;;
     --packet) :; return ;;
@@ -62,21 +63,21 @@ _bpfdb() {
         return
     fi
     case $job in
-    run) words="-m --mem --maps --steps --listing --object --section --entry --stub --as-compiled -h --help" ;;
-    trace) words="-m --mem --maps --steps --from --count --branches --profile --listing --object --section --entry --stub --as-compiled -h --help" ;;
-    debug) words="-m --mem --maps --journal --steps --listing --object --section --entry --stub --as-compiled -h --help" ;;
-    origin) words="-m --mem --maps --journal --steps --listing --object --section --entry --stub --script --as-compiled --lines --addresses -h --help" ;;
-    whynot) words="-m --mem --maps --journal --steps --listing --object --section --entry --stub --script --as-compiled --lines --addresses --alone -h --help" ;;
-    diff) words="-m --mem --maps --steps --listing --object --section --entry --stub --as-compiled --other-mem -h --help" ;;
+    run) words="-m --mem --maps --steps --strict --listing --object --section --entry --entries --stub --as-compiled -h --help" ;;
+    trace) words="-m --mem --maps --steps --from --count --branches --profile --strict --listing --object --section --entry --entries --stub --as-compiled -h --help" ;;
+    debug) words="-m --mem --maps --journal --steps --listing --object --section --entry --entries --stub --as-compiled -h --help" ;;
+    origin) words="-m --mem --maps --journal --steps --listing --object --section --entry --entries --stub --script --as-compiled --lines --addresses -h --help" ;;
+    whynot) words="-m --mem --maps --journal --steps --listing --object --section --entry --entries --stub --script --as-compiled --lines --addresses --alone -h --help" ;;
+    diff) words="-m --mem --maps --steps --listing --object --section --entry --entries --stub --as-compiled --other-mem -h --help" ;;
     asm) words="-h --help" ;;
-    disasm) words="--maps --listing --object --section --entry --stub --as-compiled -h --help" ;;
-    lines) words="--object --section --entry --stub --as-compiled --with -h --help" ;;
-    check) words="--maps --listing --object --section --entry --stub --as-compiled -h --help" ;;
-    link) words="--section --entry --stub --as-compiled --packet --with --joined -h --help" ;;
-    gdb) words="-m --mem --maps --journal --steps --listing --object --registers --section --entry --stub --as-compiled -h --help" ;;
+    disasm) words="--maps --listing --object --section --entry --entries --stub --as-compiled -h --help" ;;
+    lines) words="--object --section --entry --entries --stub --as-compiled --with -h --help" ;;
+    check) words="--maps --listing --object --section --entry --entries --stub --as-compiled -h --help" ;;
+    link) words="--section --entry --entries --stub --as-compiled --packet --with --joined -h --help" ;;
+    gdb) words="-m --mem --maps --journal --steps --listing --object --registers --section --entry --entries --stub --as-compiled -h --help" ;;
     test) words="--only --show --cover -h --help" ;;
-    shell) words="-m --mem --maps --journal --steps --listing --object --section --entry --stub --as-compiled --packet -h --help" ;;
-    page) words="-m --mem --maps --steps --listing --section --entry --stub --as-compiled --packet -o --output --from --count --title --object -h --help" ;;
+    shell) words="-m --mem --maps --journal --steps --listing --object --section --entry --entries --stub --as-compiled --packet -h --help" ;;
+    page) words="-m --mem --maps --steps --strict --listing --section --entry --entries --stub --as-compiled --packet -o --output --from --count --title --object -h --help" ;;
     dap) words="--port --over -h --help" ;;
     help) words="run trace debug origin whynot diff asm disasm lines check link gdb test" ;;
     *) return ;;

@@ -48,6 +48,9 @@ for compiler in $compilers; do
         gives 0x3a length
         gives 0x2 spilled
         gives 0xbf6 called
+        gives 0x422 beside
+        gives 0x44 walked
+        gives 0x111b sorted
         gives 0xfffffffffffffffb negative
         gives 0x2 unread
         struct=tc
@@ -106,6 +109,12 @@ for compiler in $compilers; do
         unfit "$escapes: xdp" keeps
         unfit "$escapes: xdp" passes
         unfit "$escapes: xdp" returns
+        unfit "$escapes: xdp" through_frame
+        unfit "$escapes: xdp" through_address
+        unfit "$escapes: xdp" loads_copy
+        unfit "$escapes: xdp" stores_over
+        unfit "$escapes: xdp" chosen
+        unfit "$escapes: xdp" chosen_other
         unfit "$no_field: .text" in_text
         struct=tc
         unfit "$no_field: tc" socket

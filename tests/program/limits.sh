@@ -173,6 +173,9 @@ object calls
 "$program" link typed.o > typed 2> told
 bytes overrun.o $(sed 's/../& /g' "$top/examples/overrun/object.hex")
 "$program" link --with calls.o overrun.o > both
+many=$(printf ' --with calls.o%.0s' 1 2 3 4 5 6 7 8 9 10 11 12 13 14 15 16)
+# shellcheck disable=SC2086
+"$program" lines --object $many overrun.o > rows
 # (an object whose code is the longest program: it stands behind the object text.o, of 448 bytes, whose section has its offset and size at 344)
 object text
 { head -c 344 text.o; printf '\300\001\0\0\0\0\0\0\370\377\007\0\0\0\0\0'; tail -c +361 text.o; cat longest; } > longest.o
@@ -183,6 +186,7 @@ cp "$parts/suites/cells.test" "$parts/suites/alone.test" .
     result '0xfffe\n' run -m context --maps $sixteen --listing two.s
     result 'ok 65535 instructions in 65535 slots\n' check --maps $sixteen --listing two.s
     result '0x7\n' run --listing line.s
+    result '0x7\n' run --strict --listing line.s
     output 'asm with 256 kB of stack' jumps asm labels.s
     output 'disasm with 256 kB of stack' canonical.s disasm --maps $sixteen jumps
     output 'lines with 256 kB of stack' slots lines two.s
@@ -190,6 +194,8 @@ cp "$parts/suites/cells.test" "$parts/suites/alone.test" .
     output 'trace with 256 kB of stack' profile trace -m context --maps $sixteen --profile --listing two.s
     output 'link with 256 kB of stack' "$top/examples/overrun/program.bin" link overrun.o
     output 'link of two objects with 256 kB of stack' both link --with calls.o overrun.o
+    # shellcheck disable=SC2086
+    output 'lines of 17 objects with 256 kB of stack' rows lines --object $many overrun.o
     for subcommand in run trace debug origin gdb check disasm; do
         : > script
         run $subcommand $(told_maps) typed

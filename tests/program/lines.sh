@@ -6,6 +6,20 @@ tells_of() {
     text=$1 wanted=$2
     shift 2
     "$program" disasm --object "$@" > listing.s 2> found/err || complain "disasm --object $*: $(cat found/err)"
+    tells_found "$@"
+}
+
+# joined_tells TEXT FILE:LINE FUNCTION ARGUMENT..: the same of a program that others are joined to.
+joined_tells() {
+    text=$1 wanted=$2
+    shift 2
+    "$program" link "$@" > words 2> told || complain "link $*: $(cat told)"
+    # shellcheck disable=SC2046
+    "$program" disasm $(told_maps) words > listing.s 2> found/err || complain "disasm of $*: $(cat found/err)"
+    tells_found "$@"
+}
+
+tells_found() {
     "$program" lines listing.s > slots
     line=$(grep -n -F "$text" listing.s | cut -d: -f1)
     slot=$(awk -v line="$line" '$2 == line { print $1 }' slots)
@@ -38,7 +52,7 @@ printf 'none' > none.o
 refused 'refused E1: no ELF file' lines --object none.o
 refused 'refused A1 at line 1: unknown mnemonic' lines none.o
 usage "'--with' needs '--object'" lines --with calls.o none.o
-usage "'--section', '--entry', '--stub' and '--as-compiled' need '--object'" lines --section prog none.o
+usage "'--section', '--entry', '--entries', '--stub' and '--as-compiled' need '--object'" lines --section prog none.o
 
 compilers=''
 if has_clang 'lines --object'; then
@@ -78,19 +92,36 @@ for compiler in $compilers; do
     done
 
     # Functions of another object, behind those of the program, each with the lines of its own object.
-    for name in program functions; do
+    for name in program functions mock twice; do
         "$compiler" -g -O2 -target bpf -c "$parts/join/$name.c" -o $name.o 2> found/err || complain "$compiler: $name.c: $(cat found/err)"
     done
     if has python3 'lines of joined objects'; then
         for section in time text trace cells; do
             held joined program.o functions.o --section=$section
         done
+        # Of three and four objects each has its rows, in their order: those that answer, and those that answer nothing any more.
+        for others in twice.o,functions.o functions.o,twice.o twice.o,mock.o,functions.o functions.o,twice.o,mock.o mock.o,mock.o; do
+            for section in time text; do
+                held joined program.o $others --section=$section
+            done
+        done
+        held joined program.o twice.o,functions.o --section=cells
+        held broken program.o twice.o,mock.o,functions.o --section=time
     fi
+    # By hand: what stands in each, wherever it is joined. (What isn't reached is `exit`: so of `twice.o` behind another one that answers.)
+    joined_tells 'mov r0, 5' 'mock.c:2 bpf_ktime_get_ns' --section time --with mock.o program.o
+    joined_tells 'mov r0, 5' 'mock.c:2 bpf_ktime_get_ns' --section time --with mock.o --with twice.o program.o
+    joined_tells 'mov r0, 5' 'mock.c:2 bpf_ktime_get_ns' --section time --with twice.o --with mock.o program.o
+    joined_tells 'lsh r0, 1' 'twice.c:3 bpf_ktime_get_ns' --section time --with twice.o --with mock.o program.o
+    joined_tells 'lsh r0, 1' 'twice.c:3 bpf_ktime_get_ns' --section time --with twice.o --with functions.o --with mock.o program.o
+    joined_tells 'add r0, 1' 'functions.c:13 step' --section time --with twice.o --with functions.o --with mock.o program.o
+    joined_tells ', 100' 'program.c:27 at_time' --section time --with twice.o --with functions.o --with mock.o program.o
     count=$((count + 1))
     "$program" lines --object --section time --with functions.o program.o > found/out 2> found/err
     grep -q '/join/program.c:[0-9]* [a-z_]*$' found/out && grep -q '/join/functions.c:[0-9]* bpf_ktime_get_ns$' found/out ||
         complain "lines --with functions.o: $(cat found/out found/err)"
     refused 'refused E1: no ELF file (--with)' lines --object --section time --with none.o program.o
+    refused 'refused E1: no ELF file (--with, object 2)' lines --object --section time --with mock.o --with none.o program.o
 
     # The list of lines is read, and refused where it is cut off, as tests/trials/lines.py shows by each byte; names that would steer a terminal are shown.
     "$compiler" -g -O2 -target bpf -ffile-prefix-map="$parts/lines=$(printf 'a\033b c')" -c "$parts/lines/two.c" -o steers.o 2> found/err

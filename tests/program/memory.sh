@@ -44,6 +44,7 @@ lacks() {
     case $line in
         'out of memory' | 'refused A7: out of memory' | 'refused C13: out of memory' | 'refused O2: out of memory' | \
             'refused J2: out of memory' | 'refused E26: out of memory' | 'refused E26: out of memory (--with)' | \
+            'refused E26: out of memory (--with, object 2)' | \
             'refused A7: out of memory (the other run)' | 'refused C13: out of memory (the other run)' | 'refused O2: out of memory (the other run)')
             echo "$line" >> met ;;
         *) line='out of memory' more=none ;;
@@ -130,6 +131,10 @@ wants "$plain$a7$c13$o2${others}refused A7: out of memory (the other run)\n" 0 '
 wants "$plain$c13$o2" 0 '1 0: mov r0, 42; r0 = 0x2a\n2 1: exit\nexited at 1: r0 0x2a\n' '' trace -m context --maps 8x2 program
 wants "$plain$c13$o2" 0 'exited at 1: r0 0x2a\n' '' trace --branches program
 wants "$plain$c13$o2" 0 '1 0: mov r0, 42\n1 1: exit\nexited at 1: r0 0x2a\n' '' trace --profile program
+wants "$plain$c13$o2" 0 '0x2a\n' '' run --strict -m context --maps 8x2 program
+wants "$plain$c13$o2" 0 '1 0: mov r0, 42; r0 = 0x2a\n2 1: exit\nexited at 1: r0 0x2a\n' '' trace --strict program
+printf 'mov r0, 42\nldxb r0, [r10-1]\nexit\n' > unread.s
+wants "$plain$a7$c13$o2" 1 '1 0: mov r0, 42; r0 = 0x2a\nread of 0x2000001ff at 1: not written since the call\n' '' trace --strict --listing unread.s
 wants "$plain$a7" 0 "$words" '' asm program.s
 wants "$plain$a7" 0 '0 1 start\n1 2\n' '' lines program.s
 wants "$plain$c13" 0 'mov r0, 42\nexit\n' '' disasm --maps 8x2 program
@@ -163,13 +168,28 @@ wants "$plain$e26$c13$o2$j2" 0 'exited at 1: r0 0x7\nit was reached 2 moves back
 wants "$plain$e26$c13$o2$j2" 0 '' '' debug --journal 1024 --object text.o
 # Two objects as one: the code of both, and the records of maps.
 if has_clang 'link --with where memory is refused'; then
-    for source in program functions; do
+    for source in program functions twice; do
         clang -g -O2 -target bpf -c "$parts/join/$source.c" -o $source.o 2> found/err || complain "$source.c: $(cat found/err)"
     done
     "$program" link --with functions.o --section cells program.o > linked 2> told || complain "cells: $(cat told)"
     wants "$plain$e26$of_functions" 0 "$(od -An -v -b linked | tr -d '\n' | sed 's/ /\\0/g')" "$(cat told)\n" link --with functions.o --section cells program.o
     "$program" lines --object --with functions.o --section cells program.o > table
     wants "$plain$e26$of_functions" 0 "$(text table)" '' lines --object --with functions.o --section cells program.o
+    "$program" lines --object --with functions.o --with twice.o --section time program.o > table
+    wants "$plain$e26${of_functions}refused E26: out of memory (--with, object 2)\n" 0 "$(text table)" '' \
+        lines --object --with functions.o --with twice.o --section time program.o
+fi
+# Programs in turn.
+if has_clang 'link --entry where memory is refused'; then
+    clang -g -O2 -target bpf -c "$parts/turns/pair.c" -o pair.o 2> found/err || complain "pair.c: $(cat found/err)"
+    "$program" link --entry store --entry take@8 pair.o > linked 2> told || complain "store and take: $(cat told)"
+    wants "$plain$e26" 0 "$(od -An -v -b linked | tr -d '\n' | sed 's/ /\\0/g')" "$(cat told)\n" link --entry store --entry take@8 pair.o
+fi
+# Entries of maps.
+if has_clang 'link --entries where memory is refused'; then
+    clang -g -O2 -target bpf -c "$parts/counts/sized.c" -o sized.o 2> found/err || complain "sized.c: $(cat found/err)"
+    "$program" link --section prog/zero --entries zero=3 --entries few=2 sized.o > linked 2> told || complain "zero and few: $(cat told)"
+    wants "$plain$e26" 0 "$(od -An -v -b linked | tr -d '\n' | sed 's/ /\\0/g')" "$(cat told)\n" link --section prog/zero --entries zero=3 --entries few=2 sized.o
 fi
 # A program of the kernel's for packets.
 if has_clang 'link --packet where memory is refused'; then
@@ -212,12 +232,35 @@ reports() {
 }
 reports "$plan$one$two$cell$show"
 said 'bpfdb test' '0 lines\n1 lines\n2 lines\n'
+# Registers that are set, and a fault that is expected by its kind alone, or is any.
+for kind in access ''; do
+    printf -- '-- listing\nldxb r0, [r3+1]\nexit\n-- regs\nr3 = 8\n\nr4 = 1\n-- fault\n%s\n' "$kind" > kind.test
+    : > met
+    request=1 found=
+    while [ "$found" != 0 ] && [ "$request" -le "$most" ]; do
+        for all in '' all; do
+            refuse "$request" "$all" test kind.test
+            if [ "$found" = 0 ]; then
+                check "bpfdb test of fault $kind: request $request for memory refused, $all, and made again" 0 '1..1\nok 1\n' ''
+                continue
+            fi
+            lines=$(wc -l < found/out)
+            echo "$lines lines" >> met
+            reported=
+            [ "$lines" = 0 ] || reported='1..1\n'
+            check "bpfdb test of fault $kind: request $request for memory refused, $all" 2 "$reported" "$plain"
+        done
+        request=$((request + 1))
+    done
+    said "bpfdb test of fault $kind" '0 lines\n1 lines\n'
+done
 # With --cover there is no table, then, or all of it.
 table='# cover of the program in line 3: 2 of 2 instructions, 0 of 0 branches both ways\n'
 reports "$plan$one$two$cell$show$table" --cover
 said 'bpfdb test --cover' '0 lines\n1 lines\n2 lines\n9 lines\n'
 wants "$plain" 0 'set cell 0 1 0102\ncontinue\n' '' test --show script --only b two.test
 wants "$plain" 0 '--maps=2x2\n--steps=1000000\n' '' test --show options --only a two.test
+wants "$plain" 0 'set reg r3 8\nset reg r4 1\ncontinue\n' '' test --show script kind.test
 wants "$plain" 2 '' 'cannot read missing\n' run missing
 wants "$plain" 0 "$(text "$parts/help/bpfdb.txt")" '' --help
 wants "$plain" 0 "$(version)" '' --version

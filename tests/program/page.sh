@@ -147,13 +147,19 @@ cells
 0 1 0a000000
 -- result
 0
+-- name
+registers
+-- regs
+r3 = 5
+-- result
+0
 TEST
     "$program" test some.test > wanted/report
     "$top/share/bpfdb-show" --page failed some.test > found/out 2> found/err
     echo $? > found/status
     unhurried found/err
     check 'bpfdb-show --page' 2 "$(text wanted/report)" \
-        "no page of refused: refused C10 at slot 0: program runs off its end\nno page of cells: it sets cells before its first step, which 'bpfdb trace' can't\n"
+        "no page of refused: refused C10 at slot 0: program runs off its end\nno page of cells: it sets cells before its first step, which 'bpfdb trace' can't\nno page of registers: it sets registers before its first step, which 'bpfdb trace' can't\n"
     ls -A failed > found/pages
     printf '%s\n' _..html 'of_a_b___c_____gr____e.html' 'of_a_b___c____gr____e.html' | LC_ALL=C sort > wanted/pages
     LC_ALL=C sort -o found/pages found/pages

@@ -60,6 +60,8 @@ run --listing program.s
 trace program
 trace --branches program
 trace --profile program
+run --strict program
+trace --strict program
 debug program
 debug --listing program.s
 asm program.s

@@ -145,6 +145,12 @@ showing context "it's b" ''
 showing options "it's b" '--maps=4x3,2x2\n--steps=1000000\n'
 showing script "it's b" 'continue\n'
 showing context 'no listing' ''
+{
+    printf -- '-- listing\nmov r0, r3\nadd r0, r9\nexit\n-- maps\n1x1\n-- cells\n0 0 07\n-- regs\nr3 = 0x10\n\n r9=18446744073709551615\nr3 = 7\n-- result\n6\n'
+} > registers
+row 'bpfdb test --show script of registers' 0 '' 'set cell 0 0 07\nset reg r3 16\nset reg r9 18446744073709551615\nset reg r3 7\ncontinue\n' '' test --show script registers
+"$program" test --show program registers > words
+row 'bpfdb debug obeys the script of registers' 0 "$("$program" test --show script registers)\n" 'ok\nok\nok\nok\n3 forward; end; exited at 2: r0 0x6\n' '' debug --maps=1x1 words
 row 'bpfdb test --show program of a listing that is none' 2 '' '' 'refused A1 at line 2: unknown mnemonic\n' test --show program --only 'no listing' shown.test
 row 'bpfdb test --show of several tests' 2 '' '' 'refused T8: more than one test is asked for\n' test --show program shown.test
 row 'bpfdb test --show of several tests of a name' 2 '' '' 'refused T8: more than one test is asked for\n' test --show context --only twice shown.test
@@ -184,6 +190,8 @@ covering 'cells of one test alone' 0 '-- maps\n1x1\n-- listing\nldmapval r1, 0, 
 covering 'a cell that is none' 0 '-- listing\nexit\n-- cells\n0 0 07\n-- refused\nQ14\n' '1..1\nok 1\n'
 covering 'programs of tests, behind that which the others share' 0 '-- name\na\n-- words\n9500000000000000\n-- result\n0\n-- name\nb\n-- listing\nmov r0, 1\nexit\n-- result\n1\n' '1..2\nok 1 - a\nok 2 - b\n# cover of the program in line 3: 1 of 1 instructions, 0 of 0 branches both ways\n# cover of the program in line 9: 2 of 2 instructions, 0 of 0 branches both ways\n'
 covering 'a program of its own before one of the shared program' 0 "${covered}-- name\na\n-- words\n9500000000000000\n-- result\n0\n$none" "1..2\nok 1 - a\nok 2 - none\n${first}4 of 9 instructions, 0 of 2 branches both ways\n# never went on: 0: jlt r2, 2, L7\n# never ran: 1: lddw r0, 0x5\n# never ran: 3: jeq r2, 3, L5\n# never ran: 4: ja L6\n# never ran: 5: mov r0, 3\n# never ran: 6: exit\n# cover of the program in line 13: 1 of 1 instructions, 0 of 0 branches both ways\n"
+covering 'registers, shared and of a test' 0 '-- listing\njeq r3, 5, end\nmov r0, 1\nend: exit\n-- regs\nr3 = 5\n-- name\nshared\n-- result\n0\n-- name\nown\n-- regs\nr3 = 4\n-- result\n1\n' "1..2\nok 1 - shared\nok 2 - own\n${first}3 of 3 instructions, 1 of 1 branches both ways\n"
+covering 'registers of one test alone' 0 '-- listing\njeq r3, 5, end\nmov r0, 1\nend: exit\n-- regs\nr3 = 5\n-- result\n0\n' "1..1\nok 1\n${first}2 of 3 instructions, 0 of 1 branches both ways\n# never went on: 0: jeq r3, 5, L2\n# never ran: 1: mov r0, 1\n"
 covering 'a function that is called' 0 '-- listing\ncallf f\nexit\nf: mov r0, 4\nexit\n-- result\n4\n' "1..1\nok 1\n${first}4 of 4 instructions, 0 of 0 branches both ways\n"
 row 'bpfdb test --cover of no test' 2 '' '' 'refused T7: no test of this name: b\n' test --cover --only b covered.test
 row 'bpfdb test --cover of a file with a fault' 2 '' '' 'refused T6 at line 1: test without an expectation\n' test --cover lacking

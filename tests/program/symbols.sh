@@ -53,6 +53,7 @@ large() {
 }
 
 objects=$top/tests/trials/objects.py
+export BPFDB=$program
 if has python3 'bpfdb-symbols'; then
     for name in calls two text data programs; do
         object $name
@@ -60,7 +61,7 @@ if has python3 'bpfdb-symbols'; then
     bytes overrun.o $(sed 's/../& /g' "$top/examples/overrun/object.hex")
 
     refused_object 'No such file or directory' nothing.o
-    refused_object 'no ELF file' "$top/README.md"
+    refused_object 'refused E1: no ELF file' "$top/README.md"
     PYTHONOPTIMIZE=2 "$top/share/bpfdb-symbols" overrun.o without > found/out 2> found/err
     echo $? > found/status
     check 'bpfdb-symbols: a Python without texts of documentation' 0 '' ''
@@ -78,25 +79,25 @@ if has python3 'bpfdb-symbols'; then
         check 'bpfdb-symbols: a full output' 2 '' 'bpfdb-symbols: /dev/full: No space left on device\n'
     fi
     : > empty.o
-    refused_object 'no ELF file' empty.o
+    refused_object 'refused E1: no ELF file' empty.o
     head -c 63 calls.o > cut.o
-    refused_object 'no ELF file' cut.o
+    refused_object 'refused E1: no ELF file' cut.o
     changed narrow 4 001
-    refused_object 'not of 64 bits' narrow.o
+    refused_object 'refused E2: not of 64 bits' narrow.o
     changed big 5 002
-    refused_object 'not little-endian' big.o
+    refused_object 'refused E3: not little-endian' big.o
     changed linked 16 002
-    refused_object 'no relocatable object' linked.o
+    refused_object 'refused E4: no relocatable object' linked.o
     changed other 18 076
-    refused_object 'not for BPF' other.o
+    refused_object 'refused E5: not for BPF' other.o
     changed table 58 077
-    refused_object 'malformed section table' table.o
-    refused_object 'more than one code section' two.o
-    refused_object 'no such code section' two.o --section c
+    refused_object 'refused E6: malformed section table' table.o
+    refused_object 'refused E9: more than one code section: --section NAME chooses one: a, b' two.o
+    refused_object 'refused E8: no such code section: a, b' two.o --section c
     length=$(wc -c < overrun.o)
     for size in 64 1000 $((length / 2)) $((length - 1)); do
         head -c "$size" overrun.o > cut.o
-        refused_object 'cut off or damaged' cut.o
+        refused_object 'refused E6: malformed section table' cut.o
     done
     convert overrun.o /nothing/overrun.sym
     check 'bpfdb-symbols into no folder' 2 '' 'bpfdb-symbols: /nothing/overrun.sym: No such file or directory\n'
@@ -108,11 +109,12 @@ if has python3 'bpfdb-symbols'; then
     : > wanted/damaged
     same 'what bpfdb-symbols says of damaged objects' wanted/damaged found/damaged
 
-    # Memory and time grow as an object does: with names, which `link` takes in any length, with maps, and with data.
+    # Memory and time grow as an object does: with names, which `link` takes in any length, with maps, and with data, of which `link` takes few.
     large maps 16000
-    large data 8000
     large names 5000
     "$program" link large.o > large.bin 2> found/err || complain 'bpfdb link: an object with many names'
+    python3 "$objects" data 8000 large.o
+    refused_object 'refused E15: more than 16 maps' large.o
 
     # A program (2) for x86-64 (62), or for RISC-V of 64 bits (243).
     cp overrun.o before
@@ -132,7 +134,7 @@ if has python3 'bpfdb-symbols'; then
     converted data.o data.sym
     holds data.sym '8 prog' '300000000 .data' '0 _start' '28 _setup'
     [ "$(field data.sym 24)" = 8 ] || complain 'bpfdb-symbols data.o: the entry'
-    converted --entry second programs.o programs.sym
+    converted --entry second --stub 5=0 programs.o programs.sym
     holds programs.sym '8 prog' '0 _start'
     [ "$(field programs.sym 24)" = 64 ] || complain 'bpfdb-symbols --entry second programs.o: the entry'
     [ "$(field calls.sym 24)" = 0 ] || complain 'bpfdb-symbols calls.o: the entry'
@@ -141,8 +143,7 @@ if has python3 'bpfdb-symbols'; then
         '0 .debug_str_offsets' '0 .debug_str' '0 .debug_addr' '0 .debug_line' '0 .debug_line_str'
 
     # Of a listing: what bpfdb refuses is refused, and the file begins with its header of 64 bytes and the program's words. Without the program
-    # nothing is known of a listing.
-    export BPFDB=$program
+    # nothing is known of a listing, or of an object.
     cp "$parts/gdb/sum.s" .
     printf 'exit\nmove r0, 1\n' > bad.s
     : > empty.s
@@ -159,7 +160,7 @@ if has python3 'bpfdb-symbols'; then
     [ "$(field riscv.sym 16)" = $((2 + 65536 * 243 + 4294967296)) ] || complain 'bpfdb-symbols --listing: a program for RISC-V'
     converted --listing empty.s empty.sym
     PATH=/usr/bin:/bin BPFDB= refused_object 'there is no program bpfdb' sum.s --listing
-    unset BPFDB
+    PATH=/usr/bin:/bin BPFDB= refused_object 'there is no program bpfdb' overrun.o
 
     # The object that the clang which is here makes of the same C, where it knows BPF, has the same fault.
     if has_clang 'bpfdb-symbols of objects that are compiled here'; then
@@ -185,7 +186,7 @@ if has python3 'bpfdb-symbols'; then
         clang -g -gz -O1 -target bpf -c -o packed.o stackless.c
         refused_object 'compressed debug information: compile with -gz=none' packed.o
 
-        # Two names of one map are two maps: the map behind them has the number 2, and the first map of data 3.
+        # Two names of one map are one map, and the map behind it has the number 1: what is linked tells it, and the first map of data has the number 2.
         cat > aliases.c <<'C'
 struct map { unsigned type, key_size, value_size, max_entries, flags; };
 struct map first __attribute__((section("maps"))) = { 2, 4, 8, 3 }, last __attribute__((section("maps"))) = { 2, 4, 8, 3 };
@@ -195,7 +196,31 @@ __attribute__((section("prog"))) long entry(void) { data++; return (long)&last +
 C
         clang -O1 -target bpf -c -o aliases.o aliases.c
         converted aliases.o aliases.sym
-        holds aliases.sym '8 prog' '400000000 maps' '300300000 .data' '0 _start' '60 _setup'
+        holds aliases.sym '8 prog' '400000000 maps' '300200000 .data' '0 _start' '60 _setup'
+
+        # Maps and data have the numbers that they have in the program: those to which another one refers have none.
+        cat > apart.c <<'C'
+struct map { unsigned type, key_size, value_size, max_entries, flags; };
+struct map other __attribute__((section("maps"))) = { 2, 4, 8, 3 }, own __attribute__((section("maps"))) = { 2, 4, 8, 3 };
+static volatile long data __attribute__((section(".data.other"))) = 5, mine __attribute__((section(".data.own"))) = 6;
+__attribute__((section("prog"))) long entry(void) { mine++; return (long)&own; }
+__attribute__((section("prog/other"))) long second(void) { data++; return (long)&other; }
+C
+        clang -g -O1 -target bpf -c -o apart.o apart.c
+        refused_object 'refused E9: more than one code section: --section NAME chooses one: prog, prog/other' apart.o
+        converted --section prog apart.o apart.sym
+        python3 "$objects" sections apart.sym | grep -v ' .debug' > found/sections
+        printf '%s\n' '0 ' '8 prog' '400000000 maps' '300100000 .data.own' '0 _start' '48 _setup' '0 .symtab' '0 .strtab' '0 .shstrtab' > wanted/sections
+        same 'the sections of apart.sym' wanted/sections found/sections
+
+        # What the link asks for is said to it: helpers that a constant answers, and entries of maps.
+        printf 'static long (*f)(void) = (void *)14; __attribute__((section("prog"))) long entry(void) { return f(); }\n' > stubbed.c
+        clang -O1 -target bpf -c -o stubbed.o stubbed.c
+        refused_object 'refused E25 at slot 0: unknown helper 14 (bpf_get_current_pid_tgid): --with OBJECT or --stub 14=VALUE answers it: prog, slot 0' stubbed.o
+        converted --stub 14=3 stubbed.o stubbed.sym
+        clang -g -O1 -fstack-size-section -target bpf -c -o sized.o "$parts/counts/sized.c" 2> found/err
+        refused_object 'refused E52: entries not 1 to 4096: open' sized.o --section prog/open
+        converted --section prog/open --entries open=3 --entries few=1 sized.o sized.sym
 
         # gdb obeys scripts and looks for files that sections of some names tell of. So they are left out, and data of such a name have another.
         cat > scripts.c <<'C'

@@ -104,7 +104,7 @@ for absent in 'run --journal=65536' 'debug -j=65536' 'asm -m=context' 'asm --mem
     'check -m=context' 'check --mem=context' 'check --journal=65536' 'check --steps=7' 'asm --section=a' 'asm --entry=a' 'asm --object' 'link --object' 'test --object' 'run --with=a' 'debug --joined' \
     'link -m=context' 'link --mem=context' 'link --maps=8x2' 'link --journal=65536' 'link --steps=7' 'link --listing' \
     'run --from=7' 'run --count=7' 'run --branches' 'run --profile' 'debug --from=7' 'debug --count=7' 'debug --profile' 'trace --journal=65536' 'trace --registers=x86' \
-    'origin --registers=x86' 'origin --alone' 'gdb --alone' 'whynot --registers=x86' 'run --lines=7' 'debug --lines=7' 'debug --addresses' 'gdb --lines=7' 'lines --lines=7' 'lines --listing' 'lines --maps=8x2' 'lines -m=context' 'lines --steps=7' 'lines --joined' 'run --registers=x86' 'debug --registers=x86' 'test --listing' 'test --maps=8x2' 'test --steps=7' 'diff --journal=65536' 'diff --script=a' 'diff --lines=7' 'diff --alone' 'run --other-mem=a' 'trace --other-mem=a' 'debug --other-mem=a' 'run --only=a' 'debug --only=a' 'run --cover' 'trace --cover' 'link --only=a' 'run --show=program' 'debug --show=script'
+    'origin --registers=x86' 'origin --alone' 'gdb --alone' 'whynot --registers=x86' 'run --lines=7' 'debug --lines=7' 'debug --addresses' 'gdb --lines=7' 'lines --lines=7' 'lines --listing' 'lines --maps=8x2' 'lines -m=context' 'lines --steps=7' 'lines --joined' 'run --registers=x86' 'debug --registers=x86' 'test --listing' 'test --maps=8x2' 'test --steps=7' 'diff --journal=65536' 'diff --script=a' 'diff --lines=7' 'diff --alone' 'run --other-mem=a' 'trace --other-mem=a' 'debug --other-mem=a' 'run --only=a' 'debug --only=a' 'run --cover' 'trace --cover' 'debug --strict' 'diff --strict' 'link --only=a' 'run --show=program' 'debug --show=script'
 do
     subcommand=${absent%% *} option=${absent#* }
     name=${option%%=*}
@@ -142,13 +142,13 @@ for subcommand in run trace debug origin whynot diff gdb disasm check; do
     usage "the argument '--object' cannot be used with '--maps <VxN,VxN>'" $subcommand --maps 8x2 --object first $what
     usage "the argument '--object' cannot be used with '--maps <VxN,VxN>'" $subcommand --object first $what --maps=
     for option in --section=a --section= --entry=a --stub=5=0 --as-compiled; do
-        usage "'--section', '--entry', '--stub' and '--as-compiled' need '--object'" $subcommand $option first $what
-        usage "'--section', '--entry', '--stub' and '--as-compiled' need '--object'" $subcommand first $what --listing $option
+        usage "'--section', '--entry', '--entries', '--stub' and '--as-compiled' need '--object'" $subcommand $option first $what
+        usage "'--section', '--entry', '--entries', '--stub' and '--as-compiled' need '--object'" $subcommand first $what --listing $option
     done
     usage "the argument '--object' cannot be used multiple times" $subcommand --object --object first $what
     usage "unexpected value 'yes' for '--object' found; no more were expected" $subcommand --object=yes first $what
     usage "a value is required for '--section <NAME>' but none was supplied" $subcommand first $what --object --section
-    usage "the argument '--entry <NAME>' cannot be used multiple times" $subcommand --object --entry a --entry a first $what
+    usage "the argument '--stub <NUMBER=VALUE>' cannot be used multiple times" $subcommand --object --stub 1=0 --stub 1=0 first $what
 done
 usage 'a value is none of those that its option takes' test --show words two.test
 for subcommand in $subcommands; do
@@ -197,7 +197,8 @@ usage "unexpected value 'yes' for '--addresses' found; no more were expected" or
 usage "a value is required for '--section <NAME>' but none was supplied" link first --section
 usage "the argument '--section <NAME>' cannot be used multiple times" link --section a --section a first
 usage "a value is required for '--entry <NAME>' but none was supplied" link first --entry
-usage "the argument '--entry <NAME>' cannot be used multiple times" link --entry a --entry a first
+# (several entries are programs of the object)
+refused 'refused E1: no ELF file' link --entry a --entry a first
 usage "a value is required for '--stub <NUMBER=VALUE>' but none was supplied" link first --stub
 usage "the argument '--stub <NUMBER=VALUE>' cannot be used multiple times" link --stub 5=0 --stub 6=0 first
 for number in 0x400 1k 1024.0; do

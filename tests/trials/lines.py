@@ -2,8 +2,10 @@
 """`bpfdb lines --object` held against another reader of symbols, .BTF and .BTF.ext, and against the lines that llvm-objdump finds in DWARF:
 
     lines.py PROGRAM whole OBJECT [OPTION..]     each slot of the program of an object as it is
-    lines.py PROGRAM joined OBJECT OTHER [OPTION..]
-                                                 the same, with the functions of another one
+    lines.py PROGRAM joined OBJECT OTHER,OTHER.. [OPTION..]
+                                                 the same, with the functions of others, which are joined in this order
+    lines.py PROGRAM broken OBJECT OTHER,OTHER.. [OPTION..]
+                                                 the same, where the list of lines of each in turn can't be read
     lines.py PROGRAM dwarf OBJECT SECTION [OPTION..]
                                                  each slot of a section, by llvm-objdump
     lines.py PROGRAM turned OBJECT [OPTION..]    the same of objects in each of which one byte of .BTF.ext is another one
@@ -131,15 +133,14 @@ def ran(*words):
     return done.returncode, done.stdout, done.stderr.decode(errors='surrogateescape')
 
 
-def expected(data, words, section, functions=None):
-    """The table of an object that is linked to these words, alone or with functions."""
+def expected(data, words, section, functions=()):
+    """The table of an object that is linked to these words, alone or with the functions of others."""
     elf = Object(data)
     code = elf.code(section)
     text = elf.text(code)
     parts = [(elf, i) for i in (code, text) if i is not None]
-    if functions:
-        other = Object(functions)
-        parts.append((other, other.code('.text')))
+    others = [Object(other) for other in functions]
+    parts += [(other, other.code('.text')) for other in others]
     first = int(sum(len(each.data[i]) for each, i in parts) != len(words))
     rows = []
     for each, i in parts:
@@ -152,7 +153,7 @@ def section_in(options):
     return next((option.partition('=')[2] for option in options if option.startswith('--section=')), '')
 
 
-def hold(data, path, options, words, functions=None):
+def hold(data, path, options, words, functions=()):
     """Holds the answer for an object against what it should be. How many rows it has."""
     status, out, err = ran('lines', '--object', *options, path)
     try:
@@ -174,10 +175,38 @@ def whole(path, *options):
     return hold(data, path, options, ran('link', *options, path)[1])
 
 
+def bytes_of(path):
+    with open(path, 'rb') as file:
+        return file.read()
+
+
 def joined(path, functions, *options):
-    with open(path, 'rb') as file, open(functions, 'rb') as other:
-        options = (f'--with={functions}', *options)
-        return hold(file.read(), path, options, ran('link', *options, path)[1], other.read())
+    others = functions.split(',')
+    options = (*(f'--with={other}' for other in others), *options)
+    return hold(bytes_of(path), path, options, ran('link', *options, path)[1], [bytes_of(other) for other in others])
+
+
+def broken(path, functions, *options):
+    """Each of the objects in turn has lists of lines whose records are too short: that one is told."""
+    count = 0
+    for place, broke in enumerate([path, *functions.split(',')]):
+        files = [path, *functions.split(',')]
+        data = bytes_of(broke)
+        elf = Object(data)
+        at = elf.rows[elf.names.index(b'.BTF.ext')][4]
+        at += number(data, at + 4) + number(data, at + 16)
+        files[place] = broke + '.broken'
+        with open(files[place], 'wb') as file:
+            file.write(data[:at] + bytes([4, 0, 0, 0]) + data[at + 4:])
+        whose = ['', ' (--with)'][place] if place < 2 else f' (--with, object {place})'
+        told = ran('lines', '--object', *(f'--with={other}' for other in files[1:]), *options, files[0])
+        if told != (2, b'', f'refused E53: malformed section .BTF.ext{whose}\n'):
+            sys.exit(f'{files[place]}: {told}')
+        if ran('link', *(f'--with={other}' for other in files[1:]), *options, files[0])[0]:
+            sys.exit(f'{files[place]}: link needs no lines')
+        os.remove(files[place])
+        count += 1
+    return count
 
 
 def turned(path, *options):
@@ -228,4 +257,4 @@ def dwarf(path, section, *options):
     return count
 
 
-print({'whole': whole, 'joined': joined, 'turned': turned, 'dwarf': dwarf}[sys.argv[2]](*sys.argv[3:]), 'held')
+print({'whole': whole, 'joined': joined, 'broken': broken, 'turned': turned, 'dwarf': dwarf}[sys.argv[2]](*sys.argv[3:]), 'held')

@@ -1,11 +1,15 @@
-"""Lets bpfdb-turns take damaged objects: 'turns.py SHARE OBJECT', where SHARE is the folder of its package. Bytes of the tables are changed, and the object is
-cut off: what comes of it is an object or a line of why not, in a second and with little memory. At the end it tells how many trials held."""
+"""Lets bpfdb-turns and bpfdb take damaged objects: 'turns.py SHARE OBJECT PROGRAM', where SHARE is the folder of its package. Bytes of the tables are changed,
+and the object is cut off: what comes of it is an object or a line of why not, in a second and with little memory; of each ninth trial PROGRAM links it with
+several entries, which gives words or a refusal. At the end it tells how many trials held."""
+import os
 import resource
 import signal
 import struct
+import subprocess
 import sys
+import tempfile
 
-MEMORY, ENOUGH = 1 << 28, 1000
+MEMORY, ENOUGH, EACH = 1 << 28, 1000, 9
 # The header of a section: kind, offset, size.
 SECTION = struct.Struct('<4xI16xQQ24x')
 TABLES = (2, 9)
@@ -27,7 +31,21 @@ def places_in(content):
             yield from range(offset, offset + size, 5)
 
 
-def main(share, name):
+def links(program, changed, what):
+    """The object that was changed is linked with several entries, or refused in a line."""
+    with tempfile.NamedTemporaryFile() as file:
+        file.write(changed)
+        file.flush()
+        entries = [word for name in ('store', 'take@8', 'double_kept', 'count') for word in ('--entry', name)]
+        done = subprocess.run([program, 'link', *entries, file.name], capture_output=True, timeout=10, check=False)
+    told = done.stderr.decode(errors='replace')
+    if done.returncode == 0 and done.stdout and len(done.stdout) % 8 == 0:
+        return
+    if done.returncode != 2 or done.stdout or not told.startswith('refused ') or told.count('\n') != 1:
+        raise AssertionError(f'{what}: status {done.returncode}, {len(done.stdout)} bytes: {told}')
+
+
+def main(share, name, program):
     sys.path.insert(0, share)
     sys.dont_write_bytecode = True
     from bpfdb.texts import Refused
@@ -51,6 +69,8 @@ def main(share, name):
             print(what)
             raise
         signal.alarm(0)
+        if (held + len(what)) % EACH == 0:
+            links(os.path.abspath(program), bytes(changed), what)
         return 1
 
     for place in places_in(content):

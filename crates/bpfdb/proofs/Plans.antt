@@ -8,15 +8,16 @@ use Rattle.bpfdb_jobs.proofs.Statuses.{ends_with}
 use Rattle.bpfdb_jobs.specs.declared.job.Job.{Job}
 use Rattle.bpfdb_options.specs.declared.subcommand.Subcommand.{Subcommand}
 use Rattle.bpfdb_options.specs.declared.subcommand.Subcommand.TheVariants.{Debug}
-use Rattle.bpfdb.specs.Done.{DoesPlan, Done, EndsPlanWith, Unread}
+use Rattle.bpfdb.specs.Done.{DoesCounted, DoesOver, DoesPlan, Done, EndsPlanWith, Over, Uncounted, Unread, Unturned, With}
 
 -- It is that of the plan's job, unless it is 2.
-pub ends_plan_with : {R W E : Type 0} (reader : Stream R) (writer : Stream W) (errors : Stream E) (bytes_at : List ℕ → Option (List ℕ))
-    (at_terminal : Bool) (plan : Plan) (status : ℕ) → DoesPlan bytes_at at_terminal plan reader writer errors status → status ≢ 2
-    → EndsPlanWith plan status
-ends_plan_with reader writer errors bytes_at at_terminal plan status (Unread fault why same kept told two) other = absurd (other two)
-ends_plan_with reader writer errors bytes_at at_terminal plan status (Done of_file of_path of_other of_further job are is does) other = record {
-  of_file = of_file;
+ends_over_with : {R W E : Type 0} (reader : Stream R) (writer : Stream W) (errors : Stream E) (at_terminal : Bool) (plan : Plan)
+    (of_file of_path of_other : List ℕ) (of_further : List (List ℕ)) (status : ℕ)
+    → DoesOver at_terminal plan of_file of_path of_other of_further reader writer errors status → status ≢ 2 → EndsPlanWith plan status
+ends_over_with reader writer errors at_terminal plan of_file of_path of_other of_further status (Unturned fault why same kept told two) other =
+    absurd (other two)
+ends_over_with reader writer errors at_terminal plan of_file of_path of_other of_further status (Over bytes job for_it is does) other = record {
+  of_file = bytes;
   of_path = of_path;
   of_other = of_other;
   of_further = of_further;
@@ -24,6 +25,21 @@ ends_plan_with reader writer errors bytes_at at_terminal plan status (Done of_fi
   is = is;
   ends = ends_with reader writer (record errors { new = does.told }) job.subcommand job status does.does other;
 }
+
+ends_counted_with : {R W E : Type 0} (reader : Stream R) (writer : Stream W) (errors : Stream E) (at_terminal : Bool) (plan : Plan)
+    (of_file of_path of_other : List ℕ) (of_further : List (List ℕ)) (status : ℕ)
+    → DoesCounted at_terminal plan of_file of_path of_other of_further reader writer errors status → status ≢ 2 → EndsPlanWith plan status
+ends_counted_with reader writer errors at_terminal plan of_file of_path of_other of_further status (Uncounted fault why same kept told two) other =
+    absurd (other two)
+ends_counted_with reader writer errors at_terminal plan of_file of_path of_other of_further status (With bytes counted does) other =
+    ends_over_with reader writer errors at_terminal plan bytes of_path of_other of_further status does other
+
+pub ends_plan_with : {R W E : Type 0} (reader : Stream R) (writer : Stream W) (errors : Stream E) (bytes_at : List ℕ → Option (List ℕ))
+    (at_terminal : Bool) (plan : Plan) (status : ℕ) → DoesPlan bytes_at at_terminal plan reader writer errors status → status ≢ 2
+    → EndsPlanWith plan status
+ends_plan_with reader writer errors bytes_at at_terminal plan status (Unread fault why same kept told two) other = absurd (other two)
+ends_plan_with reader writer errors bytes_at at_terminal plan status (Done of_file of_path of_other of_further are does) other =
+    ends_counted_with reader writer errors at_terminal plan of_file of_path of_other of_further status does other
 
 -- Of a job of `debug` it is 0 then.
 debug_ends_as : (links : Bool) (job : Job) (status : ℕ) → EndsAs links Debug job status → status ≡ 0

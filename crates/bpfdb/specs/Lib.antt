@@ -1,4 +1,6 @@
+pub mod Counts
 pub mod Done
 pub mod Files
+pub mod Turns
 pub mod Jobs
 pub mod Words

@@ -1,6 +1,6 @@
 //! What is done of a command line, over any files, reader and writers.
 ghost use Rattle.std.specs.Prelude.{◌≤◌};
-ghost use Rattle.bpfdb.specs.Done.{DoesHinted, DoesPlan, Helps};
+ghost use Rattle.bpfdb.specs.Done.{DoesCounted, DoesHinted, DoesOver, DoesPlan, Helps};
 ghost use Rattle.bpfdb.specs.Files.{contents};
 ghost use Rattle.bpfdb.specs.Jobs.{IsJobOf};
 ghost use Rattle.bpfdb_jobs.specs.declared.job.Job.{Job};
@@ -8,8 +8,10 @@ ghost use Rattle.bpfdb_limits.specs.Limits.{IsLimit};
 ghost use Rattle.counted_io.specs.Writing.{Writes};
 ghost use Rattle.bpfdb_faults.specs.Streams.{stream};
 
+use crate::counts::{counted_file, refuse_counts};
 use crate::files::{kind_of, read_each, read_given, read_named};
-use crate::job::job_of;
+use crate::job::{Loaded, is_turned, job_of};
+use crate::turns::{refuse_turns, turned_file};
 use bpfdb_cli::Plan;
 use bpfdb_faults::{JobFault, give_up};
 use bpfdb_files::{FileKind, Opener};
@@ -20,8 +22,8 @@ use std::alloc::Global;
 use std::io::{Read, Write};
 
 /// Reads the files of a plan, FILE before PATH is opened, that before the other one, and that before
-/// the further ones; then does its job. Where standard error is a terminal, the job's hint follows, if there is one. Answers the exit
-/// status.
+/// the further ones; then does its job. Where standard error is a terminal, the job's hint follows,
+/// if there is one. Answers the exit status.
 pub fn do_plan<F: Opener, R: Read, W: Write, E: Write>(
     alloc: Global,
     files: &F,
@@ -53,41 +55,93 @@ pub fn do_plan<F: Opener, R: Read, W: Write, E: Write>(
         Ok(further) => further,
         Err(fault) => return give_up(errors, &fault),
     };
-    do_read(
-        alloc,
-        plan,
-        file.as_slice(),
-        context.as_slice(),
-        other.as_slice(),
-        further.as_slice(),
-        at_terminal,
-        reader,
-        writer,
-        errors,
-    )
+    let loaded = Loaded {
+        file: file.as_slice(),
+        context: context.as_slice(),
+        other: other.as_slice(),
+        further: further.as_slice(),
+    };
+    do_counted(alloc, plan, &loaded, at_terminal, reader, writer, errors)
 }
 
-/// Does the job of a plan, with the bytes of its files, and adds its hint.
-fn do_read<R: Read, W: Write, E: Write>(
+/// Does a plan with the bytes of its files: FILE as it is, or with other entries of its maps.
+fn do_counted<R: Read, W: Write, E: Write>(
     alloc: Global,
     plan: &Plan<'_>,
-    file: &[u8],
-    context: &[u8],
-    other: &[u8],
-    further: &[Vec<u8>],
+    loaded: &Loaded<'_>,
     at_terminal: bool,
     reader: &mut Counted<R>,
     writer: &mut Counted<W>,
     errors: &mut Counted<E>,
 ) -> u8
     requires limit { IsLimit plan.now.options.limit }
-    ensures does { (job : Job) × IsJobOf plan.now file.now context.now other.now
-        (contents further.now) job
+    ensures does { DoesCounted at_terminal plan.now loaded.now.file.now loaded.now.context.now
+        loaded.now.other.now (contents loaded.now.further.now) (stream R.remaining reader.old reader.new)
+        (stream W.contents writer.old writer.new) (stream E.contents errors.old errors.new) result }
+    ensures status { result ≤ 2 }
+{
+    if plan.counts.is_empty() {
+        return do_over_file(alloc, plan, loaded, at_terminal, reader, writer, errors);
+    }
+    let bytes = match counted_file(alloc, plan, loaded.file) {
+        Ok(bytes) => bytes,
+        Err(fault) => return refuse_counts(plan, loaded.file, fault, errors),
+    };
+    let counted = Loaded {
+        file: bytes.as_slice(),
+        ..*loaded
+    };
+    do_over_file(alloc, plan, &counted, at_terminal, reader, writer, errors)
+}
+
+/// Does a plan with the bytes of its files: over FILE, or over the object of programs in turn.
+fn do_over_file<R: Read, W: Write, E: Write>(
+    alloc: Global,
+    plan: &Plan<'_>,
+    loaded: &Loaded<'_>,
+    at_terminal: bool,
+    reader: &mut Counted<R>,
+    writer: &mut Counted<W>,
+    errors: &mut Counted<E>,
+) -> u8
+    requires limit { IsLimit plan.now.options.limit }
+    ensures does { DoesOver at_terminal plan.now loaded.now.file.now loaded.now.context.now
+        loaded.now.other.now (contents loaded.now.further.now) (stream R.remaining reader.old reader.new)
+        (stream W.contents writer.old writer.new) (stream E.contents errors.old errors.new) result }
+    ensures status { result ≤ 2 }
+{
+    if !is_turned(plan) {
+        return do_job(alloc, plan, loaded, at_terminal, reader, writer, errors);
+    }
+    let bytes = match turned_file(alloc, plan, loaded.file) {
+        Ok(bytes) => bytes,
+        Err(fault) => return refuse_turns(loaded.file, fault, errors),
+    };
+    let turned = Loaded {
+        file: bytes.as_slice(),
+        ..*loaded
+    };
+    do_job(alloc, plan, &turned, at_terminal, reader, writer, errors)
+}
+
+/// Does the job of a plan, with the bytes of its files, and adds its hint.
+fn do_job<R: Read, W: Write, E: Write>(
+    alloc: Global,
+    plan: &Plan<'_>,
+    loaded: &Loaded<'_>,
+    at_terminal: bool,
+    reader: &mut Counted<R>,
+    writer: &mut Counted<W>,
+    errors: &mut Counted<E>,
+) -> u8
+    requires limit { IsLimit plan.now.options.limit }
+    ensures does { (job : Job) × IsJobOf plan.now loaded.now.file.now loaded.now.context.now
+        loaded.now.other.now (contents loaded.now.further.now) job
         × DoesHinted at_terminal job (stream R.remaining reader.old reader.new)
         (stream W.contents writer.old writer.new) (stream E.contents errors.old errors.new) result }
     ensures status { result ≤ 2 }
 {
-    let job = job_of(plan, file, context, other, further);
+    let job = job_of(plan, loaded);
     let status = tool(alloc, &job, reader, writer, errors);
     add_hint(alloc, &job, at_terminal, status, errors);
     status

@@ -8,12 +8,14 @@ ghost use Rattle.bpfdb_cli.specs.Plans.{status_of};
 ghost use Rattle.bpfdb_limits.specs.Limits.{IsLimit};
 ghost use Rattle.bpfdb_options.specs.declared.subcommand.Subcommand.TheVariants.{Debug};
 
+mod counts;
 mod doing;
 mod files;
 mod input;
 mod job;
 mod opening;
 mod prompt;
+mod turns;
 mod words;
 
 use bpfdb_cli::{Plan, PlanFault, plan};

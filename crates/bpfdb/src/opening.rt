@@ -55,6 +55,8 @@ pub fn first_plan() -> Plan<'static>
         memory: None,
         other: None,
         further: ArrayVec::new(),
+        turns: ArrayVec::new(),
+        counts: ArrayVec::new(),
         options: NO_OPTIONS,
     }
 }

@@ -63,6 +63,10 @@ branches_rule = record (new_rule (codes "branches")) { long = Some (codes "branc
 abbrev pub profile_rule : Rule
 profile_rule = record (new_rule (codes "profile")) { long = Some (codes "profile"); action = Some SetTrue }
 
+-- `--strict`: the run stops at a read of the stack where nothing was written.
+abbrev pub strict_rule : Rule
+strict_rule = record (new_rule (codes "strict")) { long = Some (codes "strict"); action = Some SetTrue }
+
 -- `--listing`: FILE is a listing.
 abbrev pub listing_rule : Rule
 listing_rule = record (new_rule (codes "listing")) { long = Some (codes "listing"); action = Some SetTrue }
@@ -75,9 +79,13 @@ object_rule = record (new_rule (codes "object")) { long = Some (codes "object");
 abbrev pub section_rule : Rule
 section_rule = record (new_rule (codes "section")) { long = Some (codes "section"); value_names = 1 }
 
--- `--entry NAME`: the function at which the program begins.
+-- `--entry NAME[@OFFSET]`: the function at which the program begins; or functions that it calls in turn, one each time.
 abbrev pub entry_rule : Rule
-entry_rule = record (new_rule (codes "entry")) { long = Some (codes "entry"); value_names = 1 }
+entry_rule = record (new_rule (codes "entry")) { long = Some (codes "entry"); value_names = 1; action = Some Append }
+
+-- `--entries NAME=N`: how many entries maps have, one each time.
+abbrev pub entries_rule : Rule
+entries_rule = record (new_rule (codes "entries")) { long = Some (codes "entries"); value_names = 1; action = Some Append }
 
 -- `--stub NUMBER=VALUE,NUMBER=VALUE`: the helpers whose calls are answered by a constant.
 abbrev pub stub_rule : Rule
@@ -158,7 +166,7 @@ file_rule = record (new_rule (codes "file")) { required = true; value_names = 1 
 
 -- What is asked of the link of an object.
 abbrev pub with_link_rules : App → App
-with_link_rules app = with_rule (with_rule (with_rule (with_rule app section_rule) entry_rule) stub_rule) as_compiled_rule
+with_link_rules app = with_rule (with_rule (with_rule (with_rule (with_rule app section_rule) entry_rule) entries_rule) stub_rule) as_compiled_rule
 
 -- What FILE may be besides words: a listing, or an object.
 abbrev pub with_file_kinds : App → App
@@ -166,11 +174,11 @@ with_file_kinds app = with_link_rules (with_rule (with_rule app listing_rule) ob
 
 -- The subcommands and their options.
 abbrev pub run_app : App
-run_app = with_rule (with_file_kinds (with_rule (with_rule (with_rule (new_app (codes "run")) mem_rule) maps_rule) steps_rule)) file_rule
+run_app = with_rule (with_file_kinds (with_rule (with_rule (with_rule (with_rule (new_app (codes "run")) mem_rule) maps_rule) steps_rule) strict_rule)) file_rule
 
 abbrev pub trace_app : App
-trace_app = with_rule (with_file_kinds (with_rule (with_rule (with_rule (with_rule (with_rule (with_rule (with_rule (new_app (codes "trace"))
-    mem_rule) maps_rule) steps_rule) from_rule) count_rule) branches_rule) profile_rule)) file_rule
+trace_app = with_rule (with_file_kinds (with_rule (with_rule (with_rule (with_rule (with_rule (with_rule (with_rule (with_rule (new_app (codes "trace"))
+    mem_rule) maps_rule) steps_rule) from_rule) count_rule) branches_rule) profile_rule) strict_rule)) file_rule
 
 abbrev pub debug_app : App
 debug_app = with_rule (with_file_kinds (with_rule (with_rule (with_rule (with_rule (new_app (codes "debug"))
@@ -218,7 +226,10 @@ diff_app = with_rule (with_rule (with_file_kinds (with_rule (with_rule (with_rul
 abbrev pub bare_app : App
 bare_app = record (new_app (codes "bpfdb")) { top = record (new_app (codes "bpfdb")).top { subcommand_required = true; has_version = true } }
 
--- The command with its subcommands.
-unfoldable pub command_app : App
-command_app = with_subcommand (with_subcommand (with_subcommand (with_subcommand (with_subcommand (with_subcommand (with_subcommand (with_subcommand (with_subcommand (with_subcommand (with_subcommand (with_subcommand (with_subcommand bare_app
+-- A command with the subcommands.
+unfoldable pub with_subcommands : App → App
+with_subcommands app = with_subcommand (with_subcommand (with_subcommand (with_subcommand (with_subcommand (with_subcommand (with_subcommand (with_subcommand (with_subcommand (with_subcommand (with_subcommand (with_subcommand (with_subcommand app
     run_app.top) trace_app.top) debug_app.top) origin_app.top) whynot_app.top) diff_app.top) gdb_app.top) asm_app.top) disasm_app.top) lines_app.top) check_app.top) link_app.top) test_app.top
+
+unfoldable pub command_app : App
+command_app = with_subcommands bare_app

@@ -1,5 +1,6 @@
 -- What a plan says, by what `clap`'s exact matches give for the words.
 use Rattle.std.specs.Prelude.{◌≡◌, ◌⊎◌, ◌<◌, ◌≤◌, ◌^◌, ◌||◌, ◌&&◌, ℕ, Bool, true, false, not, if◌then◌else◌, List, [], Option, Some, None, is_some, option_map, unwrap_or, codes, drop, length, map}
+use Rattle.std.specs.List.{list_all}
 use Rattle.std.specs.Option.{option_map_or}
 use Rattle.std.specs.Str.{bytes_eq}
 use Rattle.std.specs.Str.Parse.{IsNumeral, digits_value, without_leading_plus}
@@ -13,6 +14,8 @@ use Rattle.bpfdb_cli.specs.declared.plans.PlanFault.{PlanFault}
 use Rattle.bpfdb_cli.specs.declared.plans.PlanFault.TheVariants.{Usage, Memory}
 use Rattle.bpf_packet.specs.Names.{packet_name}
 use Rattle.bpf_packet.specs.declared.packet.Packet.{Packet}
+use Rattle.count_texts.specs.Texts.{are_counts}
+use Rattle.turn_texts.specs.Texts.{offset_in}
 use Rattle.bpfdb_limits.specs.Limits.{IsLimit, default_journal, default_limit, greatest_count}
 use Rattle.bpfdb_options.specs.Lines.{default_lines, most_further}
 use Rattle.bpfdb_options.specs.Registers.{registers_name}
@@ -58,6 +61,7 @@ pub record Chooses (rows : List Row) (options : Options) : Type 0 where
   pub count : options.count ≡ number_or greatest_count (first_of (codes "count") rows)
   pub branches : options.only_branches ≡ is_given (first_of (codes "branches") rows)
   pub profile : options.is_profile ≡ is_given (first_of (codes "profile") rows)
+  pub strict : options.is_strict ≡ is_given (first_of (codes "strict") rows)
   pub listing : options.is_listing ≡ is_given (first_of (codes "listing") rows)
   pub object : options.is_object ≡ is_given (first_of (codes "object") rows)
   pub section : option_map (λ s. s.now) options.section ≡ first_of (codes "section") rows
@@ -86,9 +90,23 @@ abbrev pub other_in : List Row → Option Text
 other_in rows = given_or (given_or (first_of (codes "script") rows) (first_of (codes "with") rows))
     (given_or (first_of (codes "other-mem") rows) (first_of (codes "other") rows))
 
--- The objects behind the first one: so many uses of `--with` there may be besides the first.
-abbrev pub further_in : List Row → List Text
-further_in rows = drop 1 (unwrap_or (all_of (codes "with") rows) [])
+-- What an option says behind the first time: objects behind the first one, by `--with`, and programs in turn, by `--entry`.
+abbrev pub further_in : Text → List Row → List Text
+further_in id rows = drop 1 (unwrap_or (all_of id rows) [])
+
+-- What stands behind an `@` of `--entry` is a number, at most 65,535.
+abbrev pub has_offset : Text → Bool
+has_offset text = is_some (offset_in text)
+
+abbrev pub entries_fit : List Row → Bool
+entries_fit rows = list_all has_offset (unwrap_or (all_of (codes "entry") rows) [])
+
+-- What `--entries` says each time: numbers of entries, each of a map of its own. It comes at most so often.
+abbrev pub most_counts : ℕ
+most_counts = 16
+
+abbrev pub counts_in : List Row → List Text
+counts_in rows = unwrap_or (all_of (codes "entries") rows) []
 
 -- A plan says what they say.
 pub record Says (name : Text) (rows : List Row) (plan : Plan) : Type 0 where
@@ -96,8 +114,12 @@ pub record Says (name : Text) (rows : List Row) (plan : Plan) : Type 0 where
   pub file : first_of (codes "file") rows ≡ Some plan.file.now
   pub memory : option_map (λ s. s.now) plan.memory ≡ first_of (codes "mem") rows
   pub other : option_map (λ s. s.now) plan.other ≡ other_in rows
-  pub further : map (λ s. s.now) plan.further.items ≡ further_in rows
-  pub few : length (further_in rows) ≤ most_further
+  pub further : map (λ s. s.now) plan.further.items ≡ further_in (codes "with") rows
+  pub few : length (further_in (codes "with") rows) ≤ most_further
+  pub turns : map (λ s. s.now) plan.turns.items ≡ further_in (codes "entry") rows
+  pub few_turns : length (further_in (codes "entry") rows) ≤ most_further
+  pub counts : map (λ s. s.now) plan.counts.items ≡ counts_in rows
+  pub few_counts : length (counts_in rows) ≤ most_counts
   pub options : Chooses rows plan.options
 
 -- A number that is given is one below 2^64.
@@ -118,7 +140,8 @@ pub record AreInRange (rows : List Row) (options : Options) : Type 0 where
 -- Something is asked of the link of an object.
 abbrev pub asks_of_link : List Row → Bool
 asks_of_link rows = is_some (first_of (codes "section") rows) || (is_some (first_of (codes "entry") rows)
-    || (is_some (first_of (codes "stub") rows) || (is_given (first_of (codes "as-compiled") rows) || is_some (first_of (codes "with") rows))))
+    || (is_some (first_of (codes "stub") rows) || (is_given (first_of (codes "as-compiled") rows) || (is_some (first_of (codes "with") rows)
+    || is_some (first_of (codes "entries") rows)))))
 
 -- One other run is named: by a second context; or by a second program, which isn't linked.
 abbrev pub names_other : List Row → Bool
@@ -126,15 +149,21 @@ names_other rows = if is_some (first_of (codes "other") rows)
     then not (is_some (first_of (codes "other-mem") rows)) && not (is_given (first_of (codes "object") rows))
     else is_some (first_of (codes "other-mem") rows)
 
--- Options go together: an object is no listing and has maps of its own, of a link is asked only where an object is linked, and `diff` is told
--- of one other run.
+-- Options go together: an object is no listing and has maps of its own, of a link is asked only where an object is linked, `diff` is told
+-- of one other run, steps that are counted are those of a run that isn't strict, programs in turn have numbers, and so have maps.
 abbrev pub link_fits : Text → List Row → Bool
 link_fits name rows = if is_given (first_of (codes "object") rows)
     then not (is_given (first_of (codes "listing") rows)) && not (is_some (first_of (codes "maps") rows))
     else bytes_eq name (codes "link") || not (asks_of_link rows)
 
+abbrev pub run_fits : Text → List Row → Bool
+run_fits name rows = if bytes_eq name (codes "diff") then names_other rows && link_fits name rows else link_fits name rows
+
+abbrev pub counts_strictly : List Row → Bool
+counts_strictly rows = is_given (first_of (codes "strict") rows) && is_given (first_of (codes "profile") rows)
+
 abbrev pub go_together : Text → List Row → Bool
-go_together name rows = if bytes_eq name (codes "diff") then names_other rows && link_fits name rows else link_fits name rows
+go_together name rows = entries_fit rows && (are_counts (counts_in rows) && (not (counts_strictly rows) && run_fits name rows))
 
 -- A plan says what a subcommand's matches say, with numbers in their ranges and options that go together.
 pub record IsPlanOf (name : Text) (rows : List Row) (plan : Plan) : Type 0 where

@@ -1,7 +1,7 @@
 //! The command line, as `clap` is told of it.
 ghost use Rattle.std.specs.Prelude.{◌≡◌, IfOk, false, fold};
 ghost use Rattle.clap.specs.Words.{app_of, new_app, rule_of, with_subcommand};
-ghost use Rattle.bpfdb_cli.specs.CommandLine.{bare_app, command_app, file_rule, journal_rule_with, lines_rule, registers_rule, section_rule, steps_rule};
+ghost use Rattle.bpfdb_cli.specs.CommandLine.{bare_app, command_app, entries_rule, file_rule, journal_rule_with, lines_rule, registers_rule, section_rule, steps_rule, with_subcommands};
 ghost use Rattle.bpfdb_cli.specs.Subcommands.{count_rule_of, entry_app, flag_rule, option_rule, text_rule, with_entry};
 
 use crate::help;
@@ -72,11 +72,17 @@ fn argument_of<'a>(alloc: Global, option: CliOption) -> Arg<'a>
         CliOption::Count => count_option(alloc, "count", "N", help::COUNT, help::COUNT_LONG),
         CliOption::Branches => flag(alloc, "branches", help::BRANCHES),
         CliOption::Profile => flag(alloc, "profile", help::PROFILE),
+        CliOption::Strict => flag(alloc, "strict", help::STRICT),
         CliOption::Listing => flag(alloc, "listing", help::LISTING),
         CliOption::Object => flag(alloc, "object", help::OBJECT),
         CliOption::Registers => registers_option(alloc),
         CliOption::Section => section_option(alloc),
-        CliOption::Entry => text_option(alloc, "entry", "NAME", help::ENTRY, help::ENTRY_LONG),
+        CliOption::Entry => {
+            text_option(alloc, "entry", "NAME", help::ENTRY, help::ENTRY_LONG).action(
+                ArgAction::Append,
+            )
+        }
+        CliOption::Entries => entries_option(alloc),
         CliOption::Stub => text_option(alloc, "stub", "NUMBER=VALUE", help::STUB, help::STUB_LONG),
         CliOption::Script => {
             text_option(alloc, "script", "PATH", help::SCRIPT, help::SCRIPT_LONG)
@@ -153,6 +159,15 @@ fn section_option<'a>(alloc: Global) -> Arg<'a>
 {
     let (text, long_text) = (help::SECTION, help::SECTION_LONG);
     text_option(alloc, "section", "NAME", text, long_text)
+}
+
+/// `--entries NAME=N`.
+fn entries_option<'a>(alloc: Global) -> Arg<'a>
+    ensures value { rule_of result ≡ entries_rule }
+    ensures local { result.global ≡ false }
+{
+    let (text, long_text) = (help::ENTRIES, help::ENTRIES_LONG);
+    text_option(alloc, "entries", "NAME=N", text, long_text).action(ArgAction::Append)
 }
 
 /// `--journal J`, with a default.
@@ -254,10 +269,16 @@ fn with_entries<'a>(
     Ok(command)
 }
 
+/// A command and the subcommands of the table.
+fn with_subcommands<'a>(alloc: Global, bare: Command<'a>) -> Result<Command<'a>, AllocError>
+    ensures { IfOk result (λ command. app_of command ≡ with_subcommands (app_of bare.entry)) }
+{
+    with_entries(alloc, bare, &SUBCOMMANDS)
+}
+
 /// The whole command line.
-#[tactic(auto, unfolding(crate::specs::CommandLine::command_app, crate::specs::Subcommands::entry_app))]
 pub fn command_line<'a>(alloc: Global) -> Result<Command<'a>, AllocError>
     ensures { IfOk result (λ command. app_of command ≡ command_app) }
 {
-    with_entries(alloc, bare_command(alloc)?, &SUBCOMMANDS)
+    with_subcommands(alloc, bare_command(alloc)?)
 }

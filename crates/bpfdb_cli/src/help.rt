@@ -47,7 +47,9 @@ pub const RUN_LONG: &str = "Runs a program to its end and prints r0.
 Reads FILE, and the context from the file that -m names. Writes r0 to standard
 output, as 0x and hexadecimal digits. If the program faults or reaches the limit
 of steps, a line on standard error says so, with the slot of the instruction.
-Then the exit status is 1, and nothing is on standard output.";
+Then the exit status is 1, and nothing is on standard output. --strict stops
+so, too, before an instruction that reads a byte of the stack which nothing
+wrote since the call of its function.";
 
 pub const RUN_EXAMPLE: &str = "Example:
   $ bpfdb run --steps 5000 --listing count.s
@@ -64,7 +66,8 @@ says where the program ended, or that the limit of steps is reached; then, and
 where it faults, the exit status is 1. --branches shows of these steps the
 conditional jumps alone: the registers that each one compared, and whether it
 jumped or went on. --profile tells how often each instruction ran, in place of
-the steps.";
+the steps. --strict stops before an instruction that reads a byte of the stack
+which nothing wrote since the call of its function.";
 
 pub const TRACE_EXAMPLE: &str = "Example:
   $ bpfdb trace --from 5 --listing count.s
@@ -351,6 +354,9 @@ pub const BRANCHES: &str = "Shows conditional jumps alone, and where each went";
 /// `--profile`.
 pub const PROFILE: &str = "Tells how often each instruction ran, and no steps";
 
+/// `--strict`.
+pub const STRICT: &str = "Stops before a read of stack that nothing wrote";
+
 /// `--listing`.
 pub const LISTING: &str = "FILE is a listing (LISTING.md), assembled first";
 
@@ -376,8 +382,17 @@ Example: --section xdp";
 pub const ENTRY: &str = "Function to begin at; without it the only one";
 
 pub const ENTRY_LONG: &str = "Name of the function of that section at which the program begins.
-Without it that is the only one that isn't static.
-Example: --entry handle";
+Without it that is the only one that isn't static. Up to 16 times: the
+program calls these functions, of any sections, in turn. Behind a name
+and an @ may stand the place of its context, in bytes.
+Example: --entry enter --entry exit@168";
+
+/// `--entries`.
+pub const ENTRIES: &str = "Entries of a map whose size a loader sets";
+
+pub const ENTRIES_LONG: &str = "Name of a map of the object, an =, and how many entries it has, 1
+to 4294967295, whatever the object says. Up to 16 times, one a map.
+Example: --entries flows=64";
 
 /// `--stub`.
 pub const STUB: &str = "Helpers whose calls a constant answers";

@@ -1,21 +1,25 @@
 //! From the words of a command line to a plan.
 ghost use Rattle.std.specs.Prelude.{◌≡◌, ◌≤◌, ◌<◌, ◌^◌, IfErr, IfNone, IfOk, IfSome, MatchOption, OnErr, OnOk, OnSome, Option, Some, List, codes, drop, false, is_some, length, map, not, option_map, true, ◌&&◌};
+ghost use Rattle.std.specs.List.{list_all};
 ghost use Rattle.std.specs.Str.Parse.{IsNumeral, digits_value, without_leading_plus};
+ghost use Rattle.count_texts.specs.Texts.{are_counts};
 ghost use Rattle.clap.specs.Words.{Row, Text, first_of, found_of, rows_of, subcommand_rows_of};
 ghost use Rattle.bpfdb_limits.specs.Limits.{IsLimit};
 ghost use Rattle.bpfdb_options.specs.Lines.{most_further};
 ghost use Rattle.bpfdb_cli.specs.Scaffolding.{AskAlike};
-ghost use Rattle.bpfdb_cli.specs.Plans.{AreInRange, Chooses, HasKindIfTold, IsFaultOf, IsPlan, IsPlanOf, NamesPart, NamesRegisters, Says, Tells, asks_of_link, go_together, is_given, link_fits, names_other, number_or, other_in, given_or, NamesPacket, further_in};
+ghost use Rattle.bpfdb_cli.specs.Plans.{AreInRange, Chooses, HasKindIfTold, IsFaultOf, IsPlan, IsPlanOf, NamesPart, NamesRegisters, Says, Tells, asks_of_link, counts_strictly, go_together, is_given, link_fits, names_other, number_or, other_in, run_fits, given_or, NamesPacket, counts_in, entries_fit, further_in, has_offset, most_counts};
 
 use crate::command_line::command_line;
-use crate::plans::{Plan, PlanFault};
+use crate::plans::{MOST_COUNTS, Plan, PlanFault};
 use arrayvec::ArrayVec;
 use bpf_packet::Packet;
 use bpfdb_limits::{DEFAULT_JOURNAL, DEFAULT_LIMIT, GREATEST_COUNT, is_limit};
 use bpfdb_options::{DEFAULT_LINES, MOST_FURTHER, Options, Registers, Subcommand, TestPart};
 use clap::error::ErrorKind;
 use clap::{ArgMatches, Command, Error};
+use count_texts::are_counts;
 use std::alloc::Global;
+use turn_texts::offset_in;
 
 /// What is said of a name that `--registers` doesn't take. It would be said of a number, too, that
 /// `clap` lets pass out of its range: it lets none pass, which isn't drawn from its contract here.
@@ -32,9 +36,22 @@ const OBJECT_AND_OTHER: &str = "the argument '--object' cannot be used with '[OT
 
 const NO_OTHER: &str = "a second program, '[OTHER]', or '--other-mem <PATH>' is needed";
 
+const STRICT_AND_PROFILE: &str = "the argument '--strict' cannot be used with '--profile'";
+
 const MANY_OBJECTS: &str = "the argument '--with <OBJECT>' is used more than 16 times";
 
-const NO_OBJECT: &str = "'--section', '--entry', '--stub' and '--as-compiled' need '--object'";
+const MANY_ENTRIES: &str = "the argument '--entry <NAME>' is used more than 16 times";
+
+const BAD_ENTRY: &str =
+    "behind the '@' of '--entry <NAME>' a number is wanted, in bytes, at most 65535";
+
+const MANY_COUNTS: &str = "the argument '--entries <NAME=N>' is used more than 16 times";
+
+const BAD_COUNT: &str =
+    "each '--entries <NAME=N>' names a map of its own, and N is a number, 1 to 4294967295";
+
+const NO_OBJECT: &str =
+    "'--section', '--entry', '--entries', '--stub' and '--as-compiled' need '--object'";
 
 const WITH_NO_OBJECT: &str = "'--with' needs '--object'";
 
@@ -125,25 +142,27 @@ fn plan_in<'a>(name: &'a str, found: &ArgMatches<'a>) -> Result<Plan<'a>, &'stat
         IsPlanOf name.now (rows_of (found_of found.now)) plan → ⊥) }
     ensures limit { IfOk result (λ plan. IsLimit plan.options.limit) }
 {
-    let subcommand = match Subcommand::named(name) {
-        Some(subcommand) => subcommand,
-        None => return Err(BAD_VALUE),
+    let Some(subcommand) = Subcommand::named(name) else {
+        return Err(BAD_VALUE);
     };
-    let file = match text_of(found, "file") {
-        Some(file) => file,
-        None => return Err(BAD_VALUE),
+    let Some(file) = text_of(found, "file") else {
+        return Err(BAD_VALUE);
     };
-    let options = match options_in(found) {
-        Some(options) => options,
-        None => return Err(BAD_VALUE),
+    let Some(options) = options_in(found) else {
+        return Err(BAD_VALUE);
     };
     match misfit_in(name, found) {
         Some(why) => return Err(why),
         None => {}
     }
-    let further = match further_of(found) {
-        Some(further) => further,
-        None => return Err(MANY_OBJECTS),
+    let Some(further) = further_of(found, "with") else {
+        return Err(MANY_OBJECTS);
+    };
+    let Some(turns) = further_of(found, "entry") else {
+        return Err(MANY_ENTRIES);
+    };
+    let Some(counts) = counts_of(found) else {
+        return Err(MANY_COUNTS);
     };
     Ok(Plan {
         subcommand,
@@ -151,6 +170,8 @@ fn plan_in<'a>(name: &'a str, found: &ArgMatches<'a>) -> Result<Plan<'a>, &'stat
         memory: text_of(found, "mem"),
         other: other_of(found),
         further,
+        turns,
+        counts,
         options,
     })
 }
@@ -161,6 +182,31 @@ fn misfit_in(name: &str, found: &ArgMatches<'_>) -> Option<&'static str>
     ensures none { IfNone result (go_together name.now (rows_of (found_of found.now)) ≡ true) }
     ensures some { OnSome result (go_together name.now (rows_of (found_of found.now)) ≡ false) }
 {
+    if !entries_fit(found) {
+        return Some(BAD_ENTRY);
+    }
+    if !counts_fit(found) {
+        return Some(BAD_COUNT);
+    }
+    if counts_strictly(found) {
+        Some(STRICT_AND_PROFILE)
+    } else {
+        misfit_of_run(name, found)
+    }
+}
+
+/// Whether the steps of a strict run are to be counted.
+fn counts_strictly(found: &ArgMatches<'_>) -> bool
+    ensures { result ≡ counts_strictly (rows_of (found_of found.now)) }
+{
+    is_given(text_of(found, "strict")) && is_given(text_of(found, "profile"))
+}
+
+/// Why what is asked of runs and of a link doesn't go together, if it doesn't.
+fn misfit_of_run(name: &str, found: &ArgMatches<'_>) -> Option<&'static str>
+    ensures none { IfNone result (run_fits name.now (rows_of (found_of found.now)) ≡ true) }
+    ensures some { OnSome result (run_fits name.now (rows_of (found_of found.now)) ≡ false) }
+{
     if name == "diff" {
         match misfit_of_other(found) {
             Some(why) => Some(why),
@@ -168,6 +214,35 @@ fn misfit_in(name: &str, found: &ArgMatches<'_>) -> Option<&'static str>
         }
     } else {
         misfit_of_link(name, found)
+    }
+}
+
+/// Whether each entry that names a place of the context has a number for it.
+fn entries_fit(found: &ArgMatches<'_>) -> bool
+    ensures { result ≡ entries_fit (rows_of (found_of found.now)) }
+{
+    match found.get_strs("entry") {
+        Some(texts) => have_offsets(texts),
+        None => true,
+    }
+}
+
+/// Whether each of some texts has a number where it has an `@`.
+fn have_offsets(texts: &[&str]) -> bool
+    ensures { result ≡ list_all (λ text. has_offset text.now) texts.now }
+{
+    texts
+        .iter()
+        .all(|text| offset_in(text.as_bytes()).is_some())
+}
+
+/// Whether numbers of entries are such, each of a map of its own.
+fn counts_fit(found: &ArgMatches<'_>) -> bool
+    ensures { result ≡ are_counts (counts_in (rows_of (found_of found.now))) }
+{
+    match found.get_strs("entries") {
+        Some(texts) => are_counts(texts),
+        None => true,
     }
 }
 
@@ -234,7 +309,8 @@ fn asks_of_link(found: &ArgMatches<'_>) -> bool
     ensures { result ≡ asks_of_link (rows_of (found_of found.now)) }
 {
     let chooses = text_of(found, "section").is_some() || text_of(found, "entry").is_some();
-    let leaves = is_given(text_of(found, "as-compiled")) || text_of(found, "with").is_some();
+    let adds = text_of(found, "with").is_some() || text_of(found, "entries").is_some();
+    let leaves = is_given(text_of(found, "as-compiled")) || adds;
     chooses || (text_of(found, "stub").is_some() || leaves)
 }
 
@@ -269,6 +345,7 @@ fn options_in<'a>(found: &ArgMatches<'a>) -> Option<Options<'a>>
         count,
         only_branches: is_given(text_of(found, "branches")),
         is_profile: is_given(text_of(found, "profile")),
+        is_strict: is_given(text_of(found, "strict")),
         is_listing: is_given(text_of(found, "listing")),
         is_object: is_given(text_of(found, "object")),
         section: text_of(found, "section"),
@@ -365,14 +442,14 @@ fn text_of<'a>(found: &ArgMatches<'a>, id: &str) -> Option<&'a str>
     found.get_str(id)
 }
 
-/// The paths of the objects behind the first one. None where they are too many.
-fn further_of<'a>(found: &ArgMatches<'a>) -> Option<ArrayVec<&'a str, MOST_FURTHER>>
+/// What an option says behind the first time. None where that is too much.
+fn further_of<'a>(found: &ArgMatches<'a>, id: &str) -> Option<ArrayVec<&'a str, MOST_FURTHER>>
     ensures found { IfSome result (λ further. map (λ path. path.now) further.items
-        ≡ further_in (rows_of (found_of found.now))) }
-    ensures few { OnSome result (length (further_in (rows_of (found_of found.now))) ≤ most_further) }
-    ensures none { IfNone result (most_further < length (further_in (rows_of (found_of found.now)))) }
+        ≡ further_in id.now (rows_of (found_of found.now))) }
+    ensures few { OnSome result (length (further_in id.now (rows_of (found_of found.now))) ≤ most_further) }
+    ensures none { IfNone result (most_further < length (further_in id.now (rows_of (found_of found.now)))) }
 {
-    match found.get_strs("with") {
+    match found.get_strs(id) {
         Some(paths) => behind_first(paths),
         None => Some(ArrayVec::new()),
     }
@@ -391,6 +468,33 @@ fn behind_first<'a>(texts: &[&'a str]) -> Option<ArrayVec<&'a str, MOST_FURTHER>
     let mut further = ArrayVec::new();
     let _all = further.try_extend_from_slice(behind);
     Some(further)
+}
+
+/// How many entries maps have. None where these are too many.
+fn counts_of<'a>(found: &ArgMatches<'a>) -> Option<ArrayVec<&'a str, MOST_COUNTS>>
+    ensures found { IfSome result (λ counts. map (λ text. text.now) counts.items
+        ≡ counts_in (rows_of (found_of found.now))) }
+    ensures few { OnSome result (length (counts_in (rows_of (found_of found.now))) ≤ most_counts) }
+    ensures none { IfNone result (most_counts < length (counts_in (rows_of (found_of found.now)))) }
+{
+    match found.get_strs("entries") {
+        Some(texts) => all_counts(texts),
+        None => Some(ArrayVec::new()),
+    }
+}
+
+/// The texts. None where they are too many.
+fn all_counts<'a>(texts: &[&'a str]) -> Option<ArrayVec<&'a str, MOST_COUNTS>>
+    ensures found { IfSome result (λ counts. counts.items ≡ texts.now) }
+    ensures few { OnSome result (length texts.now ≤ most_counts) }
+    ensures none { IfNone result (most_counts < length texts.now) }
+{
+    if texts.len() > MOST_COUNTS {
+        return None;
+    }
+    let mut counts = ArrayVec::new();
+    let _all = counts.try_extend_from_slice(texts);
+    Some(counts)
 }
 
 /// The number of an option; None where its text is no number below 2^64.

@@ -7,6 +7,9 @@ use bpfdb_options::{MOST_FURTHER, Options, Subcommand};
 use clap::Error;
 use clap::error::ErrorKind;
 
+/// The most maps that are told how many entries they have.
+pub const MOST_COUNTS: usize = 16;
+
 /// What a command line asks for.
 #[derive(Drop)]
 pub struct Plan<'a> {
@@ -21,6 +24,11 @@ pub struct Plan<'a> {
     pub other: Option<&'a str>,
     /// The paths of further such objects.
     pub further: ArrayVec<&'a str, MOST_FURTHER>,
+    /// What is said of the programs of an object that are called behind the first one, which the
+    /// options name.
+    pub turns: ArrayVec<&'a str, MOST_FURTHER>,
+    /// How many entries maps of the object have, each as `NAME=N`.
+    pub counts: ArrayVec<&'a str, MOST_COUNTS>,
     pub options: Options<'a>,
 }
 

@@ -22,6 +22,8 @@ pub(crate) enum CliOption {
     Branches,
     /// `--profile`.
     Profile,
+    /// `--strict`.
+    Strict,
     /// `--listing`.
     Listing,
     /// `--object`.
@@ -30,8 +32,10 @@ pub(crate) enum CliOption {
     Registers,
     /// `--section NAME`.
     Section,
-    /// `--entry NAME`.
+    /// `--entry NAME[@OFFSET]`.
     Entry,
+    /// `--entries NAME=N`.
+    Entries,
     /// `--stub NUMBER=VALUE,NUMBER=VALUE`.
     Stub,
     /// `--script PATH`.
@@ -88,10 +92,12 @@ pub(crate) const SUBCOMMANDS: [CliSubcommand<'static>; 13] = [
             CliOption::Mem,
             CliOption::Maps,
             CliOption::Steps,
+            CliOption::Strict,
             CliOption::Listing,
             CliOption::Object,
             CliOption::Section,
             CliOption::Entry,
+            CliOption::Entries,
             CliOption::Stub,
             CliOption::AsCompiled,
         ],
@@ -110,10 +116,12 @@ pub(crate) const SUBCOMMANDS: [CliSubcommand<'static>; 13] = [
             CliOption::Count,
             CliOption::Branches,
             CliOption::Profile,
+            CliOption::Strict,
             CliOption::Listing,
             CliOption::Object,
             CliOption::Section,
             CliOption::Entry,
+            CliOption::Entries,
             CliOption::Stub,
             CliOption::AsCompiled,
         ],
@@ -133,6 +141,7 @@ pub(crate) const SUBCOMMANDS: [CliSubcommand<'static>; 13] = [
             CliOption::Object,
             CliOption::Section,
             CliOption::Entry,
+            CliOption::Entries,
             CliOption::Stub,
             CliOption::AsCompiled,
         ],
@@ -153,6 +162,7 @@ pub(crate) const SUBCOMMANDS: [CliSubcommand<'static>; 13] = [
             CliOption::Object,
             CliOption::Section,
             CliOption::Entry,
+            CliOption::Entries,
             CliOption::Stub,
             CliOption::AsCompiled,
             CliOption::Lines,
@@ -176,6 +186,7 @@ pub(crate) const SUBCOMMANDS: [CliSubcommand<'static>; 13] = [
             CliOption::Object,
             CliOption::Section,
             CliOption::Entry,
+            CliOption::Entries,
             CliOption::Stub,
             CliOption::AsCompiled,
             CliOption::Lines,
@@ -199,6 +210,7 @@ pub(crate) const SUBCOMMANDS: [CliSubcommand<'static>; 13] = [
             CliOption::Object,
             CliOption::Section,
             CliOption::Entry,
+            CliOption::Entries,
             CliOption::Stub,
             CliOption::AsCompiled,
             CliOption::Other,
@@ -219,6 +231,7 @@ pub(crate) const SUBCOMMANDS: [CliSubcommand<'static>; 13] = [
             CliOption::Object,
             CliOption::Section,
             CliOption::Entry,
+            CliOption::Entries,
             CliOption::Stub,
             CliOption::AsCompiled,
             CliOption::Registers,
@@ -244,6 +257,7 @@ pub(crate) const SUBCOMMANDS: [CliSubcommand<'static>; 13] = [
             CliOption::Object,
             CliOption::Section,
             CliOption::Entry,
+            CliOption::Entries,
             CliOption::Stub,
             CliOption::AsCompiled,
         ],
@@ -258,6 +272,7 @@ pub(crate) const SUBCOMMANDS: [CliSubcommand<'static>; 13] = [
             CliOption::Object,
             CliOption::Section,
             CliOption::Entry,
+            CliOption::Entries,
             CliOption::Stub,
             CliOption::AsCompiled,
             CliOption::With,
@@ -275,6 +290,7 @@ pub(crate) const SUBCOMMANDS: [CliSubcommand<'static>; 13] = [
             CliOption::Object,
             CliOption::Section,
             CliOption::Entry,
+            CliOption::Entries,
             CliOption::Stub,
             CliOption::AsCompiled,
         ],
@@ -288,6 +304,7 @@ pub(crate) const SUBCOMMANDS: [CliSubcommand<'static>; 13] = [
         options: &[
             CliOption::Section,
             CliOption::Entry,
+            CliOption::Entries,
             CliOption::Stub,
             CliOption::AsCompiled,
             CliOption::Packet,

@@ -1,5 +1,5 @@
 -- How jobs end that print.
-use Rattle.std.proofs.Common.{ℕ, ◌≡◌, ◌≢◌, List, Some, Result, Ok, Err, refl, ap, ◌∙◌}
+use Rattle.std.proofs.Common.{ℕ, ◌≡◌, ◌≢◌, List, Option, Some, None, Result, Ok, Err, refl, sym, ap, ◌∙◌}
 use Rattle.std.specs.Prelude.{OnOk, OnErr}
 use Rattle.bpf_entries.specs.declared.status.Status.{Status}
 use Rattle.bpf_entries.specs.declared.status.Status.TheVariants as status
@@ -9,10 +9,12 @@ use Rattle.bpf_session.specs.Plain.{ending_of, plain_end}
 use Rattle.bpf_session.specs.declared.plain.Ending.{Ending}
 use Rattle.bpf_session.specs.declared.plain.Ending.TheVariants.{Exited}
 use Rattle.counted_io.specs.Writing.{Writes}
+use Rattle.bpf_strict.specs.Texts.{unwritten_line}
+use Rattle.bpf_strict.specs.declared.run.Unwritten.{Unwritten}
 use Rattle.bpfdb_faults.specs.Streams.{Gets, Loses, Stream, Told}
 use Rattle.bpfdb_jobs.specs.Endings.{EndsPrinted, ErrLost, OutLost, Printed}
 use Rattle.bpfdb_faults.specs.Faults.{line_of}
-use Rattle.bpfdb_jobs.specs.Jobs.{Opens, Print, Prints, printed, run_print}
+use Rattle.bpfdb_jobs.specs.Jobs.{Opens, Print, Prints, printed, run_end, run_or_stopped, run_print, stopped, unwritten_in}
 use Rattle.bpfdb_faults.specs.declared.fault.JobFault.TheVariants.{Output}
 use Rattle.bpfdb_jobs.specs.declared.job.Job.{Job}
 use Rattle.bpfdb_options.specs.declared.subcommand.Subcommand.{Subcommand}
@@ -54,11 +56,30 @@ has-exited status.Running never = absurd (never (λ e. cc))
 has-exited status.Exited never = refl
 has-exited (status.Faulted fault) never = absurd (never (λ e. cc))
 
+-- a machine that was opened, and where its run stops
+abbrev pub OpensStrict : Job → State → Option Unwritten → Type 0
+OpensStrict job x read = (code : Checked) × Opens job code × (x ≡ initial code job.context.now) × (read ≡ unwritten_in job x)
+
+pub strict-read : (job : Job) (x : State) (read now : Option Unwritten) → (o : OpensStrict job x read) → read ≡ now
+    → now ≡ unwritten_in job (initial o.0 job.context.now)
+strict-read job x read now o is = sym is ∙ o.3 ∙ ap (unwritten_in job) o.2
+
 -- what a run prints, from the machine that was opened and the state that it left
-pub run-prints : (job : Job) (x end : State) (ending : Ending) → (code : Checked) × Opens job code × (x ≡ initial code job.context.now)
+pub run-prints : (job : Job) (x end : State) (read : Option Unwritten) (ending : Ending) → OpensStrict job x read → read ≡ None
     → end ≡ plain_end job.options.limit x → ending ≡ ending_of end.status → Prints Run job (run_print job.options.limit ending end)
-run-prints job x end ending o e is = (
+run-prints job x end read ending o none e is = (
   o.0,
   o.1,
-  ap (λ z. run_print job.options.limit z end) is ∙ ap (λ (y : State). run_print job.options.limit (ending_of y.status) y) (e ∙ ap (plain_end job.options.limit) o.2),
+  ap (λ z. run_print job.options.limit z end) is ∙ ap (λ (y : State). run_print job.options.limit (ending_of y.status) y) (e ∙ ap (plain_end job.options.limit) o.2)
+      ∙ ap (λ (r : Option Unwritten). run_or_stopped r (run_print job.options.limit (ending_of (run_end job o.0).status) (run_end job o.0)))
+      (strict-read job x read None o none),
+)
+
+pub stopped-prints : (job : Job) (x : State) (read : Option Unwritten) (at : Unwritten) → OpensStrict job x read → read ≡ Some at
+    → Prints Run job (stopped (unwritten_line at))
+stopped-prints job x read at o is = (
+  o.0,
+  o.1,
+  ap (λ (r : Option Unwritten). run_or_stopped r (run_print job.options.limit (ending_of (run_end job o.0).status) (run_end job o.0)))
+      (strict-read job x read (Some at) o is),
 )

@@ -1,5 +1,5 @@
 -- What a job asks for: its program and its session, and what each subcommand prints that reads no standard input.
-use Rattle.std.specs.Prelude.{◌≡◌, ◌≤◌, ℕ, Bool, true, false, List, [], ◌++◌, Option, Some, None, Result, Ok, is_some, length, map, count_by, codes, decimal, if◌then◌else◌}
+use Rattle.std.specs.Prelude.{◌≡◌, ◌≤◌, ℕ, Bool, true, false, List, [], ◌∷◌, ◌++◌, Option, Some, None, Result, Ok, is_some, length, map, count_by, codes, decimal, if◌then◌else◌}
 use Rattle.std.specs.Borrow.{Bor}
 use Rattle.bpf_entries.specs.Keeping.{IsSize}
 use Rattle.bpf_diff.specs.Differences.{diff_text, end_alike}
@@ -15,7 +15,7 @@ use Rattle.bpf_link.specs.StubLists.{stubs_in}
 use Rattle.bpf_link.specs.declared.fault.LinkFault.{LinkFault}
 use Rattle.bpf_link.specs.declared.linker.Linked.{Linked}
 use Rattle.bpf_link.specs.declared.stubs.Stub.{Stub}
-use Rattle.bpf_lines.specs.Objects.{AreLinesOf, joined_table, own_table}
+use Rattle.bpf_lines.specs.Objects.{AreBehind, AreLinesOf, program_table}
 use Rattle.bpf_lines.specs.declared.objects.ObjectLines.{ObjectLines}
 use Rattle.bpf_steps.specs.Platform.{context_limit}
 use Rattle.bpf_steps.specs.State.{State, initial}
@@ -29,6 +29,9 @@ use Rattle.bpf_session.specs.declared.plain.Ending.TheVariants.{Exited, Faulted,
 use Rattle.bpf_text.specs.Canonical.{canon}
 use Rattle.bpf_text.specs.LineTable.{IsLineTable}
 use Rattle.bpf_text.specs.Listing.{IsListing}
+use Rattle.bpf_strict.specs.Texts.{trace_until, unwritten_line}
+use Rattle.bpf_strict.specs.Written.{unwritten_of}
+use Rattle.bpf_strict.specs.declared.run.Unwritten.{Unwritten}
 use Rattle.bpf_trace.specs.Profiles.{profile_text}
 use Rattle.bpf_trace.specs.Traces.{limit_line, trace_text}
 use Rattle.bpf_trace.specs.declared.trace.Shown.{Shown}
@@ -170,6 +173,14 @@ run_print limit Limit end = stopped (limit_line limit end.pc)
 abbrev pub run_end : Job → Checked → State
 run_end job code = plain_end job.options.limit (initial code job.context.now)
 
+-- With `--strict` it stops before the first step that would read a byte of the stack which nothing wrote since the call.
+abbrev pub unwritten_in : Job → State → Option Unwritten
+unwritten_in job x = if job.options.is_strict then unwritten_of job.options.limit x else None
+
+abbrev pub run_or_stopped : Option Unwritten → Print → Print
+run_or_stopped None a = a
+run_or_stopped (Some read) a = stopped (unwritten_line read)
+
 -- `trace`: the steps that are shown, with `--branches` the conditional jumps among them, or with `--profile` how often each instruction ran, and where
 -- the run ended. Its status is 1 where `run` has no result.
 abbrev pub shown_of : Job → Shown
@@ -189,6 +200,11 @@ status_of_end _ = 1
 
 abbrev pub trace_print : Job → State → State → Print
 trace_print job x end = record { out = Some (trace_out job x); err = None; status = status_of_end end.status }
+
+-- With `--strict` it stops there, too.
+abbrev pub trace_or_stopped : Option Unwritten → Job → State → State → Print
+trace_or_stopped None job x end = trace_print job x end
+trace_or_stopped (Some read) job x end = record { out = Some (trace_until read (shown_of job) x); err = None; status = 1 }
 
 -- `origin`: where the machine stands, and where the values came from that are asked about. Where that is, by the job; or why its script is
 -- refused.
@@ -246,21 +262,29 @@ LinkPrints false job a = (object : List ℕ) × (counted : Option ℕ) × (progr
     × (a ≡ link_print job object counted program)
 LinkPrints true job a = ListsStubs job × (object : List ℕ) × (counted : Option ℕ) × IsObjectOf job object counted × (a ≡ printed object)
 
--- `lines`: the table of a listing; or of the program to which an object is linked, alone or joined with functions.
-abbrev pub IsTableOf : Option (Bor (List ℕ)) → Job → List ℕ → List ℕ → Type 0
-IsTableOf None job words table = (own : ObjectLines) × AreLinesOf job.file.now (section_of job) own × (table ≡ own_table words own)
-IsTableOf (Some functions) job words table = (own : ObjectLines) × (more : ObjectLines) × AreLinesOf job.file.now (section_of job) own
-    × AreLinesOf functions.now (codes ".text") more × (table ≡ joined_table words own more)
+-- `lines`: the table of a listing; or of the program to which an object is linked, alone or joined with others, in their order.
+abbrev pub others_of : Option (Bor (List ℕ)) → Job → List (List ℕ)
+others_of None job = []
+others_of (Some functions) job = others functions.now job.further.now
+
+pub record IsTableOf (job : Job) (words table : List ℕ) : Type 0 where
+  pub own : ObjectLines
+  pub first : AreLinesOf job.file.now (section_of job) own
+  pub all : List ObjectLines
+  pub behind : AreBehind (own ∷ []) (others_of job.other job) all
+  pub rows : table ≡ program_table words all
 
 abbrev pub IsTable : Bool → Job → List ℕ → Type 0
 IsTable false job table = IsLineTable job.file.now table
 IsTable true job table = (object : List ℕ) × (counted : Option ℕ) × (program : Linked) × IsLinkedTo job object counted program
-    × IsTableOf job.other job program.words.items table
+    × IsTableOf job program.words.items table
 
 -- What a subcommand prints of a job that has what it needs: one that reads no standard input. (`test` has a definition of its own.)
 abbrev pub Prints : Subcommand → Job → Print → Type 0
-Prints Run job a = (code : Checked) × Opens job code × (a ≡ run_print job.options.limit (ending_of (run_end job code).status) (run_end job code))
-Prints Trace job a = (code : Checked) × Opens job code × (a ≡ trace_print job (initial code job.context.now) (run_end job code))
+Prints Run job a = (code : Checked) × Opens job code × (a ≡ run_or_stopped (unwritten_in job (initial code job.context.now))
+    (run_print job.options.limit (ending_of (run_end job code).status) (run_end job code)))
+Prints Trace job a = (code : Checked) × Opens job code
+    × (a ≡ trace_or_stopped (unwritten_in job (initial code job.context.now)) job (initial code job.context.now) (run_end job code))
 Prints Debug job a = ⊥
 Prints Origin job a = (code : Checked) × (at : Arrival) × (what : Option What) × OpensSession job code × (arrival_of job code ≡ Ok at)
     × Asks job.options.what at.point.state what × (a ≡ origin_print at.point.state (answer_by job.options what at))

@@ -15,7 +15,8 @@ use Rattle.bpf_isa.specs.declared.maps.MapShape.{MapShape}
 use Rattle.bpf_text.specs.Listing.{IsFaultOf}
 use Rattle.bpf_link.specs.Names.{fault_names}
 use Rattle.bpf_link.specs.Programs.{IsLinkRefusal}
-use Rattle.bpf_lines.specs.Objects.{IsLinesRefusal}
+use Rattle.bpf_lines.specs.Objects.{IsFunctionsRefusal, IsLinesRefusal}
+use Rattle.bpf_lines.specs.declared.objects.LinesFault.{LinesFault}
 use Rattle.bpf_link.specs.declared.stubs.Stub.{Stub}
 use Rattle.bpf_suite.specs.Faults as suite
 use Rattle.bpf_suite.specs.Files.{sections, tests}
@@ -27,7 +28,7 @@ use Rattle.bpf_suite.specs.declared.fault.FileFault.TheVariants.{Line}
 use Rattle.bpf_steps.specs.Opening.{Refused}
 use Rattle.bpf_ring.specs.Opening.{RefusesSize}
 use Rattle.bpf_whynot.specs.Asked.{goals_in}
-use Rattle.bpfdb_jobs.specs.Jobs.{HasMaps, HasWords, IsObjectOf, IsProgramOf, ListsStubs, IsOtherRun, Opens, OpensSession, arrival_of, asked_of, link_of, section_of, stubs_of}
+use Rattle.bpfdb_jobs.specs.Jobs.{HasMaps, HasWords, IsObjectOf, IsProgramOf, ListsStubs, IsOtherRun, Opens, OpensSession, arrival_of, asked_of, link_of, others_of, section_of, stubs_of}
 use Rattle.bpfdb_jobs.specs.Origins.{Arrival, RefusesWhat}
 use Rattle.bpfdb_jobs.specs.declared.job.Job.{Job}
 use Rattle.bpfdb_faults.specs.declared.refusal.JobRefusal.{JobRefusal}
@@ -136,8 +137,8 @@ abbrev pub RefusesTable : Job → JobRefusal → Type 0
 RefusesTable job (Object fault name) =
     (name.now ≡ fault_names job.file.now (section_of job) fault) × IsLinesRefusal job.file.now (section_of job) fault
 RefusesTable job (Functions fault index name) =
-    (functions : Bor (List ℕ)) × (job.other ≡ Some functions) × (index ≡ 0) × (name.now ≡ fault_names functions.now (codes ".text") fault)
-    × IsLinesRefusal functions.now (codes ".text") fault
+    (told : LinesFault) × IsFunctionsRefusal (others_of job.other job) told × (told.fault ≡ fault) × (told.index ≡ index)
+    × (name.now ≡ fault_names told.object (codes ".text") fault)
 RefusesTable job refusal = ⊥
 
 abbrev pub RefusesLines : Bool → Job → JobRefusal → Type 0

@@ -21,6 +21,7 @@ mod row;
 mod run;
 mod script;
 mod show;
+mod strict;
 mod suite;
 mod trace;
 mod whynot;

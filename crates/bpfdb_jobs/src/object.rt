@@ -174,19 +174,25 @@ pub fn refuse_join<E: Write>(job: &Job<'_>, errors: &mut Counted<E>, told: &Chai
     }
 }
 
-/// Tells why the first object with functions has no table, and answers the exit status, 2.
-pub fn refuse_functions<E: Write>(functions: &[u8], errors: &mut Counted<E>, fault: LinkFault) -> u8
+/// Tells why an object with functions, the one with this index, has no table, and answers the exit
+/// status, 2.
+pub fn refuse_functions<E: Write>(
+    functions: &[u8],
+    index: usize,
+    errors: &mut Counted<E>,
+    fault: LinkFault,
+) -> u8
     ensures value { result ≡ 2 }
     ensures told { (name : Bor (List ℕ))
         × (name.now ≡ fault_names functions.now (codes ".text") fault)
         × Told (stream E.contents errors.old errors.new)
-        (line_of (JobFault.Refused (JobRefusal.Functions fault 0 name))) }
+        (line_of (JobFault.Refused (JobRefusal.Functions fault index name))) }
 {
     let names = fault_names(functions, b".text", &fault);
     let name = names.as_slice();
     give_up(
         errors,
-        &JobFault::Refused(JobRefusal::Functions(fault, 0, name)),
+        &JobFault::Refused(JobRefusal::Functions(fault, index, name)),
     )
 }
 

@@ -8,7 +8,7 @@ ghost use Rattle.bpfdb_options.specs.declared.subcommand.Subcommand.TheVariants.
 use crate::job::Job;
 use crate::object::{linked_from, refuse, refuse_functions, refuse_join, section_of, stubs_of};
 use bpf_join::join_all;
-use bpf_lines::{object_lines, write_joined, write_own};
+use bpf_lines::{first_lines, with_functions, write_table};
 use bpf_link::{Linked, Stub};
 use bpfdb_faults::{ended, flush_after};
 use counted_io::Counted;
@@ -58,9 +58,10 @@ fn own_lines<W: Write, E: Write>(
         Ok(linked) => linked,
         Err(fault) => return refuse(job, job.file, errors, fault),
     };
-    match object_lines(alloc, job.file, section_of(job)) {
+    match first_lines(alloc, job.file, section_of(job)) {
         Ok(own) => {
-            let written = write_own(writer, linked.words.as_slice(), &own);
+            let all = own.as_slice();
+            let written = write_table(writer, linked.words.as_slice(), all);
             let flushed = flush_after(writer, written);
             ended(flushed, errors)
         }
@@ -102,8 +103,8 @@ fn joined_lines<W: Write, E: Write>(
     }
 }
 
-/// Writes the table of the program to which several objects are linked: of the first two nothing
-/// is left out.
+/// Writes the table of the program to which several objects are linked, in the order in which they
+/// are joined.
 fn joined_table<W: Write, E: Write>(
     alloc: Global,
     job: &Job<'_>,
@@ -120,16 +121,17 @@ fn joined_table<W: Write, E: Write>(
         (stream E.contents errors.old errors.new) result }
     ensures status { result ≤ 2 }
 {
-    let own = match object_lines(alloc, job.file, section_of(job)) {
+    let own = match first_lines(alloc, job.file, section_of(job)) {
         Ok(own) => own,
         Err(fault) => return refuse(job, job.file, errors, fault),
     };
-    match object_lines(alloc, functions, b".text") {
-        Ok(more) => {
-            let written = write_joined(writer, linked.words.as_slice(), &own, &more);
+    match with_functions(alloc, own, functions, job.further) {
+        Ok(told) => {
+            let all = told.as_slice();
+            let written = write_table(writer, linked.words.as_slice(), all);
             let flushed = flush_after(writer, written);
             ended(flushed, errors)
         }
-        Err(fault) => refuse_functions(functions, errors, fault),
+        Err(told) => refuse_functions(told.object.bytes, told.index, errors, told.fault),
     }
 }

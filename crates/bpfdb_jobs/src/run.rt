@@ -5,15 +5,15 @@ ghost use Rattle.bpfdb_options.specs.declared.subcommand.Subcommand.TheVariants.
 ghost use Rattle.bpfdb_faults.specs.Streams.{stream};
 
 use crate::job::Job;
-use crate::opening::machine_of;
+use crate::strict::{strict_machine, tell_unwritten};
 use bpf_session::{Ending, run_plain};
 use bpfdb_faults::{JobFault, give_up, tell, tell_place, told_as};
 use counted_io::Counted;
 use std::alloc::Global;
 use std::io::Write;
 
-/// Runs the program to its end or to the limit, and writes r0. A fault of the program, and the
-/// limit, are told on standard error.
+/// Runs the program to its end or to the limit, and writes r0. A fault of the program, the limit, and
+/// where a strict run stops are told on standard error.
 pub fn run_job<W: Write, E: Write>(
     alloc: Global,
     job: &Job<'_>,
@@ -24,15 +24,19 @@ pub fn run_job<W: Write, E: Write>(
         (stream E.contents errors.old errors.new) result }
     ensures status { result ≤ 2 }
 {
-    let mut cpu = match machine_of(alloc, job) {
-        Ok(cpu) => cpu,
+    let mut strict = match strict_machine(alloc, job) {
+        Ok(strict) => strict,
         Err(refusal) => return give_up(errors, &JobFault::Refused(refusal)),
     };
-    match run_plain(&mut cpu, job.options.limit, writer) {
+    match strict.unwritten {
+        Some(read) => return told_as(tell_unwritten(errors, &read), 1),
+        None => {}
+    }
+    match run_plain(&mut strict.cpu, job.options.limit, writer) {
         Ok(Ending::Exited) => 0,
-        Ok(Ending::Faulted) => told_as(tell_place(errors, &cpu), 1),
+        Ok(Ending::Faulted) => told_as(tell_place(errors, &strict.cpu), 1),
         Ok(Ending::Limit) => {
-            let limit = JobFault::StepLimit(job.options.limit, cpu.pc());
+            let limit = JobFault::StepLimit(job.options.limit, strict.cpu.pc());
             told_as(tell(errors, &limit), 1)
         }
         Err(_) => give_up(errors, &JobFault::Output),

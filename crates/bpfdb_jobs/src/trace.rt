@@ -1,6 +1,7 @@
 //! What a job of `trace` does.
 ghost use Rattle.std.specs.Prelude.{◌≡◌, ◌≤◌, IfErr, OnErr, OnOk};
 ghost use Rattle.bpf_session.specs.Plain.{plain_end};
+ghost use Rattle.bpf_strict.specs.Texts.{trace_until};
 ghost use Rattle.bpf_trace.specs.Profiles.{profile_text};
 ghost use Rattle.bpf_trace.specs.Tellings.{Tells};
 ghost use Rattle.bpf_trace.specs.Traces.{trace_text};
@@ -12,8 +13,9 @@ ghost use Rattle.bpfdb_jobs.specs.Tellings.{fault_of_told};
 ghost use Rattle.bpfdb_options.specs.declared.subcommand.Subcommand.TheVariants.{Trace};
 
 use crate::job::Job;
-use crate::opening::machine_of;
+use crate::strict::strict_machine;
 use bpf_machine::{Cpu, Status};
+use bpf_strict::{Unwritten, write_trace_until};
 use bpf_trace::{Profile, Shown, TraceFault, put_profile, write_trace};
 use bpfdb_faults::{JobFault, give_up};
 use counted_io::{Counted, WriteFault};
@@ -32,23 +34,32 @@ pub fn trace_job<W: Write, E: Write>(
         (stream E.contents errors.old errors.new) result }
     ensures status { result ≤ 2 }
 {
-    let mut cpu = match machine_of(alloc, job) {
-        Ok(cpu) => cpu,
+    let mut strict = match strict_machine(alloc, job) {
+        Ok(strict) => strict,
         Err(refusal) => return give_up(errors, &JobFault::Refused(refusal)),
     };
-    let told = tell_run(alloc, job, &mut cpu, writer);
-    end_of(told, &cpu, errors)
+    match strict.unwritten {
+        Some(read) => {
+            let before = tell_until(alloc, job, &mut strict.cpu, &read, writer);
+            end_of(before, 1, errors)
+        }
+        None => {
+            let told = tell_run(alloc, job, &mut strict.cpu, writer);
+            end_of(told, status_of(strict.cpu.status()), errors)
+        }
+    }
 }
 
-/// The exit status of a run that was told, or not: that of `run` where its machine stands.
-fn end_of<E: Write>(told: Result<(), TraceFault>, cpu: &Cpu, errors: &mut Counted<E>) -> u8
-    ensures ok { OnOk told ((errors.new ≡ errors.old) × (result ≡ status_of_end cpu.now.status)) }
+/// The exit status of a run that was told, or not: this one where it was.
+fn end_of<E: Write>(told: Result<(), TraceFault>, status: u8, errors: &mut Counted<E>) -> u8
+    requires { status ≤ 2 }
+    ensures ok { OnOk told ((errors.new ≡ errors.old) × (result ≡ status)) }
     ensures err { IfErr told (λ why. Told (stream E.contents errors.old errors.new)
         (line_of (fault_of_told why)) × (result ≡ 2)) }
     ensures status { result ≤ 2 }
 {
     match told {
-        Ok(()) => status_of(cpu.status()),
+        Ok(()) => status,
         Err(TraceFault::Memory) => give_up(errors, &JobFault::Memory),
         Err(TraceFault::Write) => give_up(errors, &JobFault::Output),
     }
@@ -63,6 +74,38 @@ fn status_of(status: Status) -> u8
         Status::Exited => 0,
         Status::Running => 1,
         Status::Faulted(_) => 1,
+    }
+}
+
+/// Writes the steps before a read that stops a strict run, and the read, and flushes.
+fn tell_until<W: Write>(
+    alloc: Global,
+    job: &Job<'_>,
+    cpu: &mut Cpu,
+    read: &Unwritten,
+    writer: &mut Counted<W>,
+) -> Result<(), TraceFault>
+    ensures { Tells W.contents writer.old writer.new result
+        (trace_until read.now (shown_of job.now) cpu.old) }
+{
+    match write_trace_until(alloc, cpu, read, shown_steps(job), writer) {
+        Ok(()) => {}
+        Err(fault) => return Err(fault),
+    }
+    match writer.flush() {
+        Ok(()) => Ok(()),
+        Err(_) => Err(TraceFault::Write),
+    }
+}
+
+/// The steps that are shown.
+fn shown_steps(job: &Job<'_>) -> Shown
+    ensures { result ≡ shown_of job.now }
+{
+    Shown {
+        from: job.options.from,
+        count: job.options.count,
+        only_branches: job.options.only_branches,
     }
 }
 
@@ -114,12 +157,7 @@ fn write_steps<W: Write>(
         (trace_text job.now.options.limit (shown_of job.now) cpu.old) }
     ensures next { OnOk result (cpu.new ≡ plain_end job.now.options.limit cpu.old) }
 {
-    let shown = Shown {
-        from: job.options.from,
-        count: job.options.count,
-        only_branches: job.options.only_branches,
-    };
-    write_trace(alloc, cpu, job.options.limit, shown, writer)
+    write_trace(alloc, cpu, job.options.limit, shown_steps(job), writer)
 }
 
 /// Writes how often each instruction ran.

@@ -27,6 +27,8 @@ pub struct Options<'a> {
     pub only_branches: bool,
     /// How often each instruction runs is told, in place of the steps.
     pub is_profile: bool,
+    /// The run stops at the first read of the stack where nothing was written since the call.
+    pub is_strict: bool,
     /// FILE is a listing, assembled first.
     pub is_listing: bool,
     /// FILE is an object; it is linked first.
@@ -74,6 +76,7 @@ pub const NO_OPTIONS: Options<'static> = Options {
     count: GREATEST_COUNT,
     only_branches: false,
     is_profile: false,
+    is_strict: false,
     is_listing: false,
     is_object: false,
     section: None,

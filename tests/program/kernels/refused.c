@@ -84,6 +84,92 @@ int in_text(struct xdp_md *ctx)
 	return deep(ctx);
 }
 
+/* A function finds the context's address in its caller's frame. */
+struct pair {
+	int add;
+	struct xdp_md *ctx;
+};
+
+static __attribute__((noinline)) int of_pair(struct pair *pair)
+{
+	asm volatile("");
+	return pair->ctx->data_end - pair->ctx->data + pair->add;
+}
+
+SEC("xdp")
+int through_frame(struct xdp_md *ctx)
+{
+	struct pair pair = { 1000, ctx };
+
+	return of_pair(&pair);
+}
+
+/* One finds it by an address that it finds there, in a struct above or below. */
+struct holder {
+	int add;
+	struct pair *pair;
+};
+
+static __attribute__((noinline)) int of_holder(struct holder *holder)
+{
+	asm volatile("");
+	return of_pair(holder->pair) + holder->add;
+}
+
+SEC("xdp")
+int through_address(struct xdp_md *ctx)
+{
+	struct holder holder;
+	struct pair pair = { 1000, ctx };
+
+	holder.add = 2000;
+	holder.pair = &pair;
+	return of_holder(&holder);
+}
+
+/* Another register loads it from the frame, and another one stores over it there. */
+SEC("xdp")
+int loads_copy(struct xdp_md *ctx)
+{
+	struct pair pair = { 1000, ctx }, *copy = &pair;
+
+	asm volatile("" : "+r"(copy)::"memory");
+	return copy->ctx->data_end - copy->ctx->data;
+}
+
+SEC("xdp")
+int stores_over(struct xdp_md *ctx)
+{
+	volatile int number = 1000;
+	struct pair pair = { 1000, ctx }, *copy = &pair;
+
+	asm volatile("" : "+r"(copy)::"memory");
+	copy->ctx = (void *)&number;
+	asm volatile("" ::: "memory");
+	return *(volatile int *)pair.ctx;
+}
+
+/* Another register has one of two addresses of the frame, of which the latter lies behind or before. */
+SEC("xdp")
+int chosen(struct xdp_md *ctx)
+{
+	struct pair above = { 1000, ctx }, below = { 2000, ctx };
+	struct pair *pair = ctx->ingress_ifindex ? &above : &below;
+
+	asm volatile("" : "+r"(pair)::"memory");
+	return pair->ctx->data_end - pair->ctx->data + pair->add;
+}
+
+SEC("xdp")
+int chosen_other(struct xdp_md *ctx)
+{
+	struct pair above = { 1000, ctx }, below = { 2000, ctx };
+	struct pair *pair = ctx->ingress_ifindex ? &below : &above;
+
+	asm volatile("" : "+r"(pair)::"memory");
+	return pair->ctx->data_end - pair->ctx->data + pair->add;
+}
+
 SEC("tc")
 int socket(struct __sk_buff *skb)
 {

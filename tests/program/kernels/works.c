@@ -74,6 +74,65 @@ int unread(struct xdp_md *ctx)
 	return XDP_PASS;
 }
 
+/* A function gets a piece of the frame, while the context's address is kept in another one. */
+static __attribute__((noinline)) int of_number(int *number)
+{
+	asm volatile("r6 = 1\nr7 = 2\nr8 = 3\nr9 = 4" ::: "r6", "r7", "r8", "r9", "memory");
+	return *number;
+}
+
+SEC("xdp")
+int beside(struct xdp_md *ctx)
+{
+	int number = 1000, sum = of_number(&number);
+
+	asm volatile("r6 = 1\nr7 = 2\nr8 = 3\nr9 = 4" ::: "r6", "r7", "r8", "r9");
+	return sum + ctx->data_end - ctx->data;
+}
+
+/* A register goes through an array in the frame, while the context's address is kept behind it. */
+SEC("xdp")
+int walked(struct xdp_md *ctx)
+{
+	volatile __u64 numbers[4];
+	__u64 sum = 0;
+
+	for (int k = 0; k < 4; k++)
+		numbers[k] = k + 1;
+	asm volatile("r6 = 1\nr7 = 2\nr8 = 3\nr9 = 4\nr1 = 5\nr2 = 6\nr3 = 7\nr4 = 8\nr5 = 9\nr0 = 10" ::: "r0", "r1", "r2", "r3",
+		     "r4", "r5", "r6", "r7", "r8", "r9");
+#pragma clang loop unroll(disable)
+	for (int k = 0; k < 4; k++)
+		sum += numbers[k];
+	return sum + ctx->data_end - ctx->data;
+}
+
+/* Others go through it upwards and downwards, and store there. */
+SEC("xdp")
+int sorted(struct xdp_md *ctx)
+{
+	volatile __u64 numbers[4];
+
+#pragma clang loop unroll(disable)
+	for (int k = 0; k < 4; k++)
+		numbers[k] = 4 - k;
+	asm volatile("r6 = 1\nr7 = 2\nr8 = 3\nr9 = 4\nr1 = 5\nr2 = 6\nr3 = 7\nr4 = 8\nr5 = 9\nr0 = 10" ::: "r0", "r1", "r2", "r3",
+		     "r4", "r5", "r6", "r7", "r8", "r9");
+#pragma clang loop unroll(disable)
+	for (int first = 0; first < 3; first++) {
+#pragma clang loop unroll(disable)
+		for (int k = 3; k > first; k--) {
+			__u64 number = numbers[k];
+
+			if (numbers[k - 1] > number) {
+				numbers[k] = numbers[k - 1];
+				numbers[k - 1] = number;
+			}
+		}
+	}
+	return numbers[0] + numbers[1] * 10 + numbers[2] * 100 + numbers[3] * 1000 + ctx->data_end - ctx->data;
+}
+
 SEC("tc")
 int classify(struct __sk_buff *skb)
 {

@@ -30,12 +30,13 @@ returns-in-Err-read_each-clause-does g c =
 pub returns-clause-does : goal.returns-clause-does
 returns-clause-does g c =
     let file = rw c.kind_of.ensures at c.in-Ok.ensures.ok in
-    let does = c.do_read.ensures.does in
-    let is = rw (c.as_slice-2.ensures.value, c.as_slice-3.ensures.value, c.as_slice-4.ensures.value, c.as_slice-5.ensures.value) at does.1 in
-    Done c.in-Ok.file.items c.in-Ok-read_given.context.items c.in-Ok-read_given-2.other.items _ does.0
+    let does =
+    rw (c.as_slice-2.ensures.value, c.as_slice-3.ensures.value, c.as_slice-4.ensures.value, c.as_slice-5.ensures.value) at
+    c.do_counted.ensures.does in
+    Done c.in-Ok.file.items c.in-Ok-read_given.context.items c.in-Ok-read_given-2.other.items _
     (record {
       file = file;
       context = c.in-Ok-read_given.ensures.ok;
       other = c.in-Ok-read_given-2.ensures.ok;
       further = rw c.as_slice.ensures.value at c.in-Ok-read_each.ensures.ok;
-    }) is does.2
+    }) does

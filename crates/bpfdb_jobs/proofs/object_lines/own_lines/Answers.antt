@@ -2,12 +2,12 @@ use Rattle.std.proofs.Common.{inr, refl, subst, sym}
 use Rattle.std.specs.Prelude.{None}
 use Rattle.std.proofs.lemmas.List.{append-nil}
 use Rattle.counted_io.proofs.Appending.{Writes-text}
-use Rattle.bpf_lines.specs.Objects.{own_table}
+use Rattle.bpf_lines.specs.Objects.{program_table}
 use Rattle.bpfdb_faults.specs.declared.refusal.JobRefusal.TheVariants.{Object}
 use Rattle.bpfdb_jobs.specs.Endings.{Refused}
 use Rattle.bpfdb_jobs.specs.Jobs.{IsLinkedTo, ObjectOf}
 use Rattle.bpfdb_jobs.proofs.Printing.{out-printed}
-use Rattle.bpfdb_jobs.proofs.Tables.{prints-own, refuses-object, refuses-table}
+use Rattle.bpfdb_jobs.proofs.Tables.{alone-behind, prints-table, refuses-object, refuses-table}
 use Rattle.bpfdb_options.specs.declared.subcommand.Subcommand.TheVariants.{Lines}
 use Rattle.bpfdb_jobs.proofs.object_lines.own_lines.Goals as goal
 
@@ -21,18 +21,19 @@ returns-in-Err-clause-does g c =
 
 pub returns-clause-does : goal.returns-clause-does
 returns-clause-does g c =
-    let told = c.refuse-in-Err-object_lines.ensures.told in
-    Refused (Object c.in-Err-object_lines.fault told.0)
-    (refuses-table c.args.job.now (Object c.in-Err-object_lines.fault told.0) c.requires.object
-    (told.1, rw c.section_of.ensures at c.in-Err-object_lines.ensures.err)) refl told.2 c.refuse-in-Err-object_lines.ensures.value
+    let told = c.refuse-in-Err-first_lines.ensures.told in
+    Refused (Object c.in-Err-first_lines.fault told.0)
+    (refuses-table c.args.job.now (Object c.in-Err-first_lines.fault told.0) c.requires.object
+    (told.1, rw c.section_of.ensures at c.in-Err-first_lines.ensures.err)) refl told.2 c.refuse-in-Err-first_lines.ensures.value
 
-pub returns-in-Ok-object_lines-clause-does : goal.returns-in-Ok-object_lines-clause-does
-returns-in-Ok-object_lines-clause-does g c =
+pub returns-in-Ok-first_lines-clause-does : goal.returns-in-Ok-first_lines-clause-does
+returns-in-Ok-first_lines-clause-does g c =
     let alone = subst (λ o. ObjectOf o c.args.job.now c.args.job.now.file.now None) (sym c.requires.alone) (refl, refl) in
     let linked : IsLinkedTo c.args.job.now c.args.job.now.file.now None c.in-Ok.linked = record { stubs = c.args.stubs.now; asked = c.requires.stubs; of_object = alone; linked = c.in-Ok.ensures.ok } in
-    let written = rw c.as_slice.ensures.value at c.write_own-written.ensures in
-    out-printed Lines c.args.job.now (own_table c.in-Ok.linked.words.items c.in-Ok-object_lines.own) c.flush_after-flushed.result c.ended.result
-    (prints-own c.args.job.now c.args.job.now.file.now None c.in-Ok.linked c.in-Ok-object_lines.own c.requires.object c.requires.alone linked
-    (rw c.section_of.ensures at c.in-Ok-object_lines.ensures.ok))
+    let written = rw (c.as_slice.ensures.value, c.as_slice-all.ensures.value) at c.write_table-written.ensures in
+    let lines = rw c.section_of.ensures at c.in-Ok-first_lines.ensures.ok in
+    out-printed Lines c.args.job.now (program_table c.in-Ok.linked.words.items c.in-Ok-first_lines.own.items) c.flush_after-flushed.result c.ended.result
+    (prints-table c.args.job.now c.args.job.now.file.now None c.in-Ok.linked lines.0 c.in-Ok-first_lines.own.items c.requires.object linked lines.1
+    (alone-behind c.args.job.now lines.0 c.in-Ok-first_lines.own.items c.requires.alone lines.2))
     (Writes-text g.W.Write.contents _ _ _ _ _ (c.flush_after-flushed.ensures _ _ written) (append-nil _))
     c.ended.ensures.ok c.ended.ensures.err

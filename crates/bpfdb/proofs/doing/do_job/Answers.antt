@@ -1,4 +1,4 @@
-use Rattle.bpfdb.proofs.doing.do_read.Goals as goal
+use Rattle.bpfdb.proofs.doing.do_job.Goals as goal
 
 pub returns-clause-does : goal.returns-clause-does
 returns-clause-does g c = (

@@ -1,0 +1,58 @@
+//! Strict runs: a machine, and the first step of its run that would read the stack where nothing was
+//! written.
+ghost use Rattle.std.specs.Prelude.{◌≡◌, IfErr, IfOk};
+ghost use Rattle.bpf_isa.specs.Programs.{Checked};
+ghost use Rattle.bpf_steps.specs.State.{initial};
+ghost use Rattle.bpf_strict.specs.Texts.{unwritten_line};
+ghost use Rattle.counted_io.specs.Writing.{Writes};
+ghost use Rattle.bpfdb_jobs.specs.Jobs.{Opens, unwritten_in};
+ghost use Rattle.bpfdb_jobs.specs.Refusals.{RefusesMachine};
+
+use crate::job::Job;
+use crate::opening::machine_of;
+use bpf_machine::Cpu;
+use bpf_strict::{Unwritten, find_unwritten, put_unwritten};
+use bpfdb_faults::{JobRefusal, flush_after};
+use counted_io::{Counted, WriteFault};
+use std::alloc::Global;
+use std::io::Write;
+
+/// A machine before its first step, and where its run stops, if it is strict.
+#[derive(Drop)]
+pub struct Strict {
+    pub cpu: Cpu,
+    pub unwritten: Option<Unwritten>,
+}
+
+/// The machine of a job before its first step. Of a strict run it is looked for the read that stops
+/// it, and then the machine is opened again.
+pub fn strict_machine(alloc: Global, job: &Job<'_>) -> Result<Strict, JobRefusal<'static>>
+    ensures ok { IfOk result (λ strict. (code : Checked) × Opens job.now code
+        × (strict.cpu ≡ initial code job.now.context.now)
+        × (strict.unwritten ≡ unwritten_in job.now strict.cpu)) }
+    ensures err { IfErr result (RefusesMachine job.now) }
+{
+    let mut cpu = match machine_of(alloc, job) {
+        Ok(cpu) => cpu,
+        Err(refusal) => return Err(refusal),
+    };
+    if !job.options.is_strict {
+        return Ok(Strict {
+            cpu,
+            unwritten: None,
+        });
+    }
+    let unwritten = find_unwritten(&mut cpu, job.options.limit);
+    match cpu.reopen(alloc, job.context) {
+        Ok(()) => Ok(Strict { cpu, unwritten }),
+        Err(fault) => Err(JobRefusal::Open(fault)),
+    }
+}
+
+/// Writes the line of a read of the stack where nothing was written to standard error, and flushes.
+pub fn tell_unwritten<E: Write>(errors: &mut Counted<E>, read: &Unwritten) -> Result<(), WriteFault>
+    ensures { Writes E.contents errors.old errors.new result (unwritten_line read.now) }
+{
+    let written = put_unwritten(errors, Ok(()), read);
+    flush_after(errors, written)
+}

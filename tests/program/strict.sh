@@ -1,0 +1,122 @@
+# Strict runs: reads of the stack where nothing was written since the call. What is wanted was worked out by hand: frame 0 has the addresses from 0x200000000
+# to 0x2000001ff, frame 1 those from 0x200000400 to 0x2000005ff. Then programs at random, held against a model over their traces (tests/trials/strict.py).
+
+# unread SLOT ADDRESS LISTING: a strict run of the listing stops before the read of this byte at this slot; and one that isn't strict doesn't.
+unread() {
+    listing p.s "$3"
+    stopped "read of 0x$2 at $1: not written since the call" run --strict --maps 16x2 --listing p.s
+    result '0x0\n' run --maps 16x2 --listing p.s
+}
+
+# reads LISTING: a strict run of the listing ends as one that isn't.
+reads() {
+    listing p.s "$1"
+    result '0x0\n' run --strict --maps 16x2 --listing p.s
+}
+
+# Each width, with each byte written or one of them not: the first one that wasn't is told.
+reads 'stdw [r10-8], 0;ldxb r0, [r10-8];ldxh r0, [r10-8];ldxw r0, [r10-4];ldxdw r0, [r10-8];exit'
+unread 0 2000001ff 'ldxb r0, [r10-1];exit'
+unread 1 2000001fd 'stb [r10-4], 0;ldxh r0, [r10-4];exit'
+unread 1 2000001fc 'stw [r10-8], 0;ldxdw r0, [r10-8];exit'
+unread 2 2000001fb 'stw [r10-4], 0;stw [r10-9], 0;ldxdw r0, [r10-8];exit'
+unread 2 2000001ff 'stdw [r10-16], 0;stw [r10-8], 0;ldxb r0, [r10-1];exit'
+reads 'stb [r10-4], 0;stb [r10-3], 0;sth [r10-2], 0;ldxw r0, [r10-4];exit'
+unread 3 2000001fd 'stb [r10-4], 0;stb [r10-2], 0;stb [r10-1], 0;ldxw r0, [r10-4];exit'
+unread 0 200000000 'ldxb r0, [r10-512];exit'
+reads 'stb [r10-512], 0;stb [r10-1], 0;ldxb r0, [r10-512];ldxb r0, [r10-1];exit'
+# A load that extends the sign; a value that is loaded and not used.
+unread 0 2000001fe 'ldxsh r1, [r10-2];exit'
+unread 0 2000001f8 'ldxsw r1, [r10-8];exit'
+reads 'stb [r10-1], 0;ldxsb r1, [r10-1];exit'
+
+# Atomic operations read, those that fetch nothing, too, and then write.
+unread 0 2000001f8 'atomic_add64 [r10-8], r0;exit'
+unread 0 2000001f8 'atomic_xchg64 [r10-8], r0;exit'
+unread 1 2000001fc 'stw [r10-8], 0;atomic_fetch_or64 [r10-8], r0;exit'
+unread 0 2000001fc 'atomic_cmpxchg32 [r10-4], r0;exit'
+reads 'stdw [r10-8], 0;atomic_xchg64 [r10-8], r0;atomic_add32 [r10-4], r0;ldxdw r0, [r10-8];exit'
+
+# A helper's key, and the value that an update writes. What isn't updated isn't read, and a token that is no map's is told as a fault.
+unread 4 2000001fc 'ldmap r1, 0;mov r2, r10;add r2, -4;call 1;mov r0, 0;exit'
+unread 6 2000001ff 'stb [r10-4], 0;sth [r10-3], 0;ldmap r1, 0;mov r2, r10;add r2, -4;call 1;mov r0, 0;exit'
+reads 'stw [r10-4], 0;ldmap r1, 0;mov r2, r10;add r2, -4;call 1;mov r0, 0;exit'
+unread 9 2000001e8 'stw [r10-4], 0;stdw [r10-32], 0;ldmap r1, 0;mov r2, r10;add r2, -4;mov r3, r10;add r3, -32;mov r4, 0;call 2;exit'
+unread 8 2000001fc 'ldmap r1, 0;mov r2, r10;add r2, -4;mov r3, r10;add r3, -32;mov r4, 0;ja on;on: call 2;exit'
+reads 'stw [r10-4], 0;stdw [r10-32], 0;stdw [r10-24], 0;ldmap r1, 0;mov r2, r10;add r2, -4;mov r3, r10;add r3, -32;mov r4, 0;call 2;exit'
+reads 'stw [r10-4], 2;ldmap r1, 0;mov r2, r10;add r2, -4;mov r3, r10;add r3, -32;mov r4, 0;call 2;add r0, 7;exit'
+listing token.s 'mov r1, 5;mov r2, r10;add r2, -4;call 1;exit'
+stopped 'fault token 0x5 at 3' run --strict --listing token.s
+
+# A call enters a frame where nothing was written: what an earlier function left there counts for nothing, and neither does what the caller
+# wrote at the same distance from r10. The caller's own stack stays as it was.
+unread 5 2000005f8 'callf f;callf g;exit;f: stdw [r10-8], 0;exit;g: ldxdw r0, [r10-8];exit'
+unread 3 2000005f8 'stdw [r10-8], 0;callf g;exit;g: ldxdw r0, [r10-8];exit'
+reads 'stdw [r10-8], 0;callf f;ldxdw r0, [r10-8];exit;f: stdw [r10-8], 0;ldxdw r0, [r10-8];exit'
+unread 1 2000001f8 'callf f;ldxdw r0, [r10-8];exit;f: stdw [r10-8], 0;exit'
+unread 8 2000005ff 'mov r0, 0;callf f;mov r0, 1;callf f;exit;f: jeq r0, 1, g;stb [r10-1], 0;exit;g: ldxb r0, [r10-1];exit'
+# A callee reads and writes the caller's stack by its address.
+reads 'stdw [r10-8], 0;mov r1, r10;callf f;exit;f: ldxdw r0, [r1-8];exit'
+unread 3 2000001f8 'mov r1, r10;callf f;exit;f: ldxdw r0, [r1-8];exit'
+reads 'mov r1, r10;callf f;ldxdw r0, [r10-8];exit;f: stdw [r1-8], 0;exit'
+# At the last depth, and a function's frame that was left.
+unread 3 200001dff 'l: add r1, 1;jlt r1, 8, m;ja n;n: ldxb r0, [r10-1];exit;m: callf l;exit'
+listing left.s 'mov r1, r10;add r1, 1024;callf f;ldxb r0, [r1-1];exit;f: stb [r10-1], 0;exit'
+stopped 'fault access 0x2000005ff at 3' run --strict --listing left.s
+
+# The context, maps, and what faults: over the end of a frame, between two of them, at a wild address.
+bytes context 00 00 00 00 00 00 00 00
+listing p.s 'ldxdw r2, [r1+0];lddw r1, 0x300000000;ldxdw r0, [r1+0];exit'
+result '0x0\n' run --strict -m context --maps 16x2 --listing p.s
+listing over.s 'ldxdw r0, [r10-4];exit'
+stopped 'fault access 0x2000001fc at 0' run --strict --listing over.s
+listing under.s 'ldxdw r0, [r10-516];exit'
+stopped 'fault access 0x1fffffffc at 0' run --strict --listing under.s
+listing wild.s 'mov r1, -4;ldxdw r0, [r1+0];exit'
+stopped 'fault access 0xfffffffffffffffc at 1' run --strict --listing wild.s
+listing stop.s 'mov r0, 42;exit'
+result '0x2a\n' run --strict --listing stop.s
+result '0x2a\n' run --steps 2 --strict --listing stop.s
+stopped 'step limit 1 reached at 1' run --steps 1 --strict --listing stop.s
+# The limit comes before a read behind it, and not before one of the steps that it allows.
+listing late.s 'mov r1, 0;ldxb r0, [r10-1];exit'
+stopped 'step limit 1 reached at 1' run --steps 1 --strict --listing late.s
+stopped 'read of 0x2000001ff at 1: not written since the call' run --steps 2 --strict --listing late.s
+
+# A trace shows the steps before it, those that are asked for; its status is 1.
+listing t.s 'mov r1, 1;jne r1, 2, on;on: stb [r10-1], 5;ldxh r0, [r10-2];exit'
+line='read of 0x2000001fe at 3: not written since the call\n'
+tells 1 "1 0: mov r1, 1; r1 = 0x1\n2 1: jne r1, 2, L2\n3 2: stb [r10-1], 5; 0x2000001ff:1 = 0x5\n$line" trace --strict --listing t.s
+tells 1 "2 1: jne r1, 2, L2\n$line" trace --strict --from 2 --count 1 --listing t.s
+tells 1 "2 1: jne r1, 2, L2; r1 = 0x1; went on\n$line" trace --strict --branches --listing t.s
+tells 1 "$line" trace --strict --from 4 --listing t.s
+tells 1 "3 2: stb [r10-1], 5; 0x2000001ff:1 = 0x5\n$line" trace --strict --from 3 --steps 4 --listing t.s
+tells 1 '3 2: stb [r10-1], 5; 0x2000001ff:1 = 0x5\nstep limit 3 reached at 3\n' trace --strict --from 3 --steps 3 --listing t.s
+tells 0 '1 0: mov r0, 42; r0 = 0x2a\n2 1: exit\nexited at 1: r0 0x2a\n' trace --strict --listing stop.s
+tells 1 '1 0: ldxdw r0, [r10-4]\nfault access 0x2000001fc at 0\n' trace --strict --listing over.s
+usage "the argument '--strict' cannot be used with '--profile'" trace --strict --profile --listing t.s
+
+# What is refused of a run that isn't strict is refused so.
+bytes ragged 95 00 00
+refused 'refused C3: length is no multiple of 8' run --strict ragged
+refused 'refused C3: length is no multiple of 8' trace --strict ragged
+head -c 65537 /dev/zero > long
+refused 'refused O1: context too long' run --strict -m long --listing stop.s
+
+# The planted bug of examples/bugs, and the packet with which it doesn't show.
+if has_clang 'a strict run of examples/bugs/limits.c'; then
+    clang -O2 -target bpf -c -o limits.o "$top/examples/bugs/limits.c" 2> found/err || complain "examples/bugs/limits.c: $(cat found/err)"
+    count=$((count + 1))
+    "$program" run --strict --object -m "$top/examples/bugs/limits.packet" limits.o > found/out 2>&1
+    grep -q -x 'read of 0x2000001fc at [0-9]*: not written since the call' found/out || complain "a strict run of examples/bugs/limits.c: $(cat found/out)"
+    bytes whole 05 01 10
+    result '0x15\n' run --strict --object -m whole limits.o
+fi
+
+# Programs at random.
+if has python3 'strict runs of programs at random'; then
+    python3 "$top/tests/trials/strict.py" "$program" 300 > trial 2> found/err
+    echo $? > found/status
+    { grep -a '^FAILED' trial; sed -n 's/^[0-9]* programs: \([0-9]* failed\)$/\1/p' trial; } > found/out
+    check 'strict runs of programs at random' 0 '0 failed\n' ''
+fi
