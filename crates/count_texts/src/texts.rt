@@ -38,7 +38,13 @@ fn count_of(digits: &[u8]) -> Option<u32>
         return None;
     };
     match numeral.to_u64() {
-        Some(n) => { if 0 < n && n < 4294967296 { Some(n as u32) } else { None } }
+        Some(n) => {
+            if 0 < n && n < 4294967296 {
+                Some(n as u32)
+            } else {
+                None
+            }
+        }
         None => None,
     }
 }
@@ -81,9 +87,7 @@ fn are_apart(texts: &[&str]) -> bool
 fn have_counts(texts: &[&str]) -> bool
     ensures { result ≡ list_all (λ text. has_count text.now) texts.now }
 {
-    texts
-        .iter()
-        .all(|text| count_in(text.as_bytes()).is_some())
+    texts.iter().all(|text| count_in(text.as_bytes()).is_some())
 }
 
 /// Whether texts are numbers of entries, each of one map, and none of the same.
