@@ -66,7 +66,7 @@ compiled() {
 of_parts() {
     compiled parts "$1"
     "$program" link --section taken --entry second parts.o > parts.bin 2> found/err
-    "$top/share/bpfdb-symbols" --section taken --entry second parts.o parts.sym
+    BPFDB=$program "$top/share/bpfdb-symbols" --section taken --entry second parts.o parts.sym
     transcript gdb "$sessions/parts.txt"
 }
 
@@ -99,13 +99,13 @@ if has python3 'sessions in gdb'; then
     printf 'loop: add r0, 1\nja loop\n' > loop.s
     object calls
     "$program" link calls.o > calls.bin
-    "$top/share/bpfdb-symbols" calls.o calls.sym
+    BPFDB=$program "$top/share/bpfdb-symbols" calls.o calls.sym
     cp "$top/examples/overrun/overrun.c" "$top/examples/overrun/context.bin" .
     bytes overrun.o $(sed 's/../& /g' "$top/examples/overrun/object.hex")
     "$program" link overrun.o > overrun.bin
     same 'examples/overrun/program.bin is linked from its object' "$top/examples/overrun/program.bin" overrun.bin
-    "$top/share/bpfdb-symbols" overrun.o overrun.sym
-    "$top/share/bpfdb-symbols" --registers riscv overrun.o overrun.riscv
+    BPFDB=$program "$top/share/bpfdb-symbols" overrun.o overrun.sym
+    BPFDB=$program "$top/share/bpfdb-symbols" --registers riscv overrun.o overrun.riscv
     for number in 1 2 3; do
         story $number GDB.md > story$number.txt
         [ "$(wc -l < story$number.txt)" -gt 2 ] || complain "docs/GDB.md shows no session $number"

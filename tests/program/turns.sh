@@ -155,10 +155,10 @@ exit'
     result '0x3\n' run -m context words
 
     # Symbols of programs in turn are those of their object, which link writes.
-    "$top/share/bpfdb-symbols" --entry store --entry take pair.o symbols > found/out 2> found/err
+    BPFDB=$program "$top/share/bpfdb-symbols" --entry store --entry take pair.o symbols > found/out 2> found/err
     echo $? > found/status
     check 'bpfdb-symbols of programs in turn' 2 '' "bpfdb-symbols: pair.o: programs in turn: the object that 'bpfdb link --joined' writes of them has their symbols\n"
-    "$program" link --joined --entry store --entry take@8 pair.o > joined.o && "$top/share/bpfdb-symbols" joined.o symbols 2> found/err || complain "symbols: $(cat found/err)"
+    "$program" link --joined --entry store --entry take@8 pair.o > joined.o && BPFDB=$program "$top/share/bpfdb-symbols" joined.o symbols 2> found/err || complain "symbols: $(cat found/err)"
     count=$((count + 1))
 
     # Without debug information there is nothing to move but the code.
