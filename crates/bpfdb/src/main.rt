@@ -15,7 +15,6 @@ mod input;
 mod job;
 mod opening;
 mod prompt;
-mod tests;
 mod turns;
 mod words;
 

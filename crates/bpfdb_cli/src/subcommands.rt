@@ -64,8 +64,6 @@ pub(crate) enum CliOption {
     Other,
     /// `--cover`.
     Cover,
-    /// `--anywhere`.
-    Anywhere,
     /// WHAT, behind FILE.
     What,
     /// WHAT of `whynot`, which needs it.
@@ -320,12 +318,7 @@ pub(crate) const SUBCOMMANDS: [CliSubcommand<'static>; 13] = [
         about: help::TEST,
         long_about: help::TEST_LONG,
         example: help::TEST_EXAMPLE,
-        options: &[
-            CliOption::Only,
-            CliOption::Show,
-            CliOption::Cover,
-            CliOption::Anywhere,
-        ],
+        options: &[CliOption::Only, CliOption::Show, CliOption::Cover],
         file: help::TEST_FILE,
     },
 ];
