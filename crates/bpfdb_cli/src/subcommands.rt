@@ -60,8 +60,6 @@ pub(crate) enum CliOption {
     Show,
     /// `--other-mem PATH`.
     OtherMem,
-    /// `--trace PATH`.
-    OtherTrace,
     /// OTHER, behind FILE.
     Other,
     /// `--cover`.
@@ -206,7 +204,6 @@ pub(crate) const SUBCOMMANDS: [CliSubcommand<'static>; 13] = [
         options: &[
             CliOption::Mem,
             CliOption::OtherMem,
-            CliOption::OtherTrace,
             CliOption::Maps,
             CliOption::Steps,
             CliOption::Listing,

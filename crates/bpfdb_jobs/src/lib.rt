@@ -1,7 +1,6 @@
 //! Jobs: work on the bytes of files, done over a reader, a writer and standard error.
 #![tactic(auto)]
 
-mod against;
 mod check;
 mod debug;
 mod diff;
