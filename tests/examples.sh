@@ -101,7 +101,7 @@ shown() {
     while [ -f "$work/shown/command-$n" ]; do
         command=$(cat "$work/shown/command-$n")
         case $command in
-        'cat '*.c | 'cat '*.s | 'cat '*.test | 'cat '*.data | 'cat '*.awk) cp "$work/shown/text-$n" "$work/shown/files/${command#cat }" ;;
+        'cat '*.c | 'cat '*.s | 'cat '*.test | 'cat '*.data | 'cat '*.awk | 'cat '*.py) cp "$work/shown/text-$n" "$work/shown/files/${command#cat }" ;;
         esac
         (cd "$work/shown/files" && PATH=$work/bin:$PATH && export PATH && unset BPFDB && sh "$work/shown/command-$n") > "$work/out" 2>&1
         cmp -s "$work/shown/text-$n" "$work/out" || fault "$1, '$2': '$command': $(first_difference "$work/shown/text-$n" "$work/out")"
@@ -139,7 +139,7 @@ pages() {
     ln -s "$BPFDB" "$work/bin/bpfdb" || exit 1
     ln -s "$top/share/bpfdb-conformance" "$top/share/bpfdb-convert" "$top/share/bpfdb-show" "$work/bin" || exit 1
     shown docs/COMMANDS.md EXAMPLES
-    shown examples/RECIPES.md ''
+    if has python3 'the recipes'; then shown examples/RECIPES.md ''; fi
     if has python3 'the examples of docs/TESTS.md'; then shown docs/TESTS.md ''; fi
     origins README.md - overrun
     origins README.md 'A packet that should have been dropped' firewall

@@ -51,6 +51,7 @@ _bpfdb() {
     --with) mapfile -t COMPREPLY < <(compgen -f -- "$word"); return ;;
     --lines) :; return ;;
     --other-mem) mapfile -t COMPREPLY < <(compgen -f -- "$word"); return ;;
+    --trace) mapfile -t COMPREPLY < <(compgen -f -- "$word"); return ;;
     --only) _bpfdb_of_file --only "$word"; return ;;
     --show) mapfile -t COMPREPLY < <(compgen -W "program context options script" -- "$word"); return ;;
     -o | --output) mapfile -t COMPREPLY < <(compgen -f -- "$word"); return ;;
@@ -68,7 +69,7 @@ _bpfdb() {
     debug) words="-m --mem --maps --journal --steps --listing --object --section --entry --entries --stub --as-compiled -h --help" ;;
     origin) words="-m --mem --maps --journal --steps --listing --object --section --entry --entries --stub --script --as-compiled --lines --addresses -h --help" ;;
     whynot) words="-m --mem --maps --journal --steps --listing --object --section --entry --entries --stub --script --as-compiled --lines --addresses --alone -h --help" ;;
-    diff) words="-m --mem --maps --steps --listing --object --section --entry --entries --stub --as-compiled --other-mem -h --help" ;;
+    diff) words="-m --mem --maps --steps --listing --object --section --entry --entries --stub --as-compiled --other-mem --trace -h --help" ;;
     asm) words="-h --help" ;;
     disasm) words="--maps --listing --object --section --entry --entries --stub --as-compiled -h --help" ;;
     lines) words="--object --section --entry --entries --stub --as-compiled --with -h --help" ;;

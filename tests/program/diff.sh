@@ -1,5 +1,5 @@
 # Where two runs part: each kind of answer from both sides, what is written of it, ends and limits, and what is refused. What is wanted was worked out by
-# hand. Then pairs at random, held against a model over the traces of both (tests/trials/diff.py).
+# hand. Then pairs at random, held against a model over the traces of both, and changed traces (tests/trials/diff.py).
 
 # One program on two contexts: a value that was read, and the branch that it decided; from the other side; on the same context.
 bytes four 04
@@ -109,10 +109,125 @@ refused 'refused O1: context too long (the other run)' diff -m four --other-mem 
 refused 'refused M1: value size not 1 to 256' diff --maps 0x1 one.bin two.bin
 refused 'cannot read absent' diff one.bin absent
 refused 'cannot read absent' diff one.bin --other-mem absent
-usage "a second program, '[OTHER]', or '--other-mem <PATH>' is needed" diff one.bin
+usage "a second program, '[OTHER]', or '--other-mem <PATH>' or '--trace <PATH>' is needed" diff one.bin
+usage "the argument '[OTHER]' cannot be used with '--trace <PATH>'" diff --trace four one.bin two.bin
+usage "the argument '--other-mem <PATH>' cannot be used with '--trace <PATH>'" diff --trace four --other-mem five one.bin
 usage "the argument '[OTHER]' cannot be used with '--other-mem <PATH>'" diff --other-mem four one.bin two.bin
 usage "the argument '--object' cannot be used with '[OTHER]'" diff --object one.bin two.bin
 usage "unexpected argument 'third' found" diff first second third
+
+# Against a trace of `trace`'s own form: the same; another value, another slot; each line but the end; no line; lines behind the end; another end.
+# told LINE..: the lines of the trace that is held against.
+told() { printf '%s\n' "$@" > there; }
+first='1 0: ldxb r2, [r1+0]; r2 = 0x4' second='2 1: jne r2, 4, L3' third='3 2: mov r0, 1; r0 = 0x1' end='exited at 3: r0 0x1'
+told "$first" "$second" "$third" '4 3: exit' "$end"
+tells 0 'same for 4 steps\nexited at 3: r0 0x1\n' diff --listing -m four --trace there port.s
+tells 1 'step 1 is told otherwise\n< 1 0: ldxb r2, [r1+0]; r2 = 0x5\n> 1 0: ldxb r2, [r1+0]; r2 = 0x4\n' diff --listing -m five --trace there port.s
+told "$first" "$second" '3 3: exit' 'exited at 3: r0 0x0'
+tells 1 'step 3 is told otherwise\n< 3 2: mov r0, 1; r0 = 0x1\n> 3 3: exit\n' diff --listing -m four --trace there port.s
+told "$first" "$second"
+tells 1 'step 3 is not in the trace\n< 3 2: mov r0, 1; r0 = 0x1\n' diff --listing -m four --trace there port.s
+told "$first" "$second" "$third" '4 3: exit'
+tells 1 'the end is not in the trace\n< exited at 3: r0 0x1\n' diff --listing -m four --trace there port.s
+tells 1 'step 1 is not in the trace\n< 1 0: ldxb r2, [r1+0]; r2 = 0x4\n' diff --listing -m four --trace /dev/null port.s
+told "$first" "$second" "$third" '4 3: exit' "$end" '5 4: exit' '6 5: exit'
+tells 1 'the trace goes on\n< exited at 3: r0 0x1\n> 5 4: exit\n' diff --listing -m four --trace there port.s
+told "$first" "$second" "$third" '4 3: exit' 'exited at 3: r0 0x2'
+tells 1 'the end is told otherwise\n< exited at 3: r0 0x1\n> exited at 3: r0 0x2\n' diff --listing -m four --trace there port.s
+# An end where there is a step, and a step where there is the end.
+told "$first" 'fault access 0x0 at 1'
+tells 1 'step 2 is told otherwise\n< 2 1: jne r2, 4, L3\n> fault access 0x0 at 1\n' diff --listing -m four --trace there port.s
+told "$first" "$second" "$third" '4 3: exit' '5 4: exit'
+tells 1 'the end is told otherwise\n< exited at 3: r0 0x1\n> 5 4: exit\n' diff --listing -m four --trace there port.s
+# The limit is an end, too, and no status 0.
+told "$first" "$second" 'step limit 2 reached at 2'
+tells 1 'same for 2 steps\nstep limit 2 reached at 2\n' diff --steps 2 --listing -m four --trace there port.s
+tells 1 'step 3 is told otherwise\n< 3 2: mov r0, 1; r0 = 0x1\n> step limit 2 reached at 2\n' diff --steps 3 --listing -m four --trace there port.s
+told "$first" "$second" "$third"
+tells 1 'the end is told otherwise\n< step limit 2 reached at 2\n> 3 2: mov r0, 1; r0 = 0x1\n' diff --steps 2 --listing -m four --trace there port.s
+# Remarks, blank lines, blanks around a line, and a last line without its end; what would steer a terminal.
+printf '# a trace\n\n\t%s \r\n  # and\n%s\n%s\n4 3: exit\n%s' "$first" "$second" "$third" "$end" > there
+tells 0 'same for 4 steps\nexited at 3: r0 0x1\n' diff --listing -m four --trace there port.s
+printf '1 0: \033[2J\n' > there
+tells 1 'step 1 is told otherwise\n< 1 0: ldxb r2, [r1+0]; r2 = 0x4\n> 1 0: \\x1b[2J\n' diff --listing -m four --trace there port.s
+
+# Against lines of registers: the same; each entry; several; numbers of both kinds; one that isn't told; more and fewer lines.
+# (rows LINE..: the slot and r0 to r2; r3 to r9 are 0, and r10 stands where it does.)
+rows() { for row in "$@"; do echo "$row 0 0 0 0 0 0 0 0x200000200"; done > there; }
+rows '0 0 0x100000000 1' '1 0 0x100000000 4' '2 0 4294967296 0x04' '3 1 - 4'
+tells 0 'same for 4 steps\nexited at 3: r0 0x1\n' diff --listing -m four --trace there port.s
+here='0x100000000 0x5 0x0 0x0 0x0 0x0 0x0 0x0 0x0 0x200000200'
+tells 1 "step 2 is told otherwise\n< 1 0x0 $here\n> 1 0 0x100000000 4 0 0 0 0 0 0 0 0x200000200\nr2: 0x5 here, 0x4 there; here by step 1, 0: ldxb r2, [r1+0]\n" \
+    diff --listing -m five --trace there port.s
+here='0x100000000 0x4 0x0 0x0 0x0 0x0 0x0 0x0 0x0 0x200000200'
+rows '0 0 0x100000000 1' '1 0 0x100000000 4' '3 7 0x100000001 4'
+tells 1 "step 3 is told otherwise\n< 2 0x0 $here\n> 3 7 0x100000001 4 0 0 0 0 0 0 0 0x200000200\nslot: 2 here, 3 there; here by step 2, 1: jne r2, 4, L3\nr0: 0x0 here, 0x7 there; here since the start\nr1: 0x100000000 here, 0x100000001 there; here since the start\n" \
+    diff --listing -m four --trace there port.s
+rows '0 0 0x100000000 1' '1 0 0x100000000 4'
+tells 1 "step 3 is not in the trace\n< 2 0x0 $here\n" diff --listing -m four --trace there port.s
+rows '0 0 0x100000000 1' '1 0 0x100000000 4' '2 0 4294967296 0x04' '3 1 - 4' '4 1 - 4'
+tells 1 'the trace goes on\n< exited at 3: r0 0x1\n> 4 1 - 4 0 0 0 0 0 0 0 0x200000200\n' diff --listing -m four --trace there port.s
+tells 1 'the trace goes on\n< step limit 2 reached at 2\n> 2 0 4294967296 0x04 0 0 0 0 0 0 0 0x200000200\n' diff --steps 2 --listing -m four --trace there port.s
+rows '0 0 0x100000000 1' '1 0 0x100000000 4'
+tells 1 'same for 2 steps\nstep limit 2 reached at 2\n' diff --steps 2 --listing -m four --trace there port.s
+# A whole first line; at the start nothing was written.
+echo '- 1 2 3 4 5 6 7 8 9 10 18446744073709551615' > there
+tells 1 'step 1 is told otherwise\n< 0 0x0 0x0 0x0 0x0 0x0 0x0 0x0 0x0 0x0 0x0 0x200000200\n> - 1 2 3 4 5 6 7 8 9 10 18446744073709551615\nr0: 0x0 here, 0x1 there; here since the start\nr1: 0x0 here, 0x2 there; here since the start\nr2: 0x0 here, 0x3 there; here since the start\nr3: 0x0 here, 0x4 there; here since the start\nr4: 0x0 here, 0x5 there; here since the start\nr5: 0x0 here, 0x6 there; here since the start\nr6: 0x0 here, 0x7 there; here since the start\nr7: 0x0 here, 0x8 there; here since the start\nr8: 0x0 here, 0x9 there; here since the start\nr9: 0x0 here, 0xa there; here since the start\nr10: 0x200000200 here, 0xffffffffffffffff there\n' \
+    diff --trace there one.bin
+# Which step wrote a register: of the function that runs, which finds its caller's r6 to r9 in its own, and gives them back.
+listing calls.s 'mov r6, 5;callf f;mov r0, r6;exit;f: mov r7, r6;mov r6, 7;exit'
+# (at LINE: a line at which all but the slot and r6 is left out; and after how many that tell nothing)
+at() { { yes - | head -n "$1" | sed 's/-/- - - - - - - - - - - -/'; echo "$2 - - - - - - $3 - - - -"; } > there; }
+at 2 4 9
+tells 1 'step 3 is told otherwise\n< 4 0x0 0x0 0x0 0x0 0x0 0x0 0x5 0x0 0x0 0x0 0x200000600\n> 4 - - - - - - 9 - - - -\nr6: 0x5 here, 0x9 there; here by step 1, 0: mov r6, 5\n' diff --listing --trace there calls.s
+at 4 6 9
+tells 1 'step 5 is told otherwise\n< 6 0x0 0x0 0x0 0x0 0x0 0x0 0x7 0x5 0x0 0x0 0x200000600\n> 6 - - - - - - 9 - - - -\nr6: 0x7 here, 0x9 there; here by step 4, 5: mov r6, 7\n' diff --listing --trace there calls.s
+at 5 - 9
+tells 1 'step 6 is told otherwise\n< 2 0x0 0x0 0x0 0x0 0x0 0x0 0x5 0x0 0x0 0x0 0x200000200\n> - - - - - - - 9 - - - -\nr6: 0x5 here, 0x9 there; here by step 1, 0: mov r6, 5\n' diff --listing --trace there calls.s
+# Fetches, helpers that answer in r0 and trace: r0 of each.
+listing r0.s 'mov r3, 1;atomic_fetch_add64 [r10-8], r3;call 64;exit'
+echo '- - - - - - - - - - - -' > there; echo '- - - - - - - - - - - -' >> there; echo '2 - - - 9 - - - - - - -' >> there
+tells 1 'step 3 is told otherwise\n< 2 0x0 0x0 0x0 0x0 0x0 0x0 0x0 0x0 0x0 0x0 0x200000200\n> 2 - - - 9 - - - - - - -\nr3: 0x0 here, 0x9 there; here by step 2, 1: atomic_fetch_add64 [r10-8], r3\n' diff --listing --trace there r0.s
+echo '- - - - - - - - - - - -' > there; echo '- - - - - - - - - - - -' >> there; echo '- - - - - - - - - - - -' >> there; echo '3 9 - - - - - - - - - -' >> there
+tells 1 'step 4 is told otherwise\n< 3 0x0 0x0 0x0 0x0 0x0 0x0 0x0 0x0 0x0 0x0 0x200000200\n> 3 9 - - - - - - - - - -\nr0: 0x0 here, 0x9 there; here by step 3, 2: call 64\n' diff --listing --trace there r0.s
+
+# What is no trace, by its first line; behind FILE's machine.
+registers='0 0 0 0 0 0 0 0 0 0 0 0'
+while read -r line; do
+    told '# so' "$line"
+    refused 'refused D2 at line 2: neither a line of trace nor a slot and eleven registers' diff --trace there one.bin
+    told "$registers" "$line"
+    refused 'refused D3 at line 2: not of the form of the first line' diff --trace there one.bin
+    told "$first" '' "$line"
+    refused 'refused D3 at line 3: not of the form of the first line' diff --trace there one.bin
+done << 'LINES'
+0
+0 0 0 0 0 0 0 0 0 0 0
+0 0 0 0 0 0 0 0 0 0 0 0 0
+0 0 0 0 0 0 0 0 0 0 0 -1
+0 0 0 0 0 0 0 0 0 0 0 0x
+0 0 0 0 0 0 0 0 0 0 0 18446744073709551616
+0 0 0 0 0 0 0 0 0 0 0 r0
+0 0 0 0 0 0 0 0 0 0 0 --
+1 0 mov r0, 1
+k 0: exit
+exited
+mov r0, 1
+LINES
+told "$first" "$registers"
+refused 'refused D3 at line 2: not of the form of the first line' diff --trace there one.bin
+told "$registers" "$first"
+refused 'refused D3 at line 2: not of the form of the first line' diff --trace there one.bin
+printf '%1024s\n' "$first" > there
+tells 1 'step 1 is told otherwise\n< 1 0: mov r0, 1; r0 = 0x1\n> 1 0: ldxb r2, [r1+0]; r2 = 0x4\n' diff --trace there one.bin
+printf '%s\n%1025s\n0\n' "$first" "$second" > there
+refused 'refused D1 at line 2: more than 1024 bytes' diff --trace there one.bin
+printf '#%1024s\n0\n' '' > there
+refused 'refused D1 at line 1: more than 1024 bytes' diff --trace there one.bin
+refused 'refused C3: length is no multiple of 8' diff --trace there ragged
+refused 'cannot read absent' diff --trace absent one.bin
+told "$first"
+refused 'refused O1: context too long' diff -m long --trace there one.bin
 
 # Pairs at random.
 if has python3 'where two runs part, of pairs at random'; then

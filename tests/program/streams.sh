@@ -62,6 +62,7 @@ trace --branches program
 trace --profile program
 run --strict program
 trace --strict program
+diff --trace there program
 debug program
 debug --listing program.s
 asm program.s

@@ -1,9 +1,12 @@
-"""Where two runs part: pairs of small programs at random, or one on two contexts, against a model over both traces.
+"""Where two runs part: pairs of small programs at random, or one on two contexts, against a model over both traces; and where a run and a changed trace of
+it do, in both forms.
 
 diff.py BPFDB COUNT [SEED]: so many pairs. Tells where the answer is another than the model's; the last line counts. The model reads what `trace` prints
-of each run alone, and finds the first differences by docs/COMMANDS.md: it asks nothing else of bpfdb."""
+of each run alone, and finds the first differences by docs/COMMANDS.md: it asks nothing else of bpfdb. Registers before each step are what the lines of the
+steps before it tell of them."""
 import os
 import random
+import re
 import subprocess
 import sys
 import tempfile
@@ -84,6 +87,107 @@ def expected(one, other, limit):
     return '\n'.join(out) + '\n', status
 
 
+def registers(run, length):
+    """Of each step the slot and the registers before it, and which step each of these is of: its number, slot and text."""
+    shared, own, by = [0, 0x100000000 if length else 0, length, 0, 0, 0], [[0] * 4], {}
+    depth, last, rows = 0, None, []
+    for line in run.lines:
+        number, place = line.split('; ')[0].split(' ', 1)
+        values = [int(place.split(':')[0]), *shared, *own[depth], 0x200000200 + 0x400 * depth]
+        wrote = [last] + [by.get((0 if r < 6 else depth, r)) for r in range(10)]
+        rows.append((values, wrote))
+        last = f'step {number}, {place}'
+        for text in line.split('; ')[1:]:
+            name = re.fullmatch(r'r(\d+)(?: at depth \d+)? = (0x[0-9a-f]+)', text)
+            if name:
+                r, value = int(name[1]), int(name[2], 16)
+                (shared if r < 6 else own[depth])[r if r < 6 else r - 6] = value
+                by[0 if r < 6 else depth, r] = last
+        if ' callf ' in place and '; ' in line:
+            own.append(list(own[depth]))
+            depth += 1
+            for r in range(6, 10):
+                by[depth, r] = by.get((depth - 1, r))
+        elif place.endswith(': exit') and depth:
+            own.pop()
+            depth -= 1
+    return rows
+
+
+def changed_rows(rng, rows):
+    """The lines of a trace of registers: a value another one here and there, words that tell nothing, lines too few or too many."""
+    lines = [[number if rng.random() > 0.1 else None for number in values] for values, _ in rows]
+    if rng.random() < 0.7 and lines:
+        for _ in range(rng.randint(1, 3)):
+            lines[rng.randrange(len(lines))][rng.randrange(12)] = rng.choice([0, 1, 7, 2 ** 64 - 1, 0x100000001])
+    if rng.random() < 0.2:
+        lines = lines[:rng.randint(0, len(lines))]
+    if rng.random() < 0.2:
+        lines.append([rng.randint(0, 3)] * 12)
+    return lines
+
+
+def against_rows(run, rows, lines, texts):
+    for k, (values, wrote) in enumerate(rows):
+        here = f'< {values[0]} ' + ' '.join(map(hex, values[1:]))
+        if k == len(lines):
+            return [f'step {k + 1} is not in the trace', here], 1
+        other = [i for i in range(12) if lines[k][i] not in (None, values[i])]
+        if other:
+            out = [f'step {k + 1} is told otherwise', here, f'> {texts[k]}']
+            for i in other:
+                behind = '' if i == 11 else f'; here by {wrote[i]}' if wrote[i] else '; here since the start'
+                both = (values[i], lines[k][i]) if i == 0 else (hex(values[i]), hex(lines[k][i]))
+                out.append((f'r{i - 1}' if i else 'slot') + f': {both[0]} here, {both[1]} there' + behind)
+            return out, 1
+    if len(lines) > len(rows):
+        return ['the trace goes on', f'< {run.end}', f'> {texts[len(rows)]}'], 1
+    return [f'same for {len(rows)} steps', run.end], int(run.end.startswith('step limit'))
+
+
+def changed_lines(rng, run):
+    """The lines of a trace: of another value, another instruction, another order; too few or too many."""
+    lines = run.lines + [run.end]
+    for _ in range(rng.choice([0, 1, 1, 2])):
+        at = rng.randrange(len(lines))
+        lines[at] = rng.choice([lines[at] + '0', lines[at].replace('= 0x', '= 0x1'), lines[at - 1], '1 0: exit'])
+    if rng.random() < 0.2:
+        lines = lines[:rng.randint(0, len(lines))]
+    if rng.random() < 0.2:
+        lines.append('exited at 0: r0 0x0')
+    return lines
+
+
+def against_lines(run, lines):
+    for k, line in enumerate(run.lines + [run.end]):
+        what = f'step {k + 1}' if k < len(run.lines) else 'the end'
+        if k == len(lines):
+            return [f'{what} is not in the trace', f'< {line}'], 1
+        if line != lines[k]:
+            return [f'{what} is told otherwise', f'< {line}', f'> {lines[k]}'], 1
+    if len(lines) > len(run.lines) + 1:
+        return ['the trace goes on', f'< {run.end}', f'> {lines[len(run.lines) + 1]}'], 1
+    return [f'same for {len(run.lines)} steps', run.end], int(run.end.startswith('step limit'))
+
+
+def against(rng, run, length):
+    """A changed trace of a run, and what is told of it."""
+    if rng.random() < 0.4:
+        texts = changed_lines(rng, run)
+        wanted = against_lines(run, texts)
+    else:
+        rows = registers(run, length)
+        lines = changed_rows(rng, rows)
+        texts = [' '.join('-' if n is None else str(n) if rng.random() < 0.3 else rng.choice(['0x%x', '0x%X', '0x0%x']) % n for n in line) for line in lines]
+        wanted = against_rows(run, rows, lines, texts)
+        if not lines:
+            wanted = against_lines(run, [])
+    file = []
+    for text in texts:
+        file += rng.choice([[], [], [], [''], ['# remark'], [' \t']]) + [rng.choice(['', '', ' ', '\t']) + text + rng.choice(['', '', ' ', '\r'])]
+    return '\n'.join(file + [''] * (rng.random() < 0.8)), ('\n'.join(wanted[0]) + '\n', wanted[1])
+
+
 def main():
     bpfdb, count = sys.argv[1], int(sys.argv[2])
     first = int(sys.argv[3]) if len(sys.argv) > 3 else 1
@@ -121,6 +225,17 @@ def main():
             if (found.stdout, found.returncode) != (wanted, status):
                 failed += 1
                 print(f'FAILED: seed {seed}: {" ".join(words)} --steps {limit}\n{found.stdout}status {found.returncode}; wanted\n{wanted}status {status}')
+            if traces[0].returncode == 2:
+                continue
+            trace, wanted = against(rng, Run(traces[0].stdout), len(contexts[0]))
+            with open('trace', 'w', encoding='ascii', newline='') as file:
+                file.write(trace)
+            found = subprocess.run([bpfdb, 'diff', *common, '-m', 'p', '--trace', 'trace', 'a.s'], capture_output=True, text=True)
+            kind = 'trace: ' + re.sub(r'^step \d+|\d+', '..', wanted[0].split('\n')[0])
+            kinds[kind] = kinds.get(kind, 0) + 1
+            if (found.stdout, found.returncode) != wanted:
+                failed += 1
+                print(f'FAILED: seed {seed}: diff --steps {limit} --trace\n{found.stdout}{found.stderr}status {found.returncode}; wanted\n{wanted[0]}status {wanted[1]}\n{trace}')
     for kind in sorted(kinds):
         print(f'{kinds[kind]} {kind}')
     print(f'{count} pairs: {failed} failed')

@@ -144,6 +144,10 @@ show_rule = record (new_rule (codes "show")) { long = Some (codes "show"); value
 abbrev pub other_mem_rule : Rule
 other_mem_rule = record (new_rule (codes "other-mem")) { long = Some (codes "other-mem"); value_names = 1 }
 
+-- `--trace PATH`: a file, whose lines are the trace of another machine.
+abbrev pub other_trace_rule : Rule
+other_trace_rule = record (new_rule (codes "trace")) { long = Some (codes "trace"); value_names = 1 }
+
 -- OTHER, behind FILE: the second program.
 abbrev pub other_rule : Rule
 other_rule = record (new_rule (codes "other")) { index = Some 2; value_names = 1 }
@@ -217,10 +221,10 @@ abbrev pub whynot_app : App
 whynot_app = with_rule (with_rule (with_rule (with_rule (with_rule (with_file_kinds (with_rule (with_rule (with_rule (with_rule (with_rule (new_app (codes "whynot"))
     mem_rule) maps_rule) gdb_journal_rule) steps_rule) script_rule)) lines_rule) addresses_rule) alone_rule) goal_rule) file_rule
 
--- `diff` runs two programs, or one on two contexts, as `run` does.
+-- `diff` runs two programs, or one on two contexts or along a trace, as `run` does.
 abbrev pub diff_app : App
-diff_app = with_rule (with_rule (with_file_kinds (with_rule (with_rule (with_rule (with_rule (new_app (codes "diff"))
-    mem_rule) other_mem_rule) maps_rule) steps_rule)) other_rule) file_rule
+diff_app = with_rule (with_rule (with_file_kinds (with_rule (with_rule (with_rule (with_rule (with_rule (new_app (codes "diff"))
+    mem_rule) other_mem_rule) other_trace_rule) maps_rule) steps_rule)) other_rule) file_rule
 
 -- The command without its subcommands: it can't stand without one, and it tells its version.
 abbrev pub bare_app : App

@@ -76,11 +76,12 @@ pub record Chooses (rows : List Row) (options : Options) : Type 0 where
   pub addresses : options.addresses ≡ is_given (first_of (codes "addresses") rows)
   pub alone : options.alone ≡ is_given (first_of (codes "alone") rows)
   pub context : options.other_is_context ≡ is_some (first_of (codes "other-mem") rows)
+  pub trace : options.other_is_trace ≡ is_some (first_of (codes "trace") rows)
   pub only : option_map (λ s. s.now) options.only ≡ first_of (codes "only") rows
   pub show : NamesPart (first_of (codes "show") rows) options.show
   pub covers : options.covers ≡ is_given (first_of (codes "cover") rows)
 
--- The other file: a script, an object with functions, a second context or a second program. No subcommand takes two of them but `diff`,
+-- The other file: a script, an object with functions, a trace, a second context or a second program. No subcommand takes two of them but `diff`,
 -- and none is given both.
 abbrev pub given_or : Option Text → Option Text → Option Text
 given_or (Some text) other = Some text
@@ -88,7 +89,7 @@ given_or None other = other
 
 abbrev pub other_in : List Row → Option Text
 other_in rows = given_or (given_or (first_of (codes "script") rows) (first_of (codes "with") rows))
-    (given_or (first_of (codes "other-mem") rows) (first_of (codes "other") rows))
+    (given_or (first_of (codes "trace") rows) (given_or (first_of (codes "other-mem") rows) (first_of (codes "other") rows)))
 
 -- What an option says behind the first time: objects behind the first one, by `--with`, and programs in turn, by `--entry`.
 abbrev pub further_in : Text → List Row → List Text
@@ -143,14 +144,19 @@ asks_of_link rows = is_some (first_of (codes "section") rows) || (is_some (first
     || (is_some (first_of (codes "stub") rows) || (is_given (first_of (codes "as-compiled") rows) || (is_some (first_of (codes "with") rows)
     || is_some (first_of (codes "entries") rows)))))
 
--- One other run is named: by a second context; or by a second program, which isn't linked.
+-- One other side is named: by a second context, or by a trace; or by a second program, which isn't linked.
+abbrev pub names_side : List Row → Bool
+names_side rows = if is_some (first_of (codes "other-mem") rows)
+    then not (is_some (first_of (codes "trace") rows)) else is_some (first_of (codes "trace") rows)
+
 abbrev pub names_other : List Row → Bool
 names_other rows = if is_some (first_of (codes "other") rows)
-    then not (is_some (first_of (codes "other-mem") rows)) && not (is_given (first_of (codes "object") rows))
-    else is_some (first_of (codes "other-mem") rows)
+    then not (is_some (first_of (codes "other-mem") rows))
+    && (not (is_some (first_of (codes "trace") rows)) && not (is_given (first_of (codes "object") rows)))
+    else names_side rows
 
 -- Options go together: an object is no listing and has maps of its own, of a link is asked only where an object is linked, `diff` is told
--- of one other run, steps that are counted are those of a run that isn't strict, programs in turn have numbers, and so have maps.
+-- of one other side, steps that are counted are those of a run that isn't strict, programs in turn have numbers, and so have maps.
 abbrev pub link_fits : Text → List Row → Bool
 link_fits name rows = if is_given (first_of (codes "object") rows)
     then not (is_given (first_of (codes "listing") rows)) && not (is_some (first_of (codes "maps") rows))

@@ -109,6 +109,15 @@ fn argument_of<'a>(alloc: Global, option: CliOption) -> Arg<'a>
                 help::OTHER_MEM_LONG,
             )
         }
+        CliOption::OtherTrace => {
+            text_option(
+                alloc,
+                "trace",
+                "PATH",
+                help::OTHER_TRACE,
+                help::OTHER_TRACE_LONG,
+            )
+        }
         CliOption::Other => Arg::new(alloc, "other")
             .index(2)
             .value_name("OTHER")

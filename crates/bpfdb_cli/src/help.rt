@@ -177,7 +177,12 @@ is over, and then how each ended. A line of FILE's run begins with '<', one of
 the other with '>'; lines of steps are those of `trace`. Where no step differs,
 and both end alike, it says after how many steps and how. The exit status is 0
 where they end alike without a difference, 1 where they part or come to the
-limit of steps.";
+limit of steps.
+
+With --trace the other side is a trace of another machine, and FILE's run goes
+along it: the first step that it tells otherwise is written, both lines of it,
+and of registers both values, and which step wrote the one here. The exit status
+is 0 where it tells the whole run, and nothing else.";
 
 pub const DIFF_EXAMPLE: &str = "Example:
   $ bpfdb diff --listing -m four.bin --other-mem five.bin port.s
@@ -454,6 +459,14 @@ pub const OTHER_MEM: &str = "Second context, a file of 0 to 65536 bytes";
 
 pub const OTHER_MEM_LONG: &str = "Second context, a file of 0 to 65536 bytes: the program runs on
 it, too. It can't be used with OTHER";
+
+/// `--trace PATH`.
+pub const OTHER_TRACE: &str = "Trace of another machine, in place of a second run";
+
+pub const OTHER_TRACE_LONG: &str = "Trace of another machine, in place of a second run: lines as
+`trace` writes them; or of each step the slot and r0 to r10 before
+it, in decimal or as 0x.., with '-' for what isn't told. Lines that
+begin with '#' are skipped. It goes with neither OTHER nor --other-mem";
 
 /// OTHER.
 pub const OTHER: &str = "Second program: words, or a listing with --listing";

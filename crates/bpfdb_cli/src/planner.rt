@@ -7,7 +7,7 @@ ghost use Rattle.clap.specs.Words.{Row, Text, first_of, found_of, rows_of, subco
 ghost use Rattle.bpfdb_limits.specs.Limits.{IsLimit};
 ghost use Rattle.bpfdb_options.specs.Lines.{most_further};
 ghost use Rattle.bpfdb_cli.specs.Scaffolding.{AskAlike};
-ghost use Rattle.bpfdb_cli.specs.Plans.{AreInRange, Chooses, HasKindIfTold, IsFaultOf, IsPlan, IsPlanOf, NamesPart, NamesRegisters, Says, Tells, asks_of_link, counts_strictly, go_together, is_given, link_fits, names_other, number_or, other_in, run_fits, given_or, NamesPacket, counts_in, entries_fit, further_in, has_offset, most_counts};
+ghost use Rattle.bpfdb_cli.specs.Plans.{AreInRange, Chooses, HasKindIfTold, IsFaultOf, IsPlan, IsPlanOf, NamesPart, NamesRegisters, Says, Tells, asks_of_link, counts_strictly, go_together, is_given, link_fits, names_other, number_or, other_in, run_fits, given_or, NamesPacket, counts_in, entries_fit, further_in, has_offset, most_counts, names_side};
 
 use crate::command_line::command_line;
 use crate::plans::{MOST_COUNTS, Plan, PlanFault};
@@ -34,7 +34,13 @@ const TWO_OTHERS: &str = "the argument '[OTHER]' cannot be used with '--other-me
 
 const OBJECT_AND_OTHER: &str = "the argument '--object' cannot be used with '[OTHER]'";
 
-const NO_OTHER: &str = "a second program, '[OTHER]', or '--other-mem <PATH>' is needed";
+const OTHER_AND_TRACE: &str = "the argument '[OTHER]' cannot be used with '--trace <PATH>'";
+
+const CONTEXT_AND_TRACE: &str =
+    "the argument '--other-mem <PATH>' cannot be used with '--trace <PATH>'";
+
+const NO_OTHER: &str =
+    "a second program, '[OTHER]', or '--other-mem <PATH>' or '--trace <PATH>' is needed";
 
 const STRICT_AND_PROFILE: &str = "the argument '--strict' cannot be used with '--profile'";
 
@@ -253,15 +259,29 @@ fn misfit_of_other(found: &ArgMatches<'_>) -> Option<&'static str>
     if text_of(found, "other").is_some() {
         if text_of(found, "other-mem").is_some() {
             Some(TWO_OTHERS)
+        } else if text_of(found, "trace").is_some() {
+            Some(OTHER_AND_TRACE)
         } else if is_given(text_of(found, "object")) {
             Some(OBJECT_AND_OTHER)
         } else {
             None
         }
-    } else if text_of(found, "other-mem").is_some() {
-        None
     } else {
-        Some(NO_OTHER)
+        misfit_of_side(found)
+    }
+}
+
+/// Why neither a second context nor a trace is the other side, if that is so.
+fn misfit_of_side(found: &ArgMatches<'_>) -> Option<&'static str>
+    ensures { is_some result ≡ not (names_side (rows_of (found_of found.now))) }
+{
+    match (
+        text_of(found, "other-mem").is_some(),
+        text_of(found, "trace").is_some(),
+    ) {
+        (true, true) => Some(CONTEXT_AND_TRACE),
+        (false, false) => Some(NO_OTHER),
+        _ => None,
     }
 }
 
@@ -360,14 +380,15 @@ fn options_in<'a>(found: &ArgMatches<'a>) -> Option<Options<'a>>
         addresses: is_given(text_of(found, "addresses")),
         alone: is_given(text_of(found, "alone")),
         other_is_context: text_of(found, "other-mem").is_some(),
+        other_is_trace: text_of(found, "trace").is_some(),
         only: text_of(found, "only"),
         show,
         covers: is_given(text_of(found, "cover")),
     })
 }
 
-/// The path of the other file: of the script, of the object with functions, of the second context or
-/// of the second program.
+/// The path of the other file: of the script, of the object with functions, of the trace, of the
+/// second context or of the second program.
 fn other_of<'a>(found: &ArgMatches<'a>) -> Option<&'a str>
     ensures { option_map (λ text. text.now) result ≡ other_in (rows_of (found_of found.now)) }
 {
@@ -380,15 +401,19 @@ fn other_of<'a>(found: &ArgMatches<'a>) -> Option<&'a str>
     }
 }
 
-/// The path of the second context, or of the second program.
+/// The path of the trace, of the second context, or of the second program.
 fn second_of<'a>(found: &ArgMatches<'a>) -> Option<&'a str>
-    ensures { option_map (λ text. text.now) result ≡ given_or
-        (first_of (codes "other-mem") (rows_of (found_of found.now)))
-        (first_of (codes "other") (rows_of (found_of found.now))) }
+    ensures { option_map (λ text. text.now) result
+        ≡ given_or (first_of (codes "trace") (rows_of (found_of found.now)))
+        (given_or (first_of (codes "other-mem") (rows_of (found_of found.now)))
+        (first_of (codes "other") (rows_of (found_of found.now)))) }
 {
-    match text_of(found, "other-mem") {
+    match text_of(found, "trace") {
         Some(path) => Some(path),
-        None => text_of(found, "other"),
+        None => match text_of(found, "other-mem") {
+            Some(path) => Some(path),
+            None => text_of(found, "other"),
+        },
     }
 }
 

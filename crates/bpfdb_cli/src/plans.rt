@@ -20,7 +20,7 @@ pub struct Plan<'a> {
     pub memory: Option<&'a str>,
     /// The path of the other file: of the script that is obeyed before `origin` asks, of the
     /// object with functions that `link` joins to FILE, or of the second program or context of
-    /// `diff`.
+    /// `diff`, or of its trace.
     pub other: Option<&'a str>,
     /// The paths of further such objects.
     pub further: ArrayVec<&'a str, MOST_FURTHER>,

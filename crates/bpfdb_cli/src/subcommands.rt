@@ -60,6 +60,8 @@ pub(crate) enum CliOption {
     Show,
     /// `--other-mem PATH`.
     OtherMem,
+    /// `--trace PATH`.
+    OtherTrace,
     /// OTHER, behind FILE.
     Other,
     /// `--cover`.
@@ -204,6 +206,7 @@ pub(crate) const SUBCOMMANDS: [CliSubcommand<'static>; 13] = [
         options: &[
             CliOption::Mem,
             CliOption::OtherMem,
+            CliOption::OtherTrace,
             CliOption::Maps,
             CliOption::Steps,
             CliOption::Listing,

@@ -15,10 +15,11 @@ use Rattle.bpf_trace.specs.Traces.{limit_line}
 use Rattle.bpf_whynot.specs.Asked.{goal_fault}
 use Rattle.bpfdb_commands.specs.Refusals as commands
 use Rattle.shown_text.specs.Shown.{shown}
+use Rattle.trace_lines.specs.Faults.{line_fault}
 use Rattle.bpfdb_faults.specs.declared.fault.JobFault.{JobFault}
 use Rattle.bpfdb_faults.specs.declared.fault.JobFault.TheVariants.{Unreadable, NotText, Refused, Input, Output, Memory, StepLimit}
 use Rattle.bpfdb_faults.specs.declared.refusal.JobRefusal.{JobRefusal}
-use Rattle.bpfdb_faults.specs.declared.refusal.JobRefusal.TheVariants.{Maps, Listing, Load, Open, OtherRun, Journal, What, Object, Functions, Tests, NoTest, ManyTests, Script, Goal}
+use Rattle.bpfdb_faults.specs.declared.refusal.JobRefusal.TheVariants.{Maps, Listing, Load, Open, OtherRun, TraceLine, Journal, What, Object, Functions, Tests, NoTest, ManyTests, Script, Goal}
 
 -- The line of a refusal: a letter and a number, its line if it has one, and a text.
 abbrev pub refused_line : List ℕ → ℕ → Option ℕ → List ℕ → List ℕ
@@ -116,6 +117,7 @@ functions_end before =
 -- The line of each refusal.
 abbrev pub refusal_line : JobRefusal → List ℕ
 refusal_line (OtherRun refusal) = refusal_text refusal ++ codes " (the other run)\n"
+refusal_line (TraceLine fault line) = refused_line (codes "refused D") (line_fault fault).0 (Some line) (line_fault fault).1
 refusal_line (Script refusal) = commands.refusal_text refusal
 refusal_line (What fault) = refused_line (codes "refused V") (what_fault fault).0 None (what_fault fault).1
 refusal_line (Goal fault) = refused_line (codes "refused V") (goal_fault fault).0 None (goal_fault fault).1

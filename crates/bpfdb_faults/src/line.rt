@@ -52,6 +52,10 @@ fn put_refusal<E: Write>(
         JobRefusal::Load(fault) => put_program(errors, so_far, &Refusal::Load(*fault)),
         JobRefusal::Open(fault) => put_program(errors, so_far, &Refusal::Open(*fault)),
         JobRefusal::OtherRun(refusal) => put_other_run(errors, so_far, refusal),
+        JobRefusal::TraceLine(fault, line) => {
+            let (number, text) = (fault.number(), fault.text());
+            put_refused(errors, so_far, b"refused D", number, Some(*line), text)
+        }
         JobRefusal::Journal(fault) => {
             let (number, text) = (fault.number(), fault.text());
             put_refused(errors, so_far, b"refused J", number, None, text)

@@ -8,6 +8,7 @@ use bpf_suite::{Refusal as ProgramRefusal, SectionFault};
 use bpf_text::AsmFault;
 use bpf_whynot::GoalFault;
 use bpfdb_commands::Refusal;
+use trace_lines::LineFault;
 
 /// Why a job is refused, in the order in which it is looked at.
 #[derive(Clone, Copy)]
@@ -22,6 +23,8 @@ pub enum JobRefusal<'a> {
     Open(OpenFault),
     /// The other run of `diff` can't be made, by its program or its context.
     OtherRun(ProgramRefusal),
+    /// The trace of another machine has this fault, in this line.
+    TraceLine(LineFault, usize),
     /// The journal can't be opened.
     Journal(JournalFault),
     /// A line of the script is refused.

@@ -7,7 +7,7 @@ use Rattle.bpfdb_jobs.specs.Jobs.{OpensSession}
 use Rattle.bpfdb_jobs.specs.Refusals.{Refuses, RefusesArrival, RefusesMachine, RefusesOrigin, RefusesProgram, RefusesWhynot}
 use Rattle.bpfdb_jobs.specs.declared.job.Job.{Job}
 use Rattle.bpfdb_faults.specs.declared.refusal.JobRefusal.{JobRefusal}
-use Rattle.bpfdb_faults.specs.declared.refusal.JobRefusal.TheVariants.{Maps, Listing, Load, Open, OtherRun, Journal, What, Goal, Object, Functions, Tests, NoTest, ManyTests, Script}
+use Rattle.bpfdb_faults.specs.declared.refusal.JobRefusal.TheVariants.{Maps, Listing, Load, Open, OtherRun, TraceLine, Journal, What, Goal, Object, Functions, Tests, NoTest, ManyTests, Script}
 
 -- a refusal of a program is one of a machine on it, and that one of a session over it
 pub program-machine : (job : Job) (refusal : JobRefusal) → RefusesProgram job refusal → RefusesMachine job refusal
@@ -16,6 +16,7 @@ program-machine job (Listing fault) p = p
 program-machine job (Load fault) p = p
 program-machine job (Open fault) p = absurd p
 program-machine job (OtherRun refusal) p = absurd p
+program-machine job (TraceLine fault line) p = absurd p
 program-machine job (Journal fault) p = absurd p
 program-machine job (Script refusal) p = absurd p
 program-machine job (What fault) p = absurd p
@@ -32,6 +33,7 @@ machine-session job (Listing fault) p = p
 machine-session job (Load fault) p = p
 machine-session job (Open fault) p = p
 machine-session job (OtherRun refusal) p = absurd p
+machine-session job (TraceLine fault line) p = absurd p
 machine-session job (Journal fault) p = absurd p
 machine-session job (Script refusal) p = absurd p
 machine-session job (What fault) p = absurd p
@@ -49,6 +51,7 @@ session-arrival job (Listing fault) p = p
 session-arrival job (Load fault) p = p
 session-arrival job (Open fault) p = p
 session-arrival job (OtherRun refusal) p = p
+session-arrival job (TraceLine fault line) p = p
 session-arrival job (Journal fault) p = p
 session-arrival job (Script refusal) p = absurd p
 session-arrival job (What fault) p = p
@@ -65,6 +68,7 @@ arrival-origin job (Listing fault) p = p
 arrival-origin job (Load fault) p = p
 arrival-origin job (Open fault) p = p
 arrival-origin job (OtherRun refusal) p = p
+arrival-origin job (TraceLine fault line) p = p
 arrival-origin job (Journal fault) p = p
 arrival-origin job (Script refusal) p = p
 arrival-origin job (What fault) p = absurd p
@@ -81,6 +85,7 @@ arrival-whynot job (Listing fault) p = p
 arrival-whynot job (Load fault) p = p
 arrival-whynot job (Open fault) p = p
 arrival-whynot job (OtherRun refusal) p = p
+arrival-whynot job (TraceLine fault line) p = p
 arrival-whynot job (Journal fault) p = p
 arrival-whynot job (Script refusal) p = p
 arrival-whynot job (What fault) p = p
@@ -98,6 +103,7 @@ session-refused job (Listing fault) p = refl
 session-refused job (Load fault) p = refl
 session-refused job (Open fault) p = refl
 session-refused job (OtherRun refusal) p = absurd p
+session-refused job (TraceLine fault line) p = absurd p
 session-refused job (Journal fault) p = refl
 session-refused job (Script refusal) p = absurd p
 session-refused job (What fault) p = absurd p

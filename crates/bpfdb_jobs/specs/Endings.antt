@@ -1,5 +1,5 @@
 -- How a job ends, as it stands on reader, writer and standard error.
-use Rattle.std.specs.Prelude.{◌≡◌, ℕ, List, ⊤}
+use Rattle.std.specs.Prelude.{◌≡◌, ℕ, List, true, ⊤}
 use Rattle.bpf_isa.specs.Programs.{Checked}
 use Rattle.bpf_session.specs.Runs.{FailsBy}
 use Rattle.bpf_session.specs.declared.fault.RunFault.{RunFault}
@@ -12,13 +12,14 @@ use Rattle.bpfdb_faults.specs.declared.fault.JobFault.TheVariants as fault
 use Rattle.bpfdb_jobs.specs.declared.job.Job.{Job}
 use Rattle.bpfdb_faults.specs.declared.refusal.JobRefusal.{JobRefusal}
 use Rattle.bpfdb_options.specs.declared.subcommand.Subcommand.{Subcommand}
-use Rattle.bpfdb_options.specs.declared.subcommand.Subcommand.TheVariants.{Disasm, Trace}
+use Rattle.bpfdb_options.specs.declared.subcommand.Subcommand.TheVariants.{Diff, Disasm, Trace}
 
 -- Subcommands for which memory may run out where no refusal says so.
-abbrev pub MayExhaust : Subcommand → Type 0
-MayExhaust Disasm = ⊤
-MayExhaust Trace = ⊤
-MayExhaust subcommand = ⊥
+abbrev pub MayExhaust : Subcommand → Job → Type 0
+MayExhaust Disasm job = ⊤
+MayExhaust Trace job = ⊤
+MayExhaust Diff job = job.options.other_is_trace ≡ true
+MayExhaust subcommand job = ⊥
 
 -- How a job ends that prints: all was printed; or it was refused; or memory ran out, before anything was written; or standard output failed,
 -- which got a beginning; or standard error failed while it was told what follows the output.
@@ -27,7 +28,7 @@ pub data EndsPrinted {W E : Type 0} (subcommand : Subcommand) (job : Job) (write
       → EndsPrinted subcommand job writer errors status
   Refused : (refusal : JobRefusal) → RefusesAs subcommand job refusal → writer.new ≡ writer.old → Told errors (line_of (fault.Refused refusal))
       → status ≡ 2 → EndsPrinted subcommand job writer errors status
-  Exhausted : (a : Print) → Prints subcommand job a → MayExhaust subcommand → writer.new ≡ writer.old → Told errors (line_of fault.Memory)
+  Exhausted : (a : Print) → Prints subcommand job a → MayExhaust subcommand job → writer.new ≡ writer.old → Told errors (line_of fault.Memory)
       → status ≡ 2 → EndsPrinted subcommand job writer errors status
   OutLost : (a : Print) → Prints subcommand job a → Loses writer a.out → Told errors (line_of fault.Output) → status ≡ 2
       → EndsPrinted subcommand job writer errors status

@@ -3,6 +3,10 @@ use Rattle.std.specs.Prelude.{◌≡◌, ◌≤◌, ℕ, Bool, true, false, List
 use Rattle.std.specs.Borrow.{Bor}
 use Rattle.bpf_entries.specs.Keeping.{IsSize}
 use Rattle.bpf_diff.specs.Differences.{diff_text, end_alike}
+use Rattle.bpf_against.specs.Against.{against_text, tells_run}
+use Rattle.trace_lines.specs.Faults.{bad_line}
+use Rattle.trace_lines.specs.Forms.{form_in, told}
+use Rattle.trace_lines.specs.declared.form.Form.{Form}
 use Rattle.bpf_entries.specs.declared.status.Status.{Status}
 use Rattle.bpf_entries.specs.declared.status.Status.TheVariants as status
 use Rattle.bpf_isa.specs.Maps.{IsMapList, items_of, shape_of}
@@ -243,6 +247,30 @@ diff_status same = if same then 0 else 1
 abbrev pub diff_print : ℕ → State → State → Print
 diff_print limit x y = record { out = Some (diff_text limit x y); err = None; status = diff_status (end_alike limit x y) }
 
+-- Or the first step that the trace of another machine, which is the other file, tells otherwise, with status 0 where it tells the whole run.
+abbrev pub against_print : Form → ℕ → State → List (List ℕ) → Print
+against_print form limit x lines = record {
+  out = Some (against_text form limit x lines);
+  err = None;
+  status = diff_status (tells_run form limit x lines);
+}
+
+abbrev pub RunsPrint : Job → Print → Type 0
+RunsPrint job a = (code : Checked) × (other : Job) × (second : Checked) × Opens job code × IsOtherRun job other × Opens other second
+    × (a ≡ diff_print job.options.limit (initial code job.context.now) (initial second other.context.now))
+
+pub record AgainstPrints (job : Job) (a : Print) : Type 0 where
+  pub code : Checked
+  pub opens : Opens job code
+  pub form : Form
+  pub has : form_in (told (other_bytes job.other)) ≡ Some form
+  pub clear : bad_line (other_bytes job.other) ≡ None
+  pub prints : a ≡ against_print form job.options.limit (initial code job.context.now) (told (other_bytes job.other))
+
+abbrev pub DiffPrints : Bool → Job → Print → Type 0
+DiffPrints true job a = AgainstPrints job a
+DiffPrints false job a = RunsPrint job a
+
 -- `check`: how many instructions, and in how many slots.
 unfoldable pub check_line : Checked → List ℕ
 check_line code =
@@ -291,8 +319,7 @@ Prints Origin job a = (code : Checked) × (at : Arrival) × (what : Option What)
 Prints Whynot job a = (code : Checked) × (at : Arrival) × (goals : List ℕ) × (can : ℕ → List ℕ → Bool) × OpensSession job code
     × (arrival_of job code ≡ Ok at) × (goals_in at.point.state.program (asked_of job) ≡ Ok goals)
     × TellsReach at.point.state.program goals can × (a ≡ whynot_print job goals can at)
-Prints Diff job a = (code : Checked) × (other : Job) × (second : Checked) × Opens job code × IsOtherRun job other × Opens other second
-    × (a ≡ diff_print job.options.limit (initial code job.context.now) (initial second other.context.now))
+Prints Diff job a = DiffPrints job.options.other_is_trace job a
 Prints Gdb job a = ⊥
 Prints Test job a = ⊥
 Prints Asm job a = (words : List ℕ) × IsListing job.file.now words × (a ≡ printed words)

@@ -28,11 +28,12 @@ use Rattle.bpf_suite.specs.declared.fault.FileFault.TheVariants.{Line}
 use Rattle.bpf_steps.specs.Opening.{Refused}
 use Rattle.bpf_ring.specs.Opening.{RefusesSize}
 use Rattle.bpf_whynot.specs.Asked.{goals_in}
-use Rattle.bpfdb_jobs.specs.Jobs.{HasMaps, HasWords, IsObjectOf, IsProgramOf, ListsStubs, IsOtherRun, Opens, OpensSession, arrival_of, asked_of, link_of, others_of, section_of, stubs_of}
+use Rattle.trace_lines.specs.Faults.{bad_line}
+use Rattle.bpfdb_jobs.specs.Jobs.{HasMaps, HasWords, IsObjectOf, IsProgramOf, ListsStubs, IsOtherRun, Opens, OpensSession, arrival_of, asked_of, link_of, other_bytes, others_of, section_of, stubs_of}
 use Rattle.bpfdb_jobs.specs.Origins.{Arrival, RefusesWhat}
 use Rattle.bpfdb_jobs.specs.declared.job.Job.{Job}
 use Rattle.bpfdb_faults.specs.declared.refusal.JobRefusal.{JobRefusal}
-use Rattle.bpfdb_faults.specs.declared.refusal.JobRefusal.TheVariants.{Maps, Listing, Load, Open, OtherRun, Journal, What, Goal, Object, Functions, Tests, NoTest, ManyTests, Script}
+use Rattle.bpfdb_faults.specs.declared.refusal.JobRefusal.TheVariants.{Maps, Listing, Load, Open, OtherRun, TraceLine, Journal, What, Goal, Object, Functions, Tests, NoTest, ManyTests, Script}
 use Rattle.bpfdb_options.specs.declared.subcommand.Subcommand.{Subcommand}
 use Rattle.bpfdb_options.specs.declared.subcommand.Subcommand.TheVariants.{Run, Trace, Debug, Origin, Whynot, Diff, Gdb, Asm, Disasm, Lines, Check, Link, Test}
 
@@ -52,6 +53,7 @@ Refuses job (Load fault) = (shapes : List MapShape) × HasMaps job shapes
 Refuses job (Open fault) = (code : Checked) × IsProgramOf job code × Refused job.context.now fault
 Refuses job (Journal fault) = (code : Checked) × Opens job code × RefusesSize job.options.journal fault
 Refuses job (OtherRun refusal) = ⊥
+Refuses job (TraceLine fault line) = ⊥
 Refuses job (Script refusal) = ⊥
 Refuses job (What fault) = ⊥
 Refuses job (Goal fault) = ⊥
@@ -94,9 +96,22 @@ RefusesOther other (program.Load fault) = RefusesMachine other (Load fault)
 RefusesOther other (program.Open fault) = RefusesMachine other (Open fault)
 RefusesOther other (program.NoCell map index) = ⊥
 
+abbrev pub RefusesRuns : Job → JobRefusal → Type 0
+RefusesRuns job (OtherRun refusal) = (code : Checked) × (other : Job) × Opens job code × IsOtherRun job other × RefusesOther other refusal
+RefusesRuns job refusal = RefusesMachine job refusal
+
+-- Where the other side is a trace, it looks at that one's lines.
+abbrev pub RefusesAgainst : Job → JobRefusal → Type 0
+RefusesAgainst job (TraceLine fault line) = (code : Checked) × Opens job code
+    × (bad_line (other_bytes job.other) ≡ Some (record { fault = fault; line = line }))
+RefusesAgainst job refusal = RefusesMachine job refusal
+
+abbrev pub RefusesEither : Bool → Job → JobRefusal → Type 0
+RefusesEither true job refusal = RefusesAgainst job refusal
+RefusesEither false job refusal = RefusesRuns job refusal
+
 abbrev pub RefusesDiff : Job → JobRefusal → Type 0
-RefusesDiff job (OtherRun refusal) = (code : Checked) × (other : Job) × Opens job code × IsOtherRun job other × RefusesOther other refusal
-RefusesDiff job refusal = RefusesMachine job refusal
+RefusesDiff job refusal = RefusesEither job.options.other_is_trace job refusal
 
 abbrev pub RefusesListing : Job → JobRefusal → Type 0
 RefusesListing job (Listing fault) = IsFaultOf job.file.now fault

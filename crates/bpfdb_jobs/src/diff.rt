@@ -1,5 +1,5 @@
 //! What a job of `diff` does.
-ghost use Rattle.std.specs.Prelude.{◌≡◌, ◌≤◌, IfErr, IfOk, OnErr, OnOk};
+ghost use Rattle.std.specs.Prelude.{◌≡◌, ◌≤◌, IfErr, IfOk, OnErr, OnOk, false};
 ghost use Rattle.bpf_isa.specs.Programs.{Checked};
 ghost use Rattle.bpf_steps.specs.State.{initial};
 ghost use Rattle.bpfdb_jobs.specs.Endings.{EndsPrinted};
@@ -10,6 +10,7 @@ ghost use Rattle.bpfdb_faults.specs.Faults.{output_line};
 ghost use Rattle.bpfdb_faults.specs.Streams.{Told, stream};
 ghost use Rattle.bpfdb_options.specs.declared.subcommand.Subcommand.TheVariants.{Diff};
 
+use crate::against::against_job;
 use crate::job::Job;
 use crate::opening::machine_of;
 use bpf_diff::put_diff;
@@ -21,13 +22,34 @@ use std::alloc::Global;
 use std::io::Write;
 
 /// Runs two programs, or one on two contexts, step by step, and tells where they part and how they
-/// end.
+/// end; or runs one along the trace of another machine, and tells the first step that it tells
+/// otherwise.
 pub fn diff_job<W: Write, E: Write>(
     alloc: Global,
     job: &Job<'_>,
     writer: &mut Counted<W>,
     errors: &mut Counted<E>,
 ) -> u8
+    ensures does { EndsPrinted Diff job.now (stream W.contents writer.old writer.new)
+        (stream E.contents errors.old errors.new) result }
+    ensures status { result ≤ 2 }
+{
+    if job.options.other_is_trace {
+        against_job(alloc, job, writer, errors)
+    } else {
+        runs_job(alloc, job, writer, errors)
+    }
+}
+
+/// Runs two programs, or one on two contexts, step by step, and tells where they part and how they
+/// end.
+fn runs_job<W: Write, E: Write>(
+    alloc: Global,
+    job: &Job<'_>,
+    writer: &mut Counted<W>,
+    errors: &mut Counted<E>,
+) -> u8
+    requires { job.now.options.other_is_trace ≡ false }
     ensures does { EndsPrinted Diff job.now (stream W.contents writer.old writer.new)
         (stream E.contents errors.old errors.new) result }
     ensures status { result ≤ 2 }
@@ -49,7 +71,11 @@ pub fn diff_job<W: Write, E: Write>(
 }
 
 /// The exit status of two runs that were compared, and told or not.
-fn end_of<E: Write>(written: Result<(), WriteFault>, is_same: bool, errors: &mut Counted<E>) -> u8
+pub fn end_of<E: Write>(
+    written: Result<(), WriteFault>,
+    is_same: bool,
+    errors: &mut Counted<E>,
+) -> u8
     ensures ok { OnOk written ((errors.new ≡ errors.old) × (result ≡ diff_status is_same)) }
     ensures err { OnErr written (Told (stream E.contents errors.old errors.new) output_line
         × (result ≡ 2)) }
@@ -102,7 +128,7 @@ fn other_run<'a>(job: &Job<'a>) -> Job<'a>
 }
 
 /// The bytes of the other file.
-fn bytes_of<'a>(job: &Job<'a>) -> &'a [u8]
+pub fn bytes_of<'a>(job: &Job<'a>) -> &'a [u8]
     ensures { result.now ≡ other_bytes job.now.other }
 {
     match job.other {

@@ -15,7 +15,7 @@ pub struct Job<'a> {
     pub context: &'a [u8],
     /// The bytes of the other file, where there is one: of the script that is obeyed before `origin`
     /// asks, without which the program runs; of the object with functions that `link` joins to FILE;
-    /// or of the second program or context of `diff`.
+    /// or of the second program or context of `diff`, or of its trace.
     pub other: Option<&'a [u8]>,
     /// The bytes of further such objects, which are joined behind that.
     pub further: &'a [Vec<u8>],

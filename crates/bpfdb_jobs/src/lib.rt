@@ -1,6 +1,7 @@
 //! Jobs: work on the bytes of files, done over a reader, a writer and standard error.
 #![tactic(auto)]
 
+mod against;
 mod check;
 mod debug;
 mod diff;

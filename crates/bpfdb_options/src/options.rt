@@ -59,6 +59,8 @@ pub struct Options<'a> {
     pub alone: bool,
     /// The other file is a second context, and not a second program.
     pub other_is_context: bool,
+    /// The other file is a trace of another machine, and no run of this one.
+    pub other_is_trace: bool,
     /// The name of the tests that are run; without it all are.
     pub only: Option<&'a str>,
     /// The part that is shown of the one test that is asked for; without it tests are run.
@@ -91,6 +93,7 @@ pub const NO_OPTIONS: Options<'static> = Options {
     addresses: false,
     alone: false,
     other_is_context: false,
+    other_is_trace: false,
     only: None,
     show: None,
     covers: false,

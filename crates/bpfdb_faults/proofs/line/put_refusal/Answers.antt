@@ -17,3 +17,8 @@ pub returns-in-Tests : goal.returns-in-Tests
 returns-in-Tests g c = λ first front known.
     rw c.in-Tests.is
     (rw (c.number-number-in-Tests.ensures, c.text-text-in-Tests.ensures) at (c.put_refused-in-Tests.ensures first front known))
+
+pub returns-in-TraceLine : goal.returns-in-TraceLine
+returns-in-TraceLine g c = λ first front known.
+    rw c.in-TraceLine.is
+    (rw (c.number-number.ensures, c.text-text.ensures) at (c.put_refused.ensures first front known))

@@ -1,0 +1,4 @@
+pub mod Telling
+pub mod Along
+pub mod Lines
+pub mod Noting

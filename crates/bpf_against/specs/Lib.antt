@@ -1,0 +1,3 @@
+pub mod Writers
+pub mod Against
+pub mod Noted

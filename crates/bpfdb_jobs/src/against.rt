@@ -1,0 +1,49 @@
+//! What a job of `diff` does whose other side is the trace of another machine.
+ghost use Rattle.std.specs.Prelude.{◌≡◌, ◌≤◌, true};
+ghost use Rattle.bpfdb_faults.specs.Streams.{stream};
+ghost use Rattle.bpfdb_jobs.specs.Endings.{EndsPrinted};
+ghost use Rattle.bpfdb_options.specs.declared.subcommand.Subcommand.TheVariants.{Diff};
+
+use crate::diff::{bytes_of, end_of};
+use crate::job::Job;
+use crate::opening::machine_of;
+use bpf_against::put_against;
+use bpfdb_faults::{JobFault, JobRefusal, flush_after, give_up};
+use counted_io::Counted;
+use std::alloc::Global;
+use std::io::Write;
+use trace_lines::form_of_trace;
+
+/// Runs a program along a trace, and tells the first step that it tells otherwise.
+pub fn against_job<W: Write, E: Write>(
+    alloc: Global,
+    job: &Job<'_>,
+    writer: &mut Counted<W>,
+    errors: &mut Counted<E>,
+) -> u8
+    requires { job.now.options.other_is_trace ≡ true }
+    ensures does { EndsPrinted Diff job.now (stream W.contents writer.old writer.new)
+        (stream E.contents errors.old errors.new) result }
+    ensures status { result ≤ 2 }
+{
+    let mut cpu = match machine_of(alloc, job) {
+        Ok(cpu) => cpu,
+        Err(refusal) => return give_up(errors, &JobFault::Refused(refusal)),
+    };
+    let file = bytes_of(job);
+    let form = match form_of_trace(file) {
+        Ok(form) => form,
+        Err(bad) => {
+            let refusal = JobRefusal::TraceLine(bad.fault, bad.line);
+            return give_up(errors, &JobFault::Refused(refusal));
+        }
+    };
+    let limit = job.options.limit;
+    match put_against(alloc, writer, Ok(()), &mut cpu, form, file, limit) {
+        Ok(against) => {
+            let written = flush_after(writer, against.written);
+            end_of(written, against.tells_run, errors)
+        }
+        Err(_) => give_up(errors, &JobFault::Memory),
+    }
+}
