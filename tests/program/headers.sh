@@ -212,7 +212,7 @@ PACKETS
         unfit "redefinition of 'xdp_md'" $architecture -I"$parts/headers" -DBPFDB_XDP=no_arp "$parts/headers/relocated.c"
 
         # Without the header `link` refuses them, and takes them with --packet: the verdicts are those of the header.
-        kernels="E55: entry takes the kernel's own struct of a packet: link --packet, or clang -include bpfdb.h, gives it one of the machine's"
+        kernels="E55: entry takes the kernel's own struct of a packet: link --packet, in tests -- struct, or clang -include bpfdb.h, gives it one of the machine's"
         for row in "firewall xdp $top/examples/firewall/firewall.c" "filter xdp $top/examples/xdp/xdp.c" "classify tc $parts/headers/classifier.c"; do
             # (no name here has a blank within)
             set -- $row

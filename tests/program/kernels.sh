@@ -26,7 +26,7 @@ no_field="E56: access to no field of the packet's struct"
 mixed="E57: access to the packet's struct on some ways, to something else on others"
 arithmetic="E58: arithmetic on the address of the packet's struct"
 escapes="E59: address of the packet's struct is stored, passed or returned"
-kernels="refused E55: entry takes the kernel's own struct of a packet: link --packet, or clang -include bpfdb.h, gives it one of the machine's"
+kernels="refused E55: entry takes the kernel's own struct of a packet: link --packet, in tests -- struct, or clang -include bpfdb.h, gives it one of the machine's"
 
 compilers=
 if has_clang 'link --packet'; then

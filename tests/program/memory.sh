@@ -44,7 +44,7 @@ lacks() {
     case $line in
         'out of memory' | 'refused A7: out of memory' | 'refused C13: out of memory' | 'refused O2: out of memory' | \
             'refused J2: out of memory' | 'refused E26: out of memory' | 'refused E26: out of memory (--with)' | \
-            'refused E26: out of memory (--with, object 2)' | \
+            'refused E26: out of memory (--with, object 2)' | 'refused E26: out of memory (the object in line 1)' | \
             'refused A7: out of memory (the other run)' | 'refused C13: out of memory (the other run)' | 'refused O2: out of memory (the other run)')
             echo "$line" >> met ;;
         *) line='out of memory' more=none ;;
@@ -266,6 +266,14 @@ said 'bpfdb test --cover' '0 lines\n1 lines\n2 lines\n9 lines\n'
 wants "$plain" 0 'set cell 0 1 0102\ncontinue\n' '' test --show script --only b two.test
 wants "$plain" 0 '--maps=2x2\n--steps=1000000\n' '' test --show options --only a two.test
 wants "$plain" 0 'set reg r3 8\nset reg r4 1\ncontinue\n' '' test --show script kind.test
+# Files that sections name, and a program that is linked.
+printf 'abc' > bytes
+printf -- '-- object point.o\n-- stub 5=1\n-- mem-file bytes\n-- result\n3\n' > named.test
+"$program" link point.o > linked 2> told
+wants "${plain}refused E26: out of memory (the object in line 1)\n" 0 "$(od -An -v -b linked | tr -d '\n' | sed 's/ /\\0/g')" '' test --show program named.test
+wants "${plain}refused E26: out of memory (the object in line 1)\n" 0 'abc' '' test --show context named.test
+printf -- '-- listing\nexit\n-- packet %s 1\n-- result\n0\n' "$top/examples/xdp/packets.pcap" > named.test
+wants "$plain" 0 '--steps=1000000\n' '' test --anywhere --show options named.test
 wants "$plain" 2 '' 'cannot read missing\n' run missing
 wants "$plain" 0 "$(text "$parts/help/bpfdb.txt")" '' --help
 wants "$plain" 0 "$(version)" '' --version

@@ -11,9 +11,9 @@ use Rattle.counted_io.specs.Lines.{is_blank, trim_start}
 use Rattle.counted_io.specs.Numerals.{natural, as_u64}
 use Rattle.shown_text.specs.Shown.{steers}
 
--- A blank or a line feed.
+-- A blank, or a line feed (10) or form feed (12).
 abbrev pub is_space : ℕ → Bool
-is_space b = is_blank b || b == 10
+is_space b = is_blank b || (b == 10 || b == 12)
 
 -- Without the spaces at the end, and on both sides.
 abbrev pub onto_trimmed : ℕ → List ℕ → List ℕ

@@ -1,5 +1,5 @@
 -- A test file: its sections, and its tests. bpfdb's own choice, after uBPF's test files.
-use Rattle.std.specs.Prelude.{ℕ, ◌+◌, Bool, ◌==◌, ◌&&◌, false, if◌then◌else◌, List, [], ◌∷◌, ◌++◌, codes, drop, map}
+use Rattle.std.specs.Prelude.{ℕ, ◌+◌, Bool, ◌==◌, ◌&&◌, ◌||◌, false, if◌then◌else◌, List, [], ◌∷◌, ◌++◌, codes, drop, map}
 use Rattle.std.specs.List.{starts_with, before_first, after_first}
 use Rattle.bpf_suite.specs.Bodies.{trimmed}
 use Rattle.bpf_suite.specs.Kinds.{is_name, kind_named}
@@ -9,10 +9,15 @@ use Rattle.bpf_suite.specs.declared.section.Section.{Section}
 abbrev pub is_head : List ℕ → Bool
 is_head s = starts_with (λ a b. a == b) s (codes "--")
 
--- A line feed that a head follows.
+-- A line ends with a line feed (10); or with a form feed (12), which isn't counted: with one the lines end that bpfdb puts in place of a section
+-- that names a file, so that those behind it keep their numbers.
+abbrev pub ends_line : ℕ → Bool
+ends_line b = b == 10 || b == 12
+
+-- The end of a line that a head follows.
 abbrev pub is_cut : List ℕ → Bool
 is_cut [] = false
-is_cut (b ∷ s) = b == 10 && is_head s
+is_cut (b ∷ s) = ends_line b && is_head s
 
 -- A text up to the next head.
 abbrev pub until_head : List ℕ → List ℕ
@@ -27,19 +32,21 @@ front text = if is_head text then [] else until_head text
 abbrev pub section_of : ℕ → List ℕ → Section
 section_of line text = record {
   line = line;
-  kind = kind_named (trimmed (drop 2 (before_first (λ b. b == 10) text)));
-  body = after_first (λ b. b == 10) text;
+  kind = kind_named (trimmed (drop 2 (before_first ends_line text)));
+  body = after_first ends_line text;
 }
 
 -- The section at the beginning of a text, if it begins with a head.
 abbrev pub section_at : ℕ → List ℕ → List Section
 section_at line text = if is_head text then section_of line (until_head text) ∷ [] else []
 
--- The sections whose heads stand behind line feeds of a text that begins in a line.
+-- The sections whose heads stand behind ends of lines of a text that begins in a line.
 abbrev pub sections_behind : ℕ → List ℕ → List Section
 sections_behind line [] = []
 sections_behind line (b ∷ s) =
-    if b == 10 then section_at (line + 1) s ++ sections_behind (line + 1) s else sections_behind line s
+    if b == 10 then section_at (line + 1) s ++ sections_behind (line + 1) s
+    else if b == 12 then section_at line s ++ sections_behind line s
+    else sections_behind line s
 
 -- The sections of a file.
 abbrev pub sections : List ℕ → List Section

@@ -14,11 +14,11 @@ use hex::{FromHexError, decode};
 use shown_text::steers;
 use std::alloc::{AllocError, Global};
 
-/// Whether a byte is a blank or a line feed.
+/// Whether a byte is a blank, a line feed or a form feed.
 fn is_space(byte: u8) -> bool
     ensures { result ≡ is_space byte }
 {
-    is_blank(byte) || byte == b'\n'
+    is_blank(byte) || (byte == b'\n' || byte == b'\x0c')
 }
 
 /// Where the first byte stands that is no space.

@@ -1,13 +1,12 @@
 //! The sections of a test file.
 ghost use Rattle.std.specs.Prelude.{◌≡◌, ◌≤◌, ◌<◌, ◌+◌, ◌-◌, ◌^◌, ◌==◌, ◌++◌, drop, true, Decides, IfOk, OnOk, length, position};
-ghost use Rattle.std.specs.List.{position_or_len};
+ghost use Rattle.std.specs.List.{after_first, before_first, position_or_len};
 ghost use Rattle.bpf_suite.specs.Bodies.{trimmed};
-ghost use Rattle.bpf_suite.specs.Files.{front, is_cut, is_head, section_at, section_of, sections, sections_behind, until_head, until_name};
+ghost use Rattle.bpf_suite.specs.Files.{ends_line, front, is_cut, is_head, section_at, section_of, sections, sections_behind, until_head, until_name};
 ghost use Rattle.bpf_suite.specs.Kinds.{is_name, kind_named};
 
 use crate::body::trimmed;
 use crate::kind::{Kind, Part};
-use counted_io::sides;
 use std::alloc::{AllocError, Global};
 use std::marker::Model;
 
@@ -85,12 +84,19 @@ fn is_head(text: &[u8]) -> bool
     text.starts_with(b"--")
 }
 
-/// Whether a text begins with a line feed that a head follows.
+/// Whether a byte ends a line: a line feed, or a form feed, which isn't counted.
+fn ends_line(byte: u8) -> bool
+    ensures { result ≡ ends_line byte }
+{
+    byte == b'\n' || byte == b'\x0c'
+}
+
+/// Whether a text begins with the end of a line that a head follows.
 fn is_cut(text: &[u8]) -> bool
     ensures { result ≡ is_cut text.now }
 {
     match text {
-        [first, rest @ ..] => *first == b'\n' && is_head(rest),
+        [first, rest @ ..] => ends_line(*first) && is_head(rest),
         [] => false,
     }
 }
@@ -114,12 +120,41 @@ pub fn front(text: &[u8]) -> &[u8]
     if is_head(text) { &[] } else { until_head(text) }
 }
 
+/// Where the end of a line first stands.
+fn end_position(text: &[u8]) -> Option<usize>
+    ensures { result ≡ position ends_line text.now }
+{
+    text.iter().position(|byte| ends_line(*byte))
+}
+
+/// Where the end of a line first stands, or the length.
+#[tactic(auto, using(counted_io::proofs::Places::unwrap_or_position))]
+fn find_end(text: &[u8]) -> usize
+    ensures value { result ≡ position_or_len ends_line text.now }
+    ensures within { result ≤ length text.now }
+{
+    end_position(text).unwrap_or(text.len())
+}
+
+/// What stands in the first line of a text, and what behind it.
+fn line_sides(text: &[u8]) -> (&[u8], &[u8])
+    ensures before { result.0.now ≡ before_first ends_line text.now }
+    ensures after { result.1.now ≡ after_first ends_line text.now }
+{
+    let end = find_end(text);
+    if end < text.len() {
+        (&text[..end], &text[end + 1..])
+    } else {
+        (text, &[])
+    }
+}
+
 /// The section that a text is, at a line.
 fn section_of(line: usize, text: &[u8]) -> Section<'_>
     requires { is_head text.now ≡ true }
     ensures { result ≡ section_of line text.now }
 {
-    let (head, body) = sides(text, b'\n');
+    let (head, body) = line_sides(text);
     Section {
         line,
         kind: kind_in(head),
@@ -168,8 +203,8 @@ pub fn sections(alloc: Global, text: &[u8]) -> Result<Vec<Section<'_>>, AllocErr
     Ok(found)
 }
 
-/// Adds the section whose head stands behind the first byte of a text, if that is a line feed and a
-/// head follows. Answers the line that follows the byte.
+/// Adds the section whose head stands behind the first byte of a text, if that ends a line and a head
+/// follows. Answers the line that follows the byte.
 fn push_behind<'a>(
     found: &mut Vec<Section<'a>>,
     line: usize,
@@ -185,6 +220,10 @@ fn push_behind<'a>(
         [b'\n', rest @ ..] => {
             push_at(found, line + 1, rest)?;
             Ok(line + 1)
+        }
+        [b'\x0c', rest @ ..] => {
+            push_at(found, line, rest)?;
+            Ok(line)
         }
         _ => Ok(line),
     }

@@ -8,7 +8,7 @@ use Rattle.bpfdb_jobs.proofs.Statuses.{ends_with}
 use Rattle.bpfdb_jobs.specs.declared.job.Job.{Job}
 use Rattle.bpfdb_options.specs.declared.subcommand.Subcommand.{Subcommand}
 use Rattle.bpfdb_options.specs.declared.subcommand.Subcommand.TheVariants.{Debug}
-use Rattle.bpfdb.specs.Done.{DoesCounted, DoesOver, DoesPlan, Done, EndsPlanWith, Over, Uncounted, Unread, Unturned, With}
+use Rattle.bpfdb.specs.Done.{DoesCounted, DoesOver, DoesPlan, DoesReplaced, Done, EndsPlanWith, Over, Replaced, Uncounted, Unread, Unreplaced, Unturned, With}
 
 -- It is that of the plan's job, unless it is 2.
 ends_over_with : {R W E : Type 0} (reader : Stream R) (writer : Stream W) (errors : Stream E) (at_terminal : Bool) (plan : Plan)
@@ -34,12 +34,20 @@ ends_counted_with reader writer errors at_terminal plan of_file of_path of_other
 ends_counted_with reader writer errors at_terminal plan of_file of_path of_other of_further status (With bytes counted does) other =
     ends_over_with reader writer errors at_terminal plan bytes of_path of_other of_further status does other
 
+ends_replaced_with : {R W E : Type 0} (reader : Stream R) (writer : Stream W) (errors : Stream E) (bytes_at : List ℕ → Option (List ℕ))
+    (at_terminal : Bool) (plan : Plan) (of_file of_path of_other : List ℕ) (of_further : List (List ℕ)) (status : ℕ)
+    → DoesReplaced bytes_at at_terminal plan of_file of_path of_other of_further reader writer errors status → status ≢ 2 → EndsPlanWith plan status
+ends_replaced_with reader writer errors bytes_at at_terminal plan of_file of_path of_other of_further status (Unreplaced fault why same kept told two) other =
+    absurd (other two)
+ends_replaced_with reader writer errors bytes_at at_terminal plan of_file of_path of_other of_further status (Replaced bytes tests does) other =
+    ends_counted_with reader writer errors at_terminal plan bytes of_path of_other of_further status does other
+
 pub ends_plan_with : {R W E : Type 0} (reader : Stream R) (writer : Stream W) (errors : Stream E) (bytes_at : List ℕ → Option (List ℕ))
     (at_terminal : Bool) (plan : Plan) (status : ℕ) → DoesPlan bytes_at at_terminal plan reader writer errors status → status ≢ 2
     → EndsPlanWith plan status
 ends_plan_with reader writer errors bytes_at at_terminal plan status (Unread fault why same kept told two) other = absurd (other two)
 ends_plan_with reader writer errors bytes_at at_terminal plan status (Done of_file of_path of_other of_further are does) other =
-    ends_counted_with reader writer errors at_terminal plan of_file of_path of_other of_further status does other
+    ends_replaced_with reader writer errors bytes_at at_terminal plan of_file of_path of_other of_further status does other
 
 -- Of a job of `debug` it is 0 then.
 debug_ends_as : (links : Bool) (job : Job) (status : ℕ) → EndsAs links Debug job status → status ≡ 0

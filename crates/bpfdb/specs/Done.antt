@@ -12,6 +12,8 @@ use Rattle.bpfdb_jobs.specs.declared.job.Job.{Job}
 use Rattle.bpfdb.specs.Counts.{HasCounts, IsUncounted}
 use Rattle.bpfdb.specs.Files.{AreRead, IsUnread}
 use Rattle.bpfdb.specs.Jobs.{IsJobOf}
+use Rattle.bpfdb.specs.Tests.{IsTestsFor, IsUnreplaced, files_line}
+use Rattle.suite_files.specs.declared.fault.FilesFault.{FilesFault}
 use Rattle.bpfdb.specs.Turns.{IsFileFor, IsUnturned}
 use Rattle.counted_io.specs.Counted.{Tally}
 
@@ -38,13 +40,24 @@ pub data DoesCounted {R W E : Type 0} (at_terminal : Bool) (plan : Plan) (of_fil
   Uncounted : (fault : JobFault) → IsUncounted plan of_file fault → reader.new ≡ reader.old → writer.new ≡ writer.old → Told errors (line_of fault)
       → status ≡ 2 → DoesCounted at_terminal plan of_file of_path of_other of_further reader writer errors status
 
+-- So it is with FILE as it is, or with the file of tests in which each section that names files is replaced; or why there is none is told, and
+-- nothing else happens.
+pub data DoesReplaced {R W E : Type 0} (bytes_at : List ℕ → Option (List ℕ)) (at_terminal : Bool) (plan : Plan) (of_file of_path of_other : List ℕ)
+    (of_further : List (List ℕ)) (reader : Stream R) (writer : Stream W) (errors : Stream E) (status : ℕ) : Type 0 where
+  Replaced : (bytes : List ℕ) → IsTestsFor bytes_at plan of_file bytes
+      → DoesCounted at_terminal plan bytes of_path of_other of_further reader writer errors status
+      → DoesReplaced bytes_at at_terminal plan of_file of_path of_other of_further reader writer errors status
+  Unreplaced : (fault : FilesFault) → IsUnreplaced plan of_file fault → reader.new ≡ reader.old → writer.new ≡ writer.old
+      → Told errors (files_line fault) → status ≡ 2
+      → DoesReplaced bytes_at at_terminal plan of_file of_path of_other of_further reader writer errors status
+
 -- Its files can't be read, which is told, and nothing else happens; or they are, and its job is done.
 pub data DoesPlan {R W E : Type 0} (bytes_at : List ℕ → Option (List ℕ)) (at_terminal : Bool) (plan : Plan) (reader : Stream R) (writer : Stream W)
     (errors : Stream E) (status : ℕ) : Type 0 where
   Unread : (fault : JobFault) → IsUnread bytes_at plan fault → reader.new ≡ reader.old → writer.new ≡ writer.old → Told errors (line_of fault)
       → status ≡ 2 → DoesPlan bytes_at at_terminal plan reader writer errors status
   Done : (of_file of_path of_other : List ℕ) → (of_further : List (List ℕ)) → AreRead bytes_at plan of_file of_path of_other of_further
-      → DoesCounted at_terminal plan of_file of_path of_other of_further reader writer errors status
+      → DoesReplaced bytes_at at_terminal plan of_file of_path of_other of_further reader writer errors status
       → DoesPlan bytes_at at_terminal plan reader writer errors status
 
 -- A status other than 2 is that of its job, over some bytes of its files.

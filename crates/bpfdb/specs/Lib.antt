@@ -1,6 +1,7 @@
 pub mod Counts
 pub mod Done
 pub mod Files
+pub mod Tests
 pub mod Turns
 pub mod Jobs
 pub mod Words

@@ -1,6 +1,6 @@
 //! What is done of a command line, over any files, reader and writers.
 ghost use Rattle.std.specs.Prelude.{◌≤◌};
-ghost use Rattle.bpfdb.specs.Done.{DoesCounted, DoesHinted, DoesOver, DoesPlan, Helps};
+ghost use Rattle.bpfdb.specs.Done.{DoesCounted, DoesHinted, DoesOver, DoesPlan, DoesReplaced, Helps};
 ghost use Rattle.bpfdb.specs.Files.{contents};
 ghost use Rattle.bpfdb.specs.Jobs.{IsJobOf};
 ghost use Rattle.bpfdb_jobs.specs.declared.job.Job.{Job};
@@ -11,6 +11,7 @@ ghost use Rattle.bpfdb_faults.specs.Streams.{stream};
 use crate::counts::{counted_file, refuse_counts};
 use crate::files::{kind_of, read_each, read_given, read_named};
 use crate::job::{Loaded, is_turned, job_of};
+use crate::tests::{is_test, place_of, refuse_tests};
 use crate::turns::{refuse_turns, turned_file};
 use bpfdb_cli::Plan;
 use bpfdb_faults::{JobFault, give_up};
@@ -20,6 +21,7 @@ use clap::Error;
 use counted_io::{Counted, WriteFault, write_text};
 use std::alloc::Global;
 use std::io::{Read, Write};
+use suite_files::replaced;
 
 /// Reads the files of a plan, FILE before PATH is opened, that before the other one, and that before
 /// the further ones; then does its job. Where standard error is a terminal, the job's hint follows,
@@ -61,7 +63,49 @@ pub fn do_plan<F: Opener, R: Read, W: Write, E: Write>(
         other: other.as_slice(),
         further: further.as_slice(),
     };
-    do_counted(alloc, plan, &loaded, at_terminal, reader, writer, errors)
+    do_replaced(
+        alloc,
+        files,
+        plan,
+        &loaded,
+        at_terminal,
+        reader,
+        writer,
+        errors,
+    )
+}
+
+/// Does a plan with the bytes of its files: over FILE, or over the file of tests in which what
+/// sections name is put in their place.
+fn do_replaced<F: Opener, R: Read, W: Write, E: Write>(
+    alloc: Global,
+    files: &F,
+    plan: &Plan<'_>,
+    loaded: &Loaded<'_>,
+    at_terminal: bool,
+    reader: &mut Counted<R>,
+    writer: &mut Counted<W>,
+    errors: &mut Counted<E>,
+) -> u8
+    requires limit { IsLimit plan.now.options.limit }
+    ensures does { DoesReplaced (F.bytes_at files.now) at_terminal plan.now loaded.now.file.now
+        loaded.now.context.now loaded.now.other.now (contents loaded.now.further.now)
+        (stream R.remaining reader.old reader.new) (stream W.contents writer.old writer.new)
+        (stream E.contents errors.old errors.new) result }
+    ensures status { result ≤ 2 }
+{
+    if !is_test(plan.subcommand) {
+        return do_counted(alloc, plan, loaded, at_terminal, reader, writer, errors);
+    }
+    let tests = match replaced(alloc, files, &place_of(plan), loaded.file) {
+        Ok(tests) => tests,
+        Err(fault) => return refuse_tests(&fault, errors),
+    };
+    let tested = Loaded {
+        file: tests.as_slice(),
+        ..*loaded
+    };
+    do_counted(alloc, plan, &tested, at_terminal, reader, writer, errors)
 }
 
 /// Does a plan with the bytes of its files: FILE as it is, or with other entries of its maps.

@@ -123,6 +123,7 @@ fn argument_of<'a>(alloc: Global, option: CliOption) -> Arg<'a>
             .value_name("OTHER")
             .help(help::OTHER),
         CliOption::Cover => flag(alloc, "cover", help::COVER),
+        CliOption::Anywhere => flag(alloc, "anywhere", help::ANYWHERE),
         CliOption::What => Arg::new(alloc, "what")
             .index(2)
             .value_name("WHAT")

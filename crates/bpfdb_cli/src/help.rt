@@ -491,6 +491,9 @@ the test. Example: --show program";
 /// `--cover`.
 pub const COVER: &str = "Tells which instructions and branches no test ran";
 
+/// `--anywhere`.
+pub const ANYWHERE: &str = "Reads files that tests name also outside of their folder";
+
 /// WHAT.
 pub const WHAT: &str = "r0 to r9, or ADDRESS:COUNT; without it r0, or a fault's address";
 

@@ -384,6 +384,7 @@ fn options_in<'a>(found: &ArgMatches<'a>) -> Option<Options<'a>>
         only: text_of(found, "only"),
         show,
         covers: is_given(text_of(found, "cover")),
+        anywhere: is_given(text_of(found, "anywhere")),
     })
 }
 

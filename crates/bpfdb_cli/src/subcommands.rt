@@ -66,6 +66,8 @@ pub(crate) enum CliOption {
     Other,
     /// `--cover`.
     Cover,
+    /// `--anywhere`.
+    Anywhere,
     /// WHAT, behind FILE.
     What,
     /// WHAT of `whynot`, which needs it.
@@ -321,7 +323,12 @@ pub(crate) const SUBCOMMANDS: [CliSubcommand<'static>; 13] = [
         about: help::TEST,
         long_about: help::TEST_LONG,
         example: help::TEST_EXAMPLE,
-        options: &[CliOption::Only, CliOption::Show, CliOption::Cover],
+        options: &[
+            CliOption::Only,
+            CliOption::Show,
+            CliOption::Cover,
+            CliOption::Anywhere,
+        ],
         file: help::TEST_FILE,
     },
 ];

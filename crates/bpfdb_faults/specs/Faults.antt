@@ -52,7 +52,7 @@ helpers_text helper others =
 
 -- Of an entry that takes the kernel's own struct it is what gives it one of the machine's.
 abbrev pub hint_of : LinkFault → List ℕ
-hint_of (linking.Context at) = codes ": link --packet, or clang -include bpfdb.h, gives it one of the machine's"
+hint_of (linking.Context at) = codes ": link --packet, in tests -- struct, or clang -include bpfdb.h, gives it one of the machine's"
 hint_of fault = []
 
 -- Of relocations of fields it is how many there are, and the option that leaves them; else the option that chooses a section or a function.

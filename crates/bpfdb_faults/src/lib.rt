@@ -9,6 +9,7 @@ mod refusal;
 mod report;
 
 pub use fault::JobFault;
+pub use line::put_object;
 pub use machine::open_machine;
 pub use refusal::JobRefusal;
 pub use report::{ended, flush_after, give_up, tell, tell_place, tell_usage, told_as, write_out};

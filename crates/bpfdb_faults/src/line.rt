@@ -135,7 +135,7 @@ fn put_refused<'a, E: Write>(
 }
 
 /// Writes the line of an object's fault, which ends so.
-fn put_object<E: Write>(
+pub fn put_object<E: Write>(
     errors: &mut Counted<E>,
     so_far: Result<(), WriteFault>,
     fault: &LinkFault,
@@ -259,7 +259,7 @@ fn put_hint<E: Write>(
         LinkFault::Context { .. } => put(
             errors,
             so_far,
-            b": link --packet, or clang -include bpfdb.h, gives it one of the machine's",
+            b": link --packet, in tests -- struct, or clang -include bpfdb.h, gives it one of the machine's",
         ),
         _ => put(errors, so_far, b""),
     }

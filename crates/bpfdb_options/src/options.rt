@@ -67,6 +67,9 @@ pub struct Options<'a> {
     pub show: Option<TestPart>,
     /// What ran of the programs is told behind the report on tests.
     pub covers: bool,
+    /// Files that sections of tests name may lie anywhere, and not only in the folder of the tests or
+    /// below.
+    pub anywhere: bool,
 }
 
 /// The options where each is absent.
@@ -97,4 +100,5 @@ pub const NO_OPTIONS: Options<'static> = Options {
     only: None,
     show: None,
     covers: false,
+    anywhere: false,
 };

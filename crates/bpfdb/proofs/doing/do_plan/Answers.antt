@@ -32,7 +32,7 @@ returns-clause-does g c =
     let file = rw c.kind_of.ensures at c.in-Ok.ensures.ok in
     let does =
     rw (c.as_slice-2.ensures.value, c.as_slice-3.ensures.value, c.as_slice-4.ensures.value, c.as_slice-5.ensures.value) at
-    c.do_counted.ensures.does in
+    c.do_replaced.ensures.does in
     Done c.in-Ok.file.items c.in-Ok-read_given.context.items c.in-Ok-read_given-2.other.items _
     (record {
       file = file;

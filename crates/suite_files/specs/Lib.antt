@@ -1,0 +1,6 @@
+pub mod Asks
+pub mod Faults
+pub mod Links
+pub mod Maps
+pub mod Replaced
+pub mod Shelves

@@ -1,0 +1,292 @@
+//! What stands in place of a piece.
+ghost use Rattle.std.specs.Prelude.{◌≡◌, ◌++◌, ◌<◌, [], IfOk, IfErr, get_or, length};
+ghost use Rattle.suite_files.specs.Asks.{Asks};
+ghost use Rattle.suite_files.specs.Links.{contents};
+ghost use Rattle.suite_files.specs.Replaced.{IsCopyFault, IsMemoryPut, IsOthersFault, IsPacketPut, IsProgramPut, IsPut, IsPutFault, ReadFirst, capture_name, packet_number, program_text, put_fault};
+ghost use Rattle.suite_files.specs.Shelves.{AreRead, IsFile};
+ghost use Rattle.suite_texts.specs.Heads.{head_of};
+ghost use Rattle.suite_texts.specs.Puts.{feeds, memory_text};
+
+use crate::asked::{Asked, asked_of};
+use crate::fault::NamedFault;
+use crate::linked::program_of;
+use crate::maps::maps_text;
+use crate::place::Place;
+use crate::shelf::{NameFault, Shelved, shelve};
+use bpf_join::ChainFault;
+use bpf_link::Linked;
+use bpfdb_files::Opener;
+use counted_io::{find_blank, natural, trim_start};
+use std::alloc::{AllocError, Global};
+use suite_texts::{Word, feeds, head_of, is_empty, memory_text, packet_in, words_text};
+
+/// Why there is nothing in place of a piece.
+#[derive(Drop)]
+pub enum PutFault {
+    Named(NamedFault),
+    Link(ChainFault),
+    Memory,
+}
+
+/// Why there is nothing in place of a piece whose file isn't there.
+fn fault_of(fault: NameFault) -> PutFault
+    ensures { result ≡ put_fault fault }
+{
+    match fault {
+        NameFault::Named(fault) => PutFault::Named(fault),
+        NameFault::Memory => PutFault::Memory,
+    }
+}
+
+/// A text with the line feeds of a piece behind it.
+fn with_feeds(alloc: Global, mut text: Vec<u8>, piece: &[u8]) -> Result<Vec<u8>, AllocError>
+    ensures { IfOk result (λ all. all.items ≡ text.items ++ feeds piece.now) }
+{
+    let lines = feeds(alloc, piece)?;
+    match text.extend_from_slice(lines.as_slice()) {
+        Ok(()) => Ok(text),
+        Err(_) => Err(AllocError),
+    }
+}
+
+/// A section with bytes of the context, in place of a piece.
+fn memory_put(alloc: Global, piece: &[u8], bytes: &[u8]) -> Result<Vec<u8>, AllocError>
+    ensures { IfOk result (λ put. put.items ≡ memory_text bytes.now ++ feeds piece.now) }
+{
+    let text = memory_text(alloc, bytes)?;
+    with_feeds(alloc, text, piece)
+}
+
+/// A program and its maps, in place of a piece.
+fn program_put(alloc: Global, piece: &[u8], program: &Linked) -> Result<Vec<u8>, AllocError>
+    ensures { IfOk result (λ put. put.items ≡ program_text program.now ++ feeds piece.now) }
+{
+    let maps = maps_text(alloc, program.shapes.as_slice())?;
+    let text = words_text(alloc, program.words.as_slice(), maps.as_slice())?;
+    with_feeds(alloc, text, piece)
+}
+
+/// What the head of a piece says behind its word.
+fn value_of(piece: &[u8]) -> &[u8]
+    ensures { result.now ≡ (head_of piece.now).value }
+{
+    head_of(piece).value.bytes
+}
+
+/// In place of a piece the bytes of the file that it names.
+fn put_memory<F: Opener>(
+    alloc: Global,
+    files: &F,
+    place: &Place<'_>,
+    piece: &[u8],
+    shelf: &mut Vec<Shelved>,
+) -> Result<Vec<u8>, PutFault>
+    requires { AreRead (F.bytes_at files.now) shelf.old.items }
+    ensures ok { IfOk result (λ put. IsMemoryPut (F.bytes_at files.now) place.now piece.now put.items) }
+    ensures err { IfErr result (IsPutFault place.now piece.now) }
+    ensures read { AreRead (F.bytes_at files.now) shelf.new.items }
+{
+    if !is_empty(piece) {
+        return Err(PutFault::Named(NamedFault::Malformed));
+    }
+    let name = value_of(piece);
+    match shelve(alloc, files, place, name, shelf) {
+        Ok(at) => match memory_put(alloc, piece, shelf[at].bytes.as_slice()) {
+            Ok(put) => Ok(put),
+            Err(_) => Err(PutFault::Memory),
+        },
+        Err(fault) => Err(fault_of(fault)),
+    }
+}
+
+/// The name of a packet's capture.
+fn capture_name(said: &[u8]) -> &[u8]
+    ensures { result.now ≡ capture_name said.now }
+{
+    &said[..find_blank(said)]
+}
+
+/// The number of a packet, behind the name of its capture.
+fn packet_number(said: &[u8]) -> Option<u64>
+    ensures { result ≡ packet_number said.now }
+{
+    natural(trim_start(&said[find_blank(said)..]))?.to_u64()
+}
+
+/// In place of a piece the bytes of the packet that it names.
+fn put_packet<F: Opener>(
+    alloc: Global,
+    files: &F,
+    place: &Place<'_>,
+    piece: &[u8],
+    shelf: &mut Vec<Shelved>,
+) -> Result<Vec<u8>, PutFault>
+    requires { AreRead (F.bytes_at files.now) shelf.old.items }
+    ensures ok { IfOk result (λ put. IsPacketPut (F.bytes_at files.now) place.now piece.now put.items) }
+    ensures err { IfErr result (IsPutFault place.now piece.now) }
+    ensures read { AreRead (F.bytes_at files.now) shelf.new.items }
+{
+    if !is_empty(piece) {
+        return Err(PutFault::Named(NamedFault::Malformed));
+    }
+    let said = value_of(piece);
+    let Some(number) = packet_number(said) else {
+        return Err(PutFault::Named(NamedFault::Malformed));
+    };
+    let name = capture_name(said);
+    match shelve(alloc, files, place, name, shelf) {
+        Ok(at) => match packet_in(shelf[at].bytes.as_slice(), number) {
+            Some(bytes) => match memory_put(alloc, piece, bytes) {
+                Ok(put) => Ok(put),
+                Err(_) => Err(PutFault::Memory),
+            },
+            None => Err(PutFault::Named(NamedFault::NoPacket)),
+        },
+        Err(fault) => Err(fault_of(fault)),
+    }
+}
+
+/// The bytes of the file of a name, which stay where they are read.
+fn copied<F: Opener>(
+    alloc: Global,
+    files: &F,
+    place: &Place<'_>,
+    name: &[u8],
+    shelf: &mut Vec<Shelved>,
+) -> Result<Vec<u8>, PutFault>
+    requires { AreRead (F.bytes_at files.now) shelf.old.items }
+    ensures ok { IfOk result (λ bytes. IsFile (F.bytes_at files.now) place.now name.now bytes.items) }
+    ensures err { IfErr result (IsCopyFault place.now name.now) }
+    ensures read { AreRead (F.bytes_at files.now) shelf.new.items }
+{
+    match shelve(alloc, files, place, name, shelf) {
+        Ok(at) => match Vec::from_slice(alloc, shelf[at].bytes.as_slice()) {
+            Ok(bytes) => Ok(bytes),
+            Err(_) => Err(PutFault::Memory),
+        },
+        Err(fault) => Err(fault_of(fault)),
+    }
+}
+
+/// The name of the object that is asked for.
+fn object_of<'a>(asked: &Asked<'a>) -> &'a [u8]
+    ensures { result.now ≡ asked.now.object }
+{
+    asked.object.bytes
+}
+
+/// The name of one of the objects that are joined to one.
+fn with_at<'a>(asked: &Asked<'a>, k: usize) -> &'a [u8]
+    requires { k < length asked.now.with.items }
+    ensures { result.now ≡ get_or asked.now.with.items k [] }
+{
+    asked.with[k].bytes
+}
+
+/// The bytes of the objects that are joined to one.
+fn others_of<F: Opener>(
+    alloc: Global,
+    files: &F,
+    place: &Place<'_>,
+    asked: &Asked<'_>,
+    shelf: &mut Vec<Shelved>,
+) -> Result<Vec<Vec<u8>>, PutFault>
+    requires { AreRead (F.bytes_at files.now) shelf.old.items }
+    ensures ok { IfOk result (λ all. ReadFirst (F.bytes_at files.now) place.now asked.now.with.items
+        (length asked.now.with.items) (contents all.items)) }
+    ensures err { IfErr result (IsOthersFault place.now asked.now) }
+    ensures read { AreRead (F.bytes_at files.now) shelf.new.items }
+{
+    let mut all = Vec::new(alloc);
+    let names = asked.with.as_slice();
+    for k in 0..names.len() {
+        let name = with_at(asked, k);
+        let bytes = match copied(alloc, files, place, name, shelf) {
+            Ok(bytes) => bytes,
+            Err(fault) => return Err(fault),
+        };
+        match all.push(bytes) {
+            Ok(()) => {}
+            Err(_) => return Err(PutFault::Memory),
+        }
+    }
+    Ok(all)
+}
+
+/// In place of a piece the program that is asked for.
+fn put_asked<F: Opener>(
+    alloc: Global,
+    files: &F,
+    place: &Place<'_>,
+    piece: &[u8],
+    asked: &Asked<'_>,
+    shelf: &mut Vec<Shelved>,
+) -> Result<Vec<u8>, PutFault>
+    requires asked { Asks piece.now asked.now }
+    requires read { AreRead (F.bytes_at files.now) shelf.old.items }
+    ensures ok { IfOk result (λ put. IsProgramPut (F.bytes_at files.now) place.now piece.now put.items) }
+    ensures err { IfErr result (IsPutFault place.now piece.now) }
+    ensures read { AreRead (F.bytes_at files.now) shelf.new.items }
+{
+    let others = match others_of(alloc, files, place, asked, shelf) {
+        Ok(others) => others,
+        Err(fault) => return Err(fault),
+    };
+    let name = object_of(asked);
+    let at = match shelve(alloc, files, place, name, shelf) {
+        Ok(at) => at,
+        Err(fault) => return Err(fault_of(fault)),
+    };
+    match program_of(alloc, asked, shelf[at].bytes.as_slice(), others.as_slice()) {
+        Ok(Ok(program)) => match program_put(alloc, piece, &program) {
+            Ok(put) => Ok(put),
+            Err(_) => Err(PutFault::Memory),
+        },
+        Ok(Err(told)) => Err(PutFault::Link(told)),
+        Err(_) => Err(PutFault::Memory),
+    }
+}
+
+/// In place of a piece the program that it asks for.
+fn put_program<F: Opener>(
+    alloc: Global,
+    files: &F,
+    place: &Place<'_>,
+    piece: &[u8],
+    shelf: &mut Vec<Shelved>,
+) -> Result<Vec<u8>, PutFault>
+    requires { AreRead (F.bytes_at files.now) shelf.old.items }
+    ensures ok { IfOk result (λ put. IsProgramPut (F.bytes_at files.now) place.now piece.now put.items) }
+    ensures err { IfErr result (IsPutFault place.now piece.now) }
+    ensures read { AreRead (F.bytes_at files.now) shelf.new.items }
+{
+    match asked_of(alloc, piece) {
+        Ok(Some(asked)) => put_asked(alloc, files, place, piece, &asked, shelf),
+        Ok(None) => Err(PutFault::Named(NamedFault::Malformed)),
+        Err(_) => Err(PutFault::Memory),
+    }
+}
+
+/// What stands in place of a piece: itself where it names no file.
+pub fn put_piece<F: Opener>(
+    alloc: Global,
+    files: &F,
+    place: &Place<'_>,
+    piece: &[u8],
+    shelf: &mut Vec<Shelved>,
+) -> Result<Vec<u8>, PutFault>
+    requires { AreRead (F.bytes_at files.now) shelf.old.items }
+    ensures ok { IfOk result (λ put. IsPut (F.bytes_at files.now) place.now piece.now put.items) }
+    ensures err { IfErr result (IsPutFault place.now piece.now) }
+    ensures read { AreRead (F.bytes_at files.now) shelf.new.items }
+{
+    match head_of(piece).word {
+        Word::Object => put_program(alloc, files, place, piece, shelf),
+        Word::MemFile => put_memory(alloc, files, place, piece, shelf),
+        Word::Packet => put_packet(alloc, files, place, piece, shelf),
+        _ => match Vec::from_slice(alloc, piece) {
+            Ok(put) => Ok(put),
+            Err(_) => Err(PutFault::Memory),
+        },
+    }
+}
