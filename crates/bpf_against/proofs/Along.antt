@@ -309,7 +309,7 @@ module _ (limit n : ℕ) (a : State) (text : Bor (List ℕ)) (left rest : List (
   told-text line more next does =
       lines-of line rest more next limit n a
       ∙ sym (ap (λ (b : Bool). if b then behind_end limit n a rest
-        else codes "the end is told otherwise\n" ++ end_here limit a ++ there text.now) does)
+      else codes "the end is told otherwise\n" ++ end_here limit a ++ there text.now) does)
       ∙ sym (ap (at_end form.Steps limit n a) is)
 
   pub told-told : (line : Option (Bor (List ℕ))) (more : List (List ℕ)) → MatchOption line ((rest ≡ []) × (more ≡ [])) (λ next. rest ≡ next.now ∷ more)
@@ -323,7 +323,7 @@ module _ (limit n : ℕ) (a : State) (text : Bor (List ℕ)) (left rest : List (
       → codes "the end is told otherwise\n" ++ end_here limit a ++ there text.now ≡ at_end form.Steps limit n a left
   other-text isnt =
       sym (ap (λ (b : Bool). if b then behind_end limit n a rest
-        else codes "the end is told otherwise\n" ++ end_here limit a ++ there text.now) isnt)
+      else codes "the end is told otherwise\n" ++ end_here limit a ++ there text.now) isnt)
       ∙ sym (ap (at_end form.Steps limit n a) is)
 
   other-by : (rest : List (List ℕ)) → is_line (end_line limit a) text.now ≡ false → false ≡ is_end_told form.Steps limit a (text.now ∷ rest)

@@ -287,7 +287,7 @@ handed-more d k old now full some deep low high each i inside = elim (cases_eq i
       get_or-set_at now (d * 10 + k) i (get_or now (d * 10 - 10 + k) no_step) no_step at (omega (arith, full, deep, high))
       ∙ each (d * 10 - 10 + k) (omega (arith, deep, high))
       ∙ ap (λ (b : Bool). if b && nat_lt (d * 10 - 10 + k) (d * 10 + k) then get_or old (d * 10 - 10 + k - 10) no_step
-        else get_or old (d * 10 - 10 + k) no_step) from
+      else get_or old (d * 10 - 10 + k) no_step) from
       ∙ ap (λ (j : ℕ). get_or old j no_step) there
       ∙ sym (ap₂ (λ (a b : Bool). if a && b then get_or old (i - 10) no_step else get_or old i no_step) p q)
   | inr other ↦

@@ -4,6 +4,7 @@ ghost use Rattle.suite_texts.specs.Captures.{first_packet, is_big, is_little, le
 
 /// How many bytes stand before the packets, and before each of them.
 const FILE_HEADER: usize = 24;
+
 const PACKET_HEADER: usize = 16;
 
 /// In which order numbers of a capture have their bytes.

@@ -24,7 +24,11 @@ fn option_in(line: &[u8]) -> Option<Head<'_>>
         return None;
     }
     let head = head_of(line);
-    if head.word.is_option() { Some(head) } else { None }
+    if head.word.is_option() {
+        Some(head)
+    } else {
+        None
+    }
 }
 
 /// What the lines of a text say of a link.

@@ -6,12 +6,11 @@ use Rattle.bpf_against.proofs.Telling.{differences-end, differences-more, differ
 use Rattle.bpf_against.proofs.ending.put_differences.Goals as goal
 
 pub loop-entry-init : goal.loop-entry-init
-loop-entry-init g c = λ before are.
-    (
-      [],
-      ap (λ (ws : List (List ℕ)). differences before c.args.cpu.now 0 (take 12 ws)) c.of-words.ensures,
-      WritesAfter-nothing g.W.Write.contents c.args.writer.now c.args.so_far,
-    )
+loop-entry-init g c = λ before are. (
+  [],
+  ap (λ (ws : List (List ℕ)). differences before c.args.cpu.now 0 (take 12 ws)) c.of-words.ensures,
+  WritesAfter-nothing g.W.Write.contents c.args.writer.now c.args.so_far,
+)
 
 pub returns-in-None : goal.returns-in-None
 returns-in-None g c = λ before are.
@@ -23,12 +22,11 @@ returns-in-None g c = λ before are.
 
 pub loop-entry-preserved : goal.loop-entry-preserved
 loop-entry-preserved g c = λ before are.
-    let done = c.loop-entry.invariant before are in
-    (
+    let done = c.loop-entry.invariant before are in (
       _,
       differences-more before c.args.cpu.now c.loop-entry.entry done.0 c.in-Some.word.now _ c.loop-entry-test.true
-      ∙ ap (λ (ws : List (List ℕ)). done.0 ++ differences before c.args.cpu.now c.loop-entry.entry (take (12 - c.loop-entry.entry) ws)) (sym c.in-Some.ensures.next)
-      ∙ done.1,
+          ∙ ap (λ (ws : List (List ℕ)). done.0 ++ differences before c.args.cpu.now c.loop-entry.entry (take (12 - c.loop-entry.entry) ws)) (sym c.in-Some.ensures.next)
+          ∙ done.1,
       WritesAfter-WritesAfter g.W.Write.contents _ _ _ _ _ _ _ _ _ done.2 (c.put_entry-told.ensures before are) refl,
     )
 

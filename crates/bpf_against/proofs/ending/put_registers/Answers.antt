@@ -9,8 +9,7 @@ loop-number-init g c = ([], refl, WritesAfter-nothing g.W.Write.contents c.args.
 
 pub loop-number-preserved : goal.loop-number-preserved
 loop-number-preserved g c =
-    let done = c.loop-number.invariant in
-    (
+    let done = c.loop-number.invariant in (
       _,
       registers-more c.args.cpu.now c.loop-number.number done.0 c.loop-number-test.true ∙ done.1,
       WritesAfter-WritesAfter g.W.Write.contents _ _ _ _ _ _ _ _ _ done.2 c.put_register-told.ensures refl,

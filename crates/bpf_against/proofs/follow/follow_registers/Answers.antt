@@ -38,10 +38,10 @@ loop-k-preserved c =
     let took = c.take_step-taken.ensures in
     record {
       along = rw took.next
-      (Along-next limit x c.args.told.now a c.loop-k.told _ k c.next_told-line.result g
-      (leaves c.loop-k.told _ c.next_told-line.result c.next_told-line.ensures) low goes);
+          (Along-next limit x c.args.told.now a c.loop-k.told _ k c.next_told-line.result g
+          (leaves c.loop-k.told _ c.next_told-line.result c.next_told-line.ensures) low goes);
       notes = rw (behind-one limit k x a g.steps low on)
-      (c.note.ensures (reverse (take k (steps_of limit x))) a took (number-of limit k x a g.steps low) c.loop-k.invariant.notes);
+          (c.note.ensures (reverse (take k (steps_of limit x))) a took (number-of limit k x a g.steps low) c.loop-k.invariant.notes);
     }
 
 pub returns-clause-halts : goal.returns-clause-halts

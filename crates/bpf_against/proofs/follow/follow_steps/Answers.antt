@@ -45,8 +45,7 @@ loop-k-preserved c =
 
 pub returns : goal.returns
 returns c =
-    let all : c.loop-k.k ≡ c.args.limit = omega (arith, c.loop-k-test.false, c.loop-k.auto.k-end) in
-    (
+    let all : c.loop-k.k ≡ c.args.limit = omega (arith, c.loop-k-test.false, c.loop-k.auto.k-end) in (
       record {
         left = c.loop-k.told;
         along = subst (λ (n : ℕ). Along Steps c.args.limit c.args.cpu.now c.args.told.now c.loop-k.cpu c.loop-k.told n) all c.loop-k.invariant;

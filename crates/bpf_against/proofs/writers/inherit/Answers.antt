@@ -12,7 +12,7 @@ loop-k-preserved c =
       full = length-set c.loop-k.notes (c.args.depth * 10 + c.loop-k.k) (get_or c.loop-k.notes (c.args.depth * 10 - 10 + c.loop-k.k) no_step) ∙ inv.full;
       low = omega (arith, low);
       each = handed-more c.args.depth c.loop-k.k c.args.notes.now c.loop-k.notes inv.full c.if-depth-gt0.true c.if-depth-lt8.true
-      inv.low c.loop-k-test.true inv.each;
+          inv.low c.loop-k-test.true inv.each;
     }
 
 pub returns-after-loop-k : goal.returns-after-loop-k
