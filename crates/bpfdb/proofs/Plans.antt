@@ -8,46 +8,44 @@ use Rattle.bpfdb_jobs.proofs.Statuses.{ends_with}
 use Rattle.bpfdb_jobs.specs.declared.job.Job.{Job}
 use Rattle.bpfdb_options.specs.declared.subcommand.Subcommand.{Subcommand}
 use Rattle.bpfdb_options.specs.declared.subcommand.Subcommand.TheVariants.{Debug}
+use Rattle.bpfdb.specs.Files.{Contents}
 use Rattle.bpfdb.specs.Done.{DoesCounted, DoesOver, DoesPlan, DoesReplaced, Done, EndsPlanWith, Over, Replaced, Uncounted, Unread, Unreplaced, Unturned, With}
 
 -- It is that of the plan's job, unless it is 2.
 ends_over_with : {R W E : Type 0} (reader : Stream R) (writer : Stream W) (errors : Stream E) (at_terminal : Bool) (plan : Plan)
-    (of_file of_path of_other : List ℕ) (of_further : List (List ℕ)) (status : ℕ)
-    → DoesOver at_terminal plan of_file of_path of_other of_further reader writer errors status → status ≢ 2 → EndsPlanWith plan status
-ends_over_with reader writer errors at_terminal plan of_file of_path of_other of_further status (Unturned fault why same kept told two) other =
+    (of : Contents) (status : ℕ)
+    → DoesOver at_terminal plan of reader writer errors status → status ≢ 2 → EndsPlanWith plan status
+ends_over_with reader writer errors at_terminal plan of status (Unturned fault why same kept told two) other =
     absurd (other two)
-ends_over_with reader writer errors at_terminal plan of_file of_path of_other of_further status (Over bytes job for_it is does) other = record {
-  of_file = bytes;
-  of_path = of_path;
-  of_other = of_other;
-  of_further = of_further;
+ends_over_with reader writer errors at_terminal plan of status (Over bytes job for_it is does) other = record {
+  of = record of { file = bytes };
   job = job;
   is = is;
   ends = ends_with reader writer (record errors { new = does.told }) job.subcommand job status does.does other;
 }
 
 ends_counted_with : {R W E : Type 0} (reader : Stream R) (writer : Stream W) (errors : Stream E) (at_terminal : Bool) (plan : Plan)
-    (of_file of_path of_other : List ℕ) (of_further : List (List ℕ)) (status : ℕ)
-    → DoesCounted at_terminal plan of_file of_path of_other of_further reader writer errors status → status ≢ 2 → EndsPlanWith plan status
-ends_counted_with reader writer errors at_terminal plan of_file of_path of_other of_further status (Uncounted fault why same kept told two) other =
+    (of : Contents) (status : ℕ)
+    → DoesCounted at_terminal plan of reader writer errors status → status ≢ 2 → EndsPlanWith plan status
+ends_counted_with reader writer errors at_terminal plan of status (Uncounted fault why same kept told two) other =
     absurd (other two)
-ends_counted_with reader writer errors at_terminal plan of_file of_path of_other of_further status (With bytes counted does) other =
-    ends_over_with reader writer errors at_terminal plan bytes of_path of_other of_further status does other
+ends_counted_with reader writer errors at_terminal plan of status (With bytes counted does) other =
+    ends_over_with reader writer errors at_terminal plan (record of { file = bytes }) status does other
 
 ends_replaced_with : {R W E : Type 0} (reader : Stream R) (writer : Stream W) (errors : Stream E) (bytes_at : List ℕ → Option (List ℕ))
-    (at_terminal : Bool) (plan : Plan) (of_file of_path of_other : List ℕ) (of_further : List (List ℕ)) (status : ℕ)
-    → DoesReplaced bytes_at at_terminal plan of_file of_path of_other of_further reader writer errors status → status ≢ 2 → EndsPlanWith plan status
-ends_replaced_with reader writer errors bytes_at at_terminal plan of_file of_path of_other of_further status (Unreplaced fault why same kept told two) other =
+    (at_terminal : Bool) (plan : Plan) (of : Contents) (status : ℕ)
+    → DoesReplaced bytes_at at_terminal plan of reader writer errors status → status ≢ 2 → EndsPlanWith plan status
+ends_replaced_with reader writer errors bytes_at at_terminal plan of status (Unreplaced fault why same kept told two) other =
     absurd (other two)
-ends_replaced_with reader writer errors bytes_at at_terminal plan of_file of_path of_other of_further status (Replaced bytes tests does) other =
-    ends_counted_with reader writer errors at_terminal plan bytes of_path of_other of_further status does other
+ends_replaced_with reader writer errors bytes_at at_terminal plan of status (Replaced bytes tests does) other =
+    ends_counted_with reader writer errors at_terminal plan (record of { file = bytes }) status does other
 
 pub ends_plan_with : {R W E : Type 0} (reader : Stream R) (writer : Stream W) (errors : Stream E) (bytes_at : List ℕ → Option (List ℕ))
     (at_terminal : Bool) (plan : Plan) (status : ℕ) → DoesPlan bytes_at at_terminal plan reader writer errors status → status ≢ 2
     → EndsPlanWith plan status
 ends_plan_with reader writer errors bytes_at at_terminal plan status (Unread fault why same kept told two) other = absurd (other two)
-ends_plan_with reader writer errors bytes_at at_terminal plan status (Done of_file of_path of_other of_further are does) other =
-    ends_replaced_with reader writer errors bytes_at at_terminal plan of_file of_path of_other of_further status does other
+ends_plan_with reader writer errors bytes_at at_terminal plan status (Done of are does) other =
+    ends_replaced_with reader writer errors bytes_at at_terminal plan of status does other
 
 -- Of a job of `debug` it is 0 then.
 debug_ends_as : (links : Bool) (job : Job) (status : ℕ) → EndsAs links Debug job status → status ≡ 0

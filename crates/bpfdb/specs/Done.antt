@@ -10,7 +10,7 @@ use Rattle.bpfdb_faults.specs.declared.fault.JobFault.{JobFault}
 use Rattle.bpfdb_faults.specs.declared.fault.JobFault.TheVariants.{Memory, Output}
 use Rattle.bpfdb_jobs.specs.declared.job.Job.{Job}
 use Rattle.bpfdb.specs.Counts.{HasCounts, IsUncounted}
-use Rattle.bpfdb.specs.Files.{AreRead, IsUnread}
+use Rattle.bpfdb.specs.Files.{AreRead, Contents, IsUnread}
 use Rattle.bpfdb.specs.Jobs.{IsJobOf}
 use Rattle.bpfdb.specs.Tests.{IsTestsFor, IsUnreplaced, files_line}
 use Rattle.suite_files.specs.declared.fault.FilesFault.{FilesFault}
@@ -25,49 +25,46 @@ pub record DoesHinted {R W E : Type 0} (at_terminal : Bool) (job : Job) (reader 
   pub adds : AddsHint at_terminal job status (record errors { old = told })
 
 -- The job is done over FILE, or over the object of the programs that are called in turn; or why there is none is told, and nothing else happens.
-pub data DoesOver {R W E : Type 0} (at_terminal : Bool) (plan : Plan) (of_file of_path of_other : List ℕ) (of_further : List (List ℕ))
-    (reader : Stream R) (writer : Stream W) (errors : Stream E) (status : ℕ) : Type 0 where
-  Over : (bytes : List ℕ) → (job : Job) → IsFileFor plan of_file bytes → IsJobOf plan bytes of_path of_other of_further job
-      → DoesHinted at_terminal job reader writer errors status → DoesOver at_terminal plan of_file of_path of_other of_further reader writer errors status
-  Unturned : (fault : JobFault) → IsUnturned plan of_file fault → reader.new ≡ reader.old → writer.new ≡ writer.old → Told errors (line_of fault)
-      → status ≡ 2 → DoesOver at_terminal plan of_file of_path of_other of_further reader writer errors status
+pub data DoesOver {R W E : Type 0} (at_terminal : Bool) (plan : Plan) (of : Contents) (reader : Stream R) (writer : Stream W) (errors : Stream E)
+    (status : ℕ) : Type 0 where
+  Over : (bytes : List ℕ) → (job : Job) → IsFileFor plan of.file bytes → IsJobOf plan (record of { file = bytes }) job
+      → DoesHinted at_terminal job reader writer errors status → DoesOver at_terminal plan of reader writer errors status
+  Unturned : (fault : JobFault) → IsUnturned plan of.file fault → reader.new ≡ reader.old → writer.new ≡ writer.old → Told errors (line_of fault)
+      → status ≡ 2 → DoesOver at_terminal plan of reader writer errors status
 
 -- So it is with FILE as it is, or with the object in which maps have as many entries as they are told; or why there is none is told.
-pub data DoesCounted {R W E : Type 0} (at_terminal : Bool) (plan : Plan) (of_file of_path of_other : List ℕ) (of_further : List (List ℕ))
-    (reader : Stream R) (writer : Stream W) (errors : Stream E) (status : ℕ) : Type 0 where
-  With : (bytes : List ℕ) → HasCounts plan of_file bytes → DoesOver at_terminal plan bytes of_path of_other of_further reader writer errors status
-      → DoesCounted at_terminal plan of_file of_path of_other of_further reader writer errors status
-  Uncounted : (fault : JobFault) → IsUncounted plan of_file fault → reader.new ≡ reader.old → writer.new ≡ writer.old → Told errors (line_of fault)
-      → status ≡ 2 → DoesCounted at_terminal plan of_file of_path of_other of_further reader writer errors status
+pub data DoesCounted {R W E : Type 0} (at_terminal : Bool) (plan : Plan) (of : Contents) (reader : Stream R) (writer : Stream W) (errors : Stream E)
+    (status : ℕ) : Type 0 where
+  With : (bytes : List ℕ) → HasCounts plan of.file bytes → DoesOver at_terminal plan (record of { file = bytes }) reader writer errors status
+      → DoesCounted at_terminal plan of reader writer errors status
+  Uncounted : (fault : JobFault) → IsUncounted plan of.file fault → reader.new ≡ reader.old → writer.new ≡ writer.old → Told errors (line_of fault)
+      → status ≡ 2 → DoesCounted at_terminal plan of reader writer errors status
 
 -- So it is with FILE as it is, or with the file of tests in which each section that names files is replaced; or why there is none is told, and
 -- nothing else happens.
-pub data DoesReplaced {R W E : Type 0} (bytes_at : List ℕ → Option (List ℕ)) (at_terminal : Bool) (plan : Plan) (of_file of_path of_other : List ℕ)
-    (of_further : List (List ℕ)) (reader : Stream R) (writer : Stream W) (errors : Stream E) (status : ℕ) : Type 0 where
-  Replaced : (bytes : List ℕ) → IsTestsFor bytes_at plan of_file bytes
-      → DoesCounted at_terminal plan bytes of_path of_other of_further reader writer errors status
-      → DoesReplaced bytes_at at_terminal plan of_file of_path of_other of_further reader writer errors status
-  Unreplaced : (fault : FilesFault) → IsUnreplaced plan of_file fault → reader.new ≡ reader.old → writer.new ≡ writer.old
+pub data DoesReplaced {R W E : Type 0} (bytes_at : List ℕ → Option (List ℕ)) (at_terminal : Bool) (plan : Plan) (of : Contents)
+    (reader : Stream R) (writer : Stream W) (errors : Stream E) (status : ℕ) : Type 0 where
+  Replaced : (bytes : List ℕ) → IsTestsFor bytes_at plan of.file bytes
+      → DoesCounted at_terminal plan (record of { file = bytes }) reader writer errors status
+      → DoesReplaced bytes_at at_terminal plan of reader writer errors status
+  Unreplaced : (fault : FilesFault) → IsUnreplaced plan of.file fault → reader.new ≡ reader.old → writer.new ≡ writer.old
       → Told errors (files_line fault) → status ≡ 2
-      → DoesReplaced bytes_at at_terminal plan of_file of_path of_other of_further reader writer errors status
+      → DoesReplaced bytes_at at_terminal plan of reader writer errors status
 
 -- Its files can't be read, which is told, and nothing else happens; or they are, and its job is done.
 pub data DoesPlan {R W E : Type 0} (bytes_at : List ℕ → Option (List ℕ)) (at_terminal : Bool) (plan : Plan) (reader : Stream R) (writer : Stream W)
     (errors : Stream E) (status : ℕ) : Type 0 where
   Unread : (fault : JobFault) → IsUnread bytes_at plan fault → reader.new ≡ reader.old → writer.new ≡ writer.old → Told errors (line_of fault)
       → status ≡ 2 → DoesPlan bytes_at at_terminal plan reader writer errors status
-  Done : (of_file of_path of_other : List ℕ) → (of_further : List (List ℕ)) → AreRead bytes_at plan of_file of_path of_other of_further
-      → DoesReplaced bytes_at at_terminal plan of_file of_path of_other of_further reader writer errors status
+  Done : (of : Contents) → AreRead bytes_at plan of
+      → DoesReplaced bytes_at at_terminal plan of reader writer errors status
       → DoesPlan bytes_at at_terminal plan reader writer errors status
 
 -- A status other than 2 is that of its job, over some bytes of its files.
 pub record EndsPlanWith (plan : Plan) (status : ℕ) : Type 0 where
-  pub of_file : List ℕ
-  pub of_path : List ℕ
-  pub of_other : List ℕ
-  pub of_further : List (List ℕ)
+  pub of : Contents
   pub job : Job
-  pub is : IsJobOf plan of_file of_path of_other of_further job
+  pub is : IsJobOf plan of job
   pub ends : EndsWith job.subcommand job status
 
 -- A text was written as help; or a beginning of it; or memory ran out, and nothing was written.

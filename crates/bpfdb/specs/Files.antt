@@ -3,6 +3,7 @@ use Rattle.std.specs.Prelude.{ℕ, zero, suc, ◌≡◌, ◌<◌, ◌||◌, Bool
 use Rattle.std.specs.declared.alloc.Global.{Global}
 use Rattle.std.specs.Borrow.{Bor}
 use Rattle.bpfdb_cli.specs.declared.plans.Plan.{Plan}
+use Rattle.bpfdb.specs.declared.job.Loaded.{Loaded}
 use Rattle.bpfdb_files.specs.Reading.{Gives}
 use Rattle.bpfdb_files.specs.declared.kinds.FileKind.{FileKind}
 use Rattle.bpfdb_files.specs.declared.kinds.FileKind.TheVariants.{Program, Context, Source}
@@ -56,13 +57,27 @@ abbrev pub NamesOne : (List ℕ → Option (List ℕ)) → FileKind → List (Li
 NamesOne bytes_at kind paths fault = (n : ℕ) × (n < length paths) × (all : List (List ℕ)) × GivesFirst bytes_at kind paths n all
     × Names (get_or paths n []) fault
 
--- The bytes of FILE, of PATH, of the other file and of the further ones, where the bytes of files are known.
-pub record AreRead (bytes_at : List ℕ → Option (List ℕ)) (plan : Plan) (of_file of_path of_other : List ℕ) (of_further : List (List ℕ))
-    : Type 0 where
-  pub file : Gives (kind_of plan) (bytes_at plan.file.now) (Some of_file)
-  pub context : GivesNamed bytes_at Context plan.memory of_path
-  pub other : GivesNamed bytes_at Source plan.other of_other
-  pub further : GivesFirst bytes_at Source (texts plan.further.items) (length plan.further.items) of_further
+-- The bytes of FILE, of PATH, of the other file, and of the further ones.
+pub record Contents : Type 0 where
+  pub file : List ℕ
+  pub context : List ℕ
+  pub other : List ℕ
+  pub further : List (List ℕ)
+
+abbrev pub contents_in : Loaded → Contents
+contents_in loaded = record {
+  file = loaded.file.now;
+  context = loaded.context.now;
+  other = loaded.other.now;
+  further = contents loaded.further.now;
+}
+
+-- They are what is read, where the bytes of files are known.
+pub record AreRead (bytes_at : List ℕ → Option (List ℕ)) (plan : Plan) (of : Contents) : Type 0 where
+  pub file : Gives (kind_of plan) (bytes_at plan.file.now) (Some of.file)
+  pub context : GivesNamed bytes_at Context plan.memory of.context
+  pub other : GivesNamed bytes_at Source plan.other of.other
+  pub further : GivesFirst bytes_at Source (texts plan.further.items) (length plan.further.items) of.further
 
 -- Why they aren't read: by the first of them that can't be.
 pub data IsUnread (bytes_at : List ℕ → Option (List ℕ)) (plan : Plan) (fault : JobFault) : Type 0 where

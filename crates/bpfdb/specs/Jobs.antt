@@ -4,7 +4,7 @@ use Rattle.std.specs.Borrow.{Bor}
 use Rattle.bpfdb_cli.specs.declared.plans.Plan.{Plan}
 use Rattle.bpfdb_jobs.specs.declared.job.Job.{Job}
 use Rattle.bpfdb_options.specs.declared.options.Options.{Options}
-use Rattle.bpfdb.specs.Files.{contents}
+use Rattle.bpfdb.specs.Files.{Contents, contents}
 use Rattle.bpfdb.specs.Turns.{is_turned}
 
 -- The bytes of a file, where one is named.
@@ -20,12 +20,12 @@ options_in false options = options
 
 -- It has the plan's subcommand and options, the name of FILE and its bytes, those of PATH, those of the other file, if there is one, and those of
 -- the further ones.
-pub record IsJobOf (plan : Plan) (of_file of_path of_other : List ℕ) (of_further : List (List ℕ)) (job : Job) : Type 0 where
+pub record IsJobOf (plan : Plan) (of : Contents) (job : Job) : Type 0 where
   pub subcommand : job.subcommand ≡ plan.subcommand
   pub name : job.name.now ≡ plan.file.now
-  pub file : job.file.now ≡ of_file
-  pub context : job.context.now ≡ of_path
-  pub other : IsNamed plan.other of_other job.other
-  pub further : contents job.further.now ≡ of_further
+  pub file : job.file.now ≡ of.file
+  pub context : job.context.now ≡ of.context
+  pub other : IsNamed plan.other of.other job.other
+  pub further : contents job.further.now ≡ of.further
   pub shapes : job.shapes ≡ None
   pub options : job.options ≡ options_in (is_turned plan) plan.options

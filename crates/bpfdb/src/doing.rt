@@ -1,7 +1,7 @@
 //! What is done of a command line, over any files, reader and writers.
 ghost use Rattle.std.specs.Prelude.{◌≤◌};
 ghost use Rattle.bpfdb.specs.Done.{DoesCounted, DoesHinted, DoesOver, DoesPlan, DoesReplaced, Helps};
-ghost use Rattle.bpfdb.specs.Files.{contents};
+ghost use Rattle.bpfdb.specs.Files.{contents_in};
 ghost use Rattle.bpfdb.specs.Jobs.{IsJobOf};
 ghost use Rattle.bpfdb_jobs.specs.declared.job.Job.{Job};
 ghost use Rattle.bpfdb_limits.specs.Limits.{IsLimit};
@@ -88,8 +88,7 @@ fn do_replaced<F: Opener, R: Read, W: Write, E: Write>(
     errors: &mut Counted<E>,
 ) -> u8
     requires limit { IsLimit plan.now.options.limit }
-    ensures does { DoesReplaced (F.bytes_at files.now) at_terminal plan.now loaded.now.file.now
-        loaded.now.context.now loaded.now.other.now (contents loaded.now.further.now)
+    ensures does { DoesReplaced (F.bytes_at files.now) at_terminal plan.now (contents_in loaded.now)
         (stream R.remaining reader.old reader.new) (stream W.contents writer.old writer.new)
         (stream E.contents errors.old errors.new) result }
     ensures status { result ≤ 2 }
@@ -119,8 +118,8 @@ fn do_counted<R: Read, W: Write, E: Write>(
     errors: &mut Counted<E>,
 ) -> u8
     requires limit { IsLimit plan.now.options.limit }
-    ensures does { DoesCounted at_terminal plan.now loaded.now.file.now loaded.now.context.now
-        loaded.now.other.now (contents loaded.now.further.now) (stream R.remaining reader.old reader.new)
+    ensures does { DoesCounted at_terminal plan.now (contents_in loaded.now)
+        (stream R.remaining reader.old reader.new)
         (stream W.contents writer.old writer.new) (stream E.contents errors.old errors.new) result }
     ensures status { result ≤ 2 }
 {
@@ -149,8 +148,8 @@ fn do_over_file<R: Read, W: Write, E: Write>(
     errors: &mut Counted<E>,
 ) -> u8
     requires limit { IsLimit plan.now.options.limit }
-    ensures does { DoesOver at_terminal plan.now loaded.now.file.now loaded.now.context.now
-        loaded.now.other.now (contents loaded.now.further.now) (stream R.remaining reader.old reader.new)
+    ensures does { DoesOver at_terminal plan.now (contents_in loaded.now)
+        (stream R.remaining reader.old reader.new)
         (stream W.contents writer.old writer.new) (stream E.contents errors.old errors.new) result }
     ensures status { result ≤ 2 }
 {
@@ -179,8 +178,7 @@ fn do_job<R: Read, W: Write, E: Write>(
     errors: &mut Counted<E>,
 ) -> u8
     requires limit { IsLimit plan.now.options.limit }
-    ensures does { (job : Job) × IsJobOf plan.now loaded.now.file.now loaded.now.context.now
-        loaded.now.other.now (contents loaded.now.further.now) job
+    ensures does { (job : Job) × IsJobOf plan.now (contents_in loaded.now) job
         × DoesHinted at_terminal job (stream R.remaining reader.old reader.new)
         (stream W.contents writer.old writer.new) (stream E.contents errors.old errors.new) result }
     ensures status { result ≤ 2 }

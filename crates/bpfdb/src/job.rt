@@ -1,6 +1,6 @@
 //! The job of a plan.
 ghost use Rattle.std.specs.Prelude.{◌≡◌};
-ghost use Rattle.bpfdb.specs.Files.{contents};
+ghost use Rattle.bpfdb.specs.Files.{contents_in};
 ghost use Rattle.bpfdb.specs.Jobs.{IsJobOf, options_in};
 ghost use Rattle.bpfdb.specs.Turns.{is_turned};
 
@@ -24,8 +24,7 @@ pub struct Loaded<'a> {
 
 /// The job of a plan, with the bytes of its files.
 pub fn job_of<'a>(plan: &Plan<'a>, loaded: &Loaded<'a>) -> Job<'a>
-    ensures { IsJobOf plan.now loaded.now.file.now loaded.now.context.now loaded.now.other.now
-        (contents loaded.now.further.now) result }
+    ensures { IsJobOf plan.now (contents_in loaded.now) result }
 {
     Job {
         subcommand: plan.subcommand,

@@ -8,6 +8,7 @@ use Rattle.suite_files.specs.declared.place.Place.{Place}
 use Rattle.suite_files.specs.declared.shelf.NameFault.{NameFault}
 use Rattle.suite_files.specs.declared.shelf.NameFault.TheVariants.{Named, Memory}
 use Rattle.suite_files.specs.declared.shelf.Shelved.{Shelved}
+use Rattle.suite_texts.specs.Captures.{AreStarts}
 use Rattle.suite_texts.specs.Paths.{is_absolute, is_below}
 
 -- Files lie in the folder of the tests or below, unless they may lie anywhere.
@@ -34,9 +35,13 @@ IsNameFault place name (Named Malformed) = name ≡ []
 IsNameFault place name (Named Outside) = is_allowed place name ≡ false
 IsNameFault place name fault = IsReadFault fault
 
--- Files that were read, each with its path.
+-- A file that was read, with its path, and where its packets begin.
+pub record IsRead (bytes_at : List ℕ → Option (List ℕ)) (file : Shelved) : Type 0 where
+  pub gives : Gives Source (bytes_at file.path.items) (Some file.bytes.items)
+  pub starts : AreStarts file.bytes.items file.packets.items
+
 abbrev pub AreRead : (List ℕ → Option (List ℕ)) → List Shelved → Type 0
-AreRead bytes_at shelf = All (λ file. Gives Source (bytes_at file.path.items) (Some file.bytes.items)) shelf
+AreRead bytes_at shelf = All (IsRead bytes_at) shelf
 
 -- The one at a place has this path.
 pub record HoldsAt (bytes_at : List ℕ → Option (List ℕ)) (shelf : List Shelved) (path : List ℕ) (at : ℕ) : Type 0 where

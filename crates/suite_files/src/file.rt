@@ -173,7 +173,7 @@ fn with_pieces<'a, F: Opener>(
 /// `-- packet` by the bytes of the context. Each file is read once, and sections that ask for the same
 /// program word for word link it once. Beside the lengths of the files and of what comes out the time
 /// grows with each section by the number of files and programs so far, among which its own is looked
-/// for, and with `-- packet FILE N` by N, since a packet is found behind those before it.
+/// for.
 pub fn replaced<F: Opener>(
     alloc: Global,
     files: &F,

@@ -18,7 +18,7 @@ use bpf_link::Linked;
 use bpfdb_files::Opener;
 use counted_io::{find_blank, natural, trim_start};
 use std::alloc::{AllocError, Global};
-use suite_texts::{Word, feeds, head_of, is_empty, memory_text, packet_in, words_text};
+use suite_texts::{Word, feeds, head_of, is_empty, memory_text, words_text};
 
 /// Why there is nothing in place of a piece.
 #[derive(Drop)]
@@ -135,7 +135,7 @@ fn put_packet<F: Opener>(
     };
     let name = capture_name(said);
     match shelve(alloc, files, place, name, shelf) {
-        Ok(at) => match packet_in(shelf[at].bytes.as_slice(), number) {
+        Ok(at) => match shelf[at].packet(number) {
             Some(bytes) => match memory_put(alloc, piece, bytes) {
                 Ok(put) => Ok(put),
                 Err(_) => Err(PutFault::Memory),

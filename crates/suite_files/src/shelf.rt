@@ -1,15 +1,17 @@
 //! The files that were read, each once.
-ghost use Rattle.std.specs.Prelude.{◌≡◌, ◌<◌, IfOk, IfErr, IfSome, Some, get_or, length};
+ghost use Rattle.std.specs.Prelude.{◌≡◌, ◌<◌, IfOk, IfErr, IfSome, Some, get_or, length, option_map};
 ghost use Rattle.bpfdb_files.specs.Reading.{Gives};
 ghost use Rattle.bpfdb_files.specs.declared.kinds.FileKind.TheVariants.{Source};
 ghost use Rattle.suite_files.specs.Shelves.{AreRead, HoldsAt, IsNameFault, IsReadFault, IsShelved};
 ghost use Rattle.suite_files.specs.declared.shelf.Shelved.{Shelved};
+ghost use Rattle.suite_texts.specs.Captures.{AreStarts, packet_in};
 
 use crate::fault::NamedFault;
 use crate::place::{Place, is_allowed, path_of};
 use bpfdb_files::{FileKind, FirstFault, Opener, read_kind};
 use counted_io::Counted;
 use std::alloc::Global;
+use suite_texts::{packet_at, packet_starts};
 
 /// The most files that a file of tests may name.
 const MOST_FILES: usize = 4_096;
@@ -19,6 +21,19 @@ const MOST_FILES: usize = 4_096;
 pub struct Shelved {
     pub path: Vec<u8>,
     pub bytes: Vec<u8>,
+    /// Where its packets begin, if it is a capture.
+    pub packets: Vec<usize>,
+}
+
+impl Shelved {
+    /// The packet of this number, counted from 1. None where there is none, or the file is no
+    /// capture in pcap's own format.
+    pub fn packet(&self, number: u64) -> Option<&[u8]>
+        requires { AreStarts self.now.bytes.items self.now.packets.items }
+        ensures { option_map (λ bytes. bytes.now) result ≡ packet_in self.now.bytes.items number }
+    {
+        packet_at(self.bytes.as_slice(), self.packets.as_slice(), number)
+    }
 }
 
 /// Why a file isn't there.
@@ -81,7 +96,15 @@ fn add<F: Opener>(
         Ok(bytes) => bytes,
         Err(fault) => return Err(fault),
     };
-    match shelf.push(Shelved { path, bytes }) {
+    let Ok(packets) = packet_starts(alloc, bytes.as_slice()) else {
+        return Err(NameFault::Memory);
+    };
+    let file = Shelved {
+        path,
+        bytes,
+        packets,
+    };
+    match shelf.push(file) {
         Ok(()) => Ok(at),
         Err(_) => Err(NameFault::Memory),
     }

@@ -1,5 +1,5 @@
 -- Captures as `tcpdump -w` writes them (pcap's own format): 24 bytes, and then each packet behind 16 bytes of its own.
-use Rattle.std.specs.Prelude.{ℕ, zero, suc, ◌+◌, ◌*◌, ◌-◌, Bool, ◌==◌, ◌||◌, nat_lt, if◌then◌else◌, List, [], ◌∷◌, drop, get_or, length, slice_range, Option, Some, None}
+use Rattle.std.specs.Prelude.{◌≡◌, ℕ, zero, suc, ◌+◌, ◌*◌, ◌-◌, Bool, ◌==◌, ◌||◌, nat_lt, if◌then◌else◌, List, [], ◌∷◌, drop, get_or, length, slice_range, Option, Some, None}
 use Rattle.std.specs.List.{starts_with}
 use Rattle.std.specs.Option.{option_and_then}
 use Rattle.suite_texts.specs.declared.capture.Order.{Order}
@@ -46,3 +46,11 @@ packet_of number file o =
 
 abbrev pub packet_in : List ℕ → ℕ → Option (List ℕ)
 packet_in file number = option_and_then (packet_of number file) (order_of file)
+
+-- What begins at one of some places of a file; nothing where there is no such place.
+abbrev pub begun_at : List ℕ → List ℕ → ℕ → List ℕ
+begun_at file starts k = if nat_lt k (length starts) then drop (get_or starts k 0) file else []
+
+-- Where the packets of a capture begin, each with its header: behind k of them the next one begins at the k-th place.
+abbrev pub AreStarts : List ℕ → List ℕ → Type 0
+AreStarts file starts = (o : Order) → order_of file ≡ Some o → (k : ℕ) → rest o (drop 24 file) k ≡ begun_at file starts k

@@ -1,6 +1,8 @@
 //! Captures in pcap's own format, and their packets.
-ghost use Rattle.std.specs.Prelude.{◌≡◌, ◌<◌, drop, option_map};
-ghost use Rattle.suite_texts.specs.Captures.{first_packet, is_big, is_little, length_at, order_of, packet_in, rest, size_of};
+ghost use Rattle.std.specs.Prelude.{◌≡◌, ◌<◌, IfOk, drop, option_map, ℕ};
+ghost use Rattle.suite_texts.specs.Captures.{AreStarts, begun_at, first_packet, is_big, is_little, length_at, order_of, packet_in, rest, size_of};
+
+use std::alloc::{AllocError, Global};
 
 /// How many bytes stand before the packets, and before each of them.
 const FILE_HEADER: usize = 24;
@@ -62,29 +64,29 @@ fn size_of(order: Order, text: &[u8]) -> usize
     PACKET_HEADER + length_at(order, text)
 }
 
-/// What stands behind so many bytes.
-fn behind(text: &[u8], count: usize) -> &[u8]
-    ensures { result.now ≡ drop count text.now }
+/// Where the packets of a capture begin whose numbers have their bytes in this order.
+fn starts_in(alloc: Global, order: Order, file: &[u8]) -> Result<Vec<usize>, AllocError>
+    ensures { IfOk result (λ starts. (k : ℕ) →
+        rest order (drop 24 file.now) k ≡ begun_at file.now starts.items k) }
 {
-    if count < text.len() {
-        &text[count..]
-    } else {
-        &[]
+    let mut starts = Vec::new(alloc);
+    let mut at = FILE_HEADER;
+    while at < file.len() {
+        starts.push(at)?;
+        at += size_of(order, &file[at..]);
     }
+    Ok(starts)
 }
 
-/// What follows so many packets.
-fn rest(order: Order, text: &[u8], count: u64) -> &[u8]
-    ensures { result.now ≡ rest order text.now count }
+/// Where the packets of a capture begin, each with its header of 16 bytes; nowhere where a file is no
+/// capture in pcap's own format.
+pub fn packet_starts(alloc: Global, file: &[u8]) -> Result<Vec<usize>, AllocError>
+    ensures { IfOk result (λ starts. AreStarts file.now starts.items) }
 {
-    let mut left = text;
-    for _ in 0..count {
-        if left.is_empty() {
-            return left;
-        }
-        left = behind(left, size_of(order, left));
+    match order_of(file) {
+        Some(order) => starts_in(alloc, order, file),
+        None => Ok(Vec::new(alloc)),
     }
-    left
 }
 
 /// The first packet, if it is whole.
@@ -98,16 +100,26 @@ fn first_packet(order: Order, text: &[u8]) -> Option<&[u8]>
     Some(&text[PACKET_HEADER..size])
 }
 
-/// The packet of this number, counted from 1, of a capture in pcap's own format. None where there is
-/// none, or the file is no such capture.
-pub fn packet_in(file: &[u8], number: u64) -> Option<&[u8]>
+/// What begins at the place of this number; nothing where there is none.
+fn begun_at<'a>(file: &'a [u8], starts: &[usize], number: u64) -> &'a [u8]
+    ensures { result.now ≡ begun_at file.now starts.now number }
+{
+    if number >= starts.len() as u64 {
+        return &[];
+    }
+    let at = starts[number as usize];
+    if at < file.len() { &file[at..] } else { &[] }
+}
+
+/// The packet of this number, counted from 1, of a capture in pcap's own format, whose packets begin
+/// at these places (`packet_starts`). None where there is none, or the file is no such capture.
+pub fn packet_at<'a>(file: &'a [u8], starts: &[usize], number: u64) -> Option<&'a [u8]>
+    requires { AreStarts file.now starts.now }
     ensures { option_map (λ bytes. bytes.now) result ≡ packet_in file.now number }
 {
-    let Some(order) = order_of(file) else {
-        return None;
-    };
+    let order = order_of(file)?;
     if number == 0 || file.len() < FILE_HEADER {
         return None;
     }
-    first_packet(order, rest(order, &file[FILE_HEADER..], number - 1))
+    first_packet(order, begun_at(file, starts, number - 1))
 }

@@ -10,7 +10,7 @@ mod piece;
 mod put;
 mod word;
 
-pub use capture::packet_in;
+pub use capture::{packet_at, packet_starts};
 pub use head::{Head, Text, head_of};
 pub use options::{are_options, is_empty, once_of, option_lines, values_of};
 pub use path::{folder_of, is_absolute, is_below};

@@ -33,7 +33,7 @@ returns-clause-does g c =
     let does =
     rw (c.as_slice-2.ensures.value, c.as_slice-3.ensures.value, c.as_slice-4.ensures.value, c.as_slice-5.ensures.value) at
     c.do_replaced.ensures.does in
-    Done c.in-Ok.file.items c.in-Ok-read_given.context.items c.in-Ok-read_given-2.other.items _
+    Done _
     (record {
       file = file;
       context = c.in-Ok-read_given.ensures.ok;

@@ -1,10 +1,9 @@
 use Rattle.std.proofs.Common.{ℕ, ◌≡◌, ◌≤◌, ◌-◌, ◌==◌, ◌||◌, nat_lt, false, List, Some, drop, length, refl, sym, ap, ◌∙◌, arith}
 use Rattle.std.proofs.lemmas.Bool.Decides.{nat_tests}
-use Rattle.std.proofs.lemmas.List.{take_rest}
 use Rattle.std.specs.Option.{option_and_then}
 use Rattle.suite_texts.specs.Captures.{first_packet, order_of, packet_in, packet_of, rest}
 use Rattle.suite_texts.specs.declared.capture.Order.{Order}
-use Rattle.suite_texts.proofs.capture.packet_in.Goals as goal
+use Rattle.suite_texts.proofs.capture.packet_at.Goals as goal
 
 -- the packet of a number that isn't 0, of a capture with a whole header
 packet-of : (file : List ℕ) (number : ℕ) (o : Order) → order_of file ≡ Some o → (number ≡ 0 → ⊥) → 24 ≤ length file
@@ -15,8 +14,9 @@ packet-of file number o e some long =
 
 pub returns : goal.returns
 returns c =
-    let o = c.in-Some.order in
+    let o = c.in_ok-order.order in
     let file = c.args.file.now in
+    let is : order_of file ≡ Some o = sym c.order_of.ensures ∙ c.in_ok-order.was in
     c.first_packet.ensures
-    ∙ ap (first_packet o) (c.rest.ensures ∙ ap (λ s. rest o s (c.args.number - 1)) (take_rest file 24))
-    ∙ sym (packet-of file c.args.number o (sym c.order_of.ensures ∙ c.in-Some.is) c.if-number-eq0.false c.if-file-lt-FILE_HEADER.false)
+    ∙ ap (first_packet o) (c.begun_at.ensures ∙ sym (c.requires o is (c.args.number - 1)))
+    ∙ sym (packet-of file c.args.number o is c.if-number-eq0.false c.if-file-lt-FILE_HEADER.false)
