@@ -123,5 +123,17 @@ for compiler in $compilers; do
     if has python3 'joined objects'; then
         python3 "$top/tests/trials/joins.py" "$program" program.o functions.o > found/trial 2>&1 || complain "joins.py: $(tail -n 3 found/trial)"
         count=$((count + $(sed -n 's/^\([0-9]*\) held$/\1/p' found/trial || echo 0)))
+        # Names that stand behind the end of their section of strings: `link` reads them where they stand, but a joined object has only those in the section.
+        python3 -c '
+import struct
+data = bytearray(open("program.o", "rb").read())
+table, names = struct.unpack_from("<Q", data, 40)[0], struct.unpack_from("<H", data, 62)[0]
+struct.pack_into("<Q", data, table + 64 * names + 32, 1)
+open("cut.o", "wb").write(data)'
+        "$program" link --section time cut.o > words 2> told
+        count=$((count + 2))
+        grep -q '^refused E25 at slot [0-9]*: unknown helper 5 (bpf_ktime_get_ns)' told || complain "names behind their section: $(cat told)"
+        "$program" link --section time --with functions.o cut.o > words 2> told
+        grep -q '^refused E8: no such code section' told || complain "names behind their section, joined: $(cat told)"
     fi
 done

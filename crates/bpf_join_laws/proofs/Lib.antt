@@ -1,0 +1,13 @@
+pub mod Orders
+pub mod Numbers
+pub mod Searches
+pub mod Pieces
+pub mod Names
+pub mod Headers
+pub mod Codes
+pub mod Inversions
+pub mod Headed
+pub mod Files
+pub mod Sections
+pub mod Opening
+pub mod Linking
