@@ -195,11 +195,11 @@ tells 1 'step 4 is told otherwise\n< 3 0x0 0x0 0x0 0x0 0x0 0x0 0x0 0x0 0x0 0x0 0
 registers='0 0 0 0 0 0 0 0 0 0 0 0'
 while read -r line; do
     told '# so' "$line"
-    refused 'refused D2 at line 2: neither a line of trace nor a slot and eleven registers' diff --trace there one.bin
+    refused 'refused X2 at line 2: neither a line of trace nor a slot and eleven registers' diff --trace there one.bin
     told "$registers" "$line"
-    refused 'refused D3 at line 2: not of the form of the first line' diff --trace there one.bin
+    refused 'refused X3 at line 2: not of the form of the first line' diff --trace there one.bin
     told "$first" '' "$line"
-    refused 'refused D3 at line 3: not of the form of the first line' diff --trace there one.bin
+    refused 'refused X3 at line 3: not of the form of the first line' diff --trace there one.bin
 done << 'LINES'
 0
 0 0 0 0 0 0 0 0 0 0 0
@@ -215,15 +215,15 @@ exited
 mov r0, 1
 LINES
 told "$first" "$registers"
-refused 'refused D3 at line 2: not of the form of the first line' diff --trace there one.bin
+refused 'refused X3 at line 2: not of the form of the first line' diff --trace there one.bin
 told "$registers" "$first"
-refused 'refused D3 at line 2: not of the form of the first line' diff --trace there one.bin
+refused 'refused X3 at line 2: not of the form of the first line' diff --trace there one.bin
 printf '%1024s\n' "$first" > there
 tells 1 'step 1 is told otherwise\n< 1 0: mov r0, 1; r0 = 0x1\n> 1 0: ldxb r2, [r1+0]; r2 = 0x4\n' diff --trace there one.bin
 printf '%s\n%1025s\n0\n' "$first" "$second" > there
-refused 'refused D1 at line 2: more than 1024 bytes' diff --trace there one.bin
+refused 'refused X1 at line 2: more than 1024 bytes' diff --trace there one.bin
 printf '#%1024s\n0\n' '' > there
-refused 'refused D1 at line 1: more than 1024 bytes' diff --trace there one.bin
+refused 'refused X1 at line 1: more than 1024 bytes' diff --trace there one.bin
 refused 'refused C3: length is no multiple of 8' diff --trace there ragged
 refused 'cannot read absent' diff --trace absent one.bin
 told "$first"

@@ -117,7 +117,7 @@ functions_end before =
 -- The line of each refusal.
 abbrev pub refusal_line : JobRefusal → List ℕ
 refusal_line (OtherRun refusal) = refusal_text refusal ++ codes " (the other run)\n"
-refusal_line (TraceLine fault line) = refused_line (codes "refused D") (line_fault fault).0 (Some line) (line_fault fault).1
+refusal_line (TraceLine fault line) = refused_line (codes "refused X") (line_fault fault).0 (Some line) (line_fault fault).1
 refusal_line (Script refusal) = commands.refusal_text refusal
 refusal_line (What fault) = refused_line (codes "refused V") (what_fault fault).0 None (what_fault fault).1
 refusal_line (Goal fault) = refused_line (codes "refused V") (goal_fault fault).0 None (goal_fault fault).1

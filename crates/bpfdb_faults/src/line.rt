@@ -54,7 +54,7 @@ fn put_refusal<E: Write>(
         JobRefusal::OtherRun(refusal) => put_other_run(errors, so_far, refusal),
         JobRefusal::TraceLine(fault, line) => {
             let (number, text) = (fault.number(), fault.text());
-            put_refused(errors, so_far, b"refused D", number, Some(*line), text)
+            put_refused(errors, so_far, b"refused X", number, Some(*line), text)
         }
         JobRefusal::Journal(fault) => {
             let (number, text) = (fault.number(), fault.text());

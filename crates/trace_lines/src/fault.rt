@@ -16,11 +16,11 @@ pub const LONGEST_LINE: usize = 1_024;
 /// What is wrong with a line of a trace.
 #[derive(Clone, Copy)]
 pub enum LineFault {
-    /// D1: it is too long.
+    /// X1: it is too long.
     Long,
-    /// D2: it is the first one, and has neither form.
+    /// X2: it is the first one, and has neither form.
     NoForm,
-    /// D3: it has another form than the first one, or none.
+    /// X3: it has another form than the first one, or none.
     OtherForm,
 }
 
