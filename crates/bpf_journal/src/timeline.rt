@@ -21,7 +21,7 @@ use crate::fields::edit_fits;
 use crate::keeper::Keeper;
 use crate::run::Run;
 use crate::taken::Taken;
-use bpf_machine::{Cpu, Edit, Ended, Entry, Move, Sort};
+use bpf_machine::{Cpu, Edit, Ended, Entry, Move};
 use bpf_ring::{RingKeeper, Stays, StopTest, change_replaces_bytes};
 use std::marker::Model;
 
@@ -167,35 +167,6 @@ impl<K: Keeper> Timeline<K> {
             (Fails K.holds move_of.Step self.old self.new)
             self.old.state result self.old.keeper self.new.keeper }
     {
-        // The arms are alike. Each is built for its sort of instruction.
-        match self.cpu.next_sort() {
-            Sort::Register => self.step_as(mark),
-            Sort::Jump => self.step_as(mark),
-            Sort::Load => self.step_as(mark),
-            Sort::Store => self.step_as(mark),
-            Sort::Other => self.step_apart(mark),
-        }
-    }
-
-    /// Takes and keeps a step out of the way of the common ones.
-    #[inline(never)]
-    fn step_apart(&mut self, mark: bool) -> Result<bool, TimelineFault>
-        ensures { TriesStep K.refused K.room
-            (Makes K.holds (K.room self.old.keeper) move_of.Step mark self.old self.new)
-            (Fails K.holds move_of.Step self.old self.new)
-            self.old.state result self.old.keeper self.new.keeper }
-    {
-        self.step_as(mark)
-    }
-
-    /// Takes and keeps a step.
-    #[inline(always)]
-    fn step_as(&mut self, mark: bool) -> Result<bool, TimelineFault>
-        ensures { TriesStep K.refused K.room
-            (Makes K.holds (K.room self.old.keeper) move_of.Step mark self.old self.new)
-            (Fails K.holds move_of.Step self.old self.new)
-            self.old.state result self.old.keeper self.new.keeper }
-    {
         self.cpu.invariant();
         let change = match self.cpu.look() {
             Ok(change) => change,
@@ -269,7 +240,7 @@ impl<K: Keeper> Timeline<K> {
         ensures room { K.room self.new.keeper ≡ K.room self.old.keeper }
     {
         match change {
-            Move::Step => match self.step_apart(mark) {
+            Move::Step => match self.step(mark) {
                 Ok(_) => Ok(()),
                 Err(fault) => Err(fault),
             },

@@ -18,17 +18,15 @@ use Rattle.bpf_isa.specs.declared.instruction.Source.TheVariants.{Immediate, Reg
 use Rattle.bpf_machine.specs.declared.moves.Move.TheVariants as move
 use Rattle.bpf_steps.specs.Access.{address}
 use Rattle.bpf_steps.specs.Atomics.{size_of}
-use Rattle.bpf_steps.specs.Next.{change}
-use Rattle.bpf_steps.specs.Sorts.{next_sort, sort_of}
+use Rattle.bpf_steps.specs.Next.{change, change_by}
 use Rattle.bpf_steps.specs.State.{State, depth, register}
 use Rattle.bpf_steps.specs.declared.change.Change.{Change}
 use Rattle.bpf_steps.specs.declared.change.Change.TheVariants.{Cell}
-use Rattle.bpf_steps.specs.declared.sort.Sort.TheVariants.{Other}
 use Rattle.bpf_origin.specs.Places.{depth_for}
 use Rattle.bpf_origin.specs.Reads.{load_len, of_compared, of_first, of_helper, of_key, of_register, of_source, of_value, reads, reads_by}
 use Rattle.bpf_origin.specs.declared.place.Part.{Part}
 use Rattle.bpf_origin.specs.declared.place.Part.TheVariants as part
-use Rattle.bpf_strict.specs.Marks.{first_by, first_of_call, first_of_helper, first_of_value, first_with, touches}
+use Rattle.bpf_strict.specs.Marks.{first_by, first_of_call, first_of_helper, first_of_value, first_with, is_quiet, next_touches, touches}
 use Rattle.bpf_strict.specs.Written.{first_among, first_in, first_of, is_stop, read_unwritten}
 
 -- the first of several
@@ -127,13 +125,13 @@ module _ (before : List State) where
   read-here x c o e is found = stopped-or false x o (ap is_stop (sym e) ∙ sym is) (found ∙ ap (first_with before x) e)
 
   -- arithmetic and jumps read no memory
-  quiet-insn : (x : State) (i : Insn) → touches (sort_of i) ≡ false → first_by before x (change x) i ≡ None
+  quiet-insn : (x : State) (i : Insn) → touches i ≡ false → first_by before x (change x) i ≡ None
   quiet-insn x (insn.Load size dst from) is = absurd cc
   quiet-insn x (insn.Atomic op width to src) is = absurd cc
   quiet-insn x (insn.CallHelper number) is = absurd cc
   quiet-insn x _ is = refl
 
-  quiet-found : (x : State) (found : Option Insn) → touches (option_map_or sort_of found Other) ≡ false
+  quiet-found : (x : State) (found : Option Insn) → option_map_or touches found true ≡ false
       → option_map_or (first_by before x (change x)) found None ≡ None
   quiet-found x None is = refl
   quiet-found x (Some i) is = quiet-insn x i is
@@ -142,7 +140,28 @@ module _ (before : List State) where
   none-anyway true o none = refl
   none-anyway false o none = sym none
 
-  pub read-quiet : (x : State) → touches (next_sort x) ≡ false → None ≡ read_unwritten before x
+  pub read-quiet : (x : State) → next_touches x ≡ false → None ≡ read_unwritten before x
   unfolding read_unwritten
   read-quiet x is =
       none-anyway (is_stop (change x)) (first_among before (reads x move.Step)) (sym (with-is x) ∙ quiet-found x (insn_at x.program x.pc) is)
+
+-- Neither do they change what is no register.
+quiet-by : (x : State) (i : Insn) → touches i ≡ false → is_quiet (change_by x i) ≡ true
+unfolding change_by
+quiet-by x (insn.Binary op width dst source) is = refl
+quiet-by x (insn.Negate width dst) is = refl
+quiet-by x (insn.SignExtend extension dst src) is = refl
+quiet-by x (insn.SwapBytes order width dst) is = refl
+quiet-by x (insn.JumpIf condition width dst source offset) is = refl
+quiet-by x (insn.Jump offset) is = refl
+quiet-by x (insn.JumpLong distance) is = refl
+quiet-by x (insn.LoadWide dst value) is = refl
+quiet-by x _ is = absurd cc
+
+quiet-at : (x : State) (found : Option Insn) (rest : Change) → option_map_or touches found true ≡ false → is_quiet (option_map_or (change_by x) found rest) ≡ true
+quiet-at x None rest is = absurd cc
+quiet-at x (Some i) rest is = quiet-by x i is
+
+pub change-quiet : (x : State) → next_touches x ≡ false → is_quiet (change x) ≡ true
+unfolding change
+change-quiet x is = quiet-at x (insn_at x.program x.pc) _ is

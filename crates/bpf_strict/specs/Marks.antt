@@ -14,8 +14,6 @@ use Rattle.bpf_steps.specs.Platform.{frame_base, frame_len}
 use Rattle.bpf_steps.specs.State.{State, depth, register}
 use Rattle.bpf_steps.specs.declared.change.Change.{Change}
 use Rattle.bpf_steps.specs.declared.change.Change.TheVariants.{Set, Go, Store, Fetch, Call, Cell}
-use Rattle.bpf_steps.specs.declared.sort.Sort.{Sort}
-use Rattle.bpf_steps.specs.declared.sort.Sort.TheVariants as sort
 use Rattle.bpf_origin.specs.Reads.{load_len}
 use Rattle.bpf_strict.specs.Written.{first_in, is_written}
 use Rattle.bpf_strict.specs.declared.marks.Run.{Run}
@@ -61,11 +59,20 @@ first_by before x c _ = None
 abbrev pub first_with : List State → State → Change → Option ℕ
 first_with before x c = option_map_or (first_by before x c) (insn_at x.program x.pc) None
 
--- Instructions of these sorts neither read memory nor write it, and their changes are these.
-abbrev pub touches : Sort → Bool
-touches sort.Register = false
-touches sort.Jump = false
+-- Whether an instruction may read memory or write it, and whether that at pc may. The changes of one that does neither are quiet.
+abbrev pub touches : Insn → Bool
+touches (insn.Binary op width dst source) = false
+touches (insn.Negate width dst) = false
+touches (insn.SignExtend extension dst src) = false
+touches (insn.SwapBytes order width dst) = false
+touches (insn.JumpIf condition width dst source offset) = false
+touches (insn.Jump offset) = false
+touches (insn.JumpLong distance) = false
+touches (insn.LoadWide dst value) = false
 touches _ = true
+
+abbrev pub next_touches : State → Bool
+next_touches x = option_map_or touches (insn_at x.program x.pc) true
 
 abbrev pub is_quiet : Change → Bool
 is_quiet (Set r value next) = true

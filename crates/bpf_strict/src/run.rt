@@ -1,15 +1,15 @@
 //! A run up to the first step that reads a byte of the stack where nothing was written.
 ghost use Rattle.std.specs.Prelude.{◌≡◌, ◌∷◌, IfNone, List, OnSome, false, true};
 ghost use Rattle.bpf_entries.specs.Status.{has_ended};
-ghost use Rattle.bpf_steps.specs.Next.{change as change_in, next};
-ghost use Rattle.bpf_steps.specs.Sorts.{next_sort};
+ghost use Rattle.bpf_steps.specs.Next.{next};
 ghost use Rattle.bpf_steps.specs.State.{State};
-ghost use Rattle.bpf_strict.specs.Marks.{IsMarked, is_quiet, touches};
+ghost use Rattle.bpf_strict.specs.Marks.{IsMarked, next_touches, touches};
 ghost use Rattle.bpf_strict.specs.Written.{read_unwritten, unwritten_of};
 
 use crate::marks::{ROOM, note};
 use crate::reads::first_read;
-use bpf_machine::{Cpu, Ended, Sort};
+use bpf_isa::Insn;
+use bpf_machine::{Cpu, Ended};
 use bpf_trace::Taken;
 
 /// A step that would read a byte of the stack which no step wrote since its frame was entered.
@@ -82,11 +82,28 @@ fn go_on(cpu: &mut Cpu, marks: &mut [bool; ROOM]) -> Option<u64>
 /// Whether the next step may read memory, or write it. One of arithmetic and a jump don't.
 #[inline(always)]
 fn may_touch(cpu: &Cpu) -> bool
-    ensures value { result ≡ touches (next_sort cpu.now) }
-    ensures quiet { result ≡ false → is_quiet (change_in cpu.now) ≡ true }
+    ensures { result ≡ next_touches cpu.now }
 {
-    match cpu.next_sort() {
-        Sort::Register | Sort::Jump => false,
+    match cpu.program().insn_at(usize::from(cpu.pc())) {
+        Some(insn) => insn_touches(&insn),
+        None => true,
+    }
+}
+
+/// Whether an instruction may read memory, or write it.
+#[inline(always)]
+fn insn_touches(insn: &Insn) -> bool
+    ensures { result ≡ touches insn.now }
+{
+    match insn {
+        Insn::Binary { .. }
+        | Insn::Negate { .. }
+        | Insn::SignExtend { .. }
+        | Insn::SwapBytes { .. }
+        | Insn::JumpIf { .. }
+        | Insn::Jump { .. }
+        | Insn::JumpLong { .. }
+        | Insn::LoadWide { .. } => false,
         _ => true,
     }
 }

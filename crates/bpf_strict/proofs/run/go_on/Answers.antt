@@ -1,14 +1,14 @@
 use Rattle.std.proofs.Common.{◌∙◌, sym}
 use Rattle.bpf_strict.proofs.Marking.{marks-quiet}
-use Rattle.bpf_strict.proofs.Reading.{read-quiet}
+use Rattle.bpf_strict.proofs.Reading.{change-quiet, read-quiet}
 use Rattle.bpf_strict.proofs.run.go_on.Goals as goal
 
 pub returns-then-not-may_touch-clause-read : goal.returns-then-not-may_touch-clause-read
-returns-then-not-may_touch-clause-read c = λ before m. read-quiet before c.args.cpu.now (sym c.may_touch.ensures.value ∙ c.if-not-may_touch.true)
+returns-then-not-may_touch-clause-read c = λ before m. read-quiet before c.args.cpu.now (sym c.may_touch.ensures ∙ c.if-not-may_touch.true)
 
 pub returns-then-not-may_touch-clause-marks : goal.returns-then-not-may_touch-clause-marks
 returns-then-not-may_touch-clause-marks c = λ before m.
-    marks-quiet before c.args.cpu.now c.args.marks.now m c.invariant.ensures (c.may_touch.ensures.quiet c.if-not-may_touch.true)
+    marks-quiet before c.args.cpu.now c.args.marks.now m c.invariant.ensures (change-quiet c.args.cpu.now (sym c.may_touch.ensures ∙ c.if-not-may_touch.true))
 
 pub returns-in-Some-clause-read : goal.returns-in-Some-clause-read
 returns-in-Some-clause-read c = λ before m. sym c.in-Some.is ∙ c.first_read.ensures before m

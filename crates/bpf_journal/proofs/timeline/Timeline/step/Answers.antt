@@ -6,7 +6,7 @@ use Rattle.bpf_machine.specs.declared.moves.Move.TheVariants as move
 use Rattle.bpf_machine.specs.Moves.{Leads}
 use Rattle.bpf_entries.specs.Status.{has_ended}
 use Rattle.bpf_journal.proofs.Histories.{kept_history, makes}
-use Rattle.bpf_journal.proofs.timeline.Timeline.step_as.Goals as goal
+use Rattle.bpf_journal.proofs.timeline.Timeline.step.Goals as goal
 
 pub invariant_of-self-2 : goal.invariant_of-self-2
 invariant_of-self-2 g c =
