@@ -1,5 +1,4 @@
 pub mod Cells
-pub mod Sorts
 pub mod Fitting
 pub mod Editable
 pub mod Undoing

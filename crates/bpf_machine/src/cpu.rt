@@ -20,7 +20,7 @@ use arrayvec::ArrayVec;
 use bpf_entries::{ByteString, Status};
 use bpf_isa::{Program, Reg, Size};
 use bpf_steps::platform::TRACE_LIMIT;
-use bpf_steps::{Change, Code, FlatCode, Frame, Memory, are_registers, are_words};
+use bpf_steps::{Change, FlatCode, Frame, Memory, are_registers, are_words};
 pub use keep::Kept;
 use std::marker::Model;
 
@@ -28,9 +28,7 @@ use std::marker::Model;
 #[derive(Drop)]
 pub struct Cpu {
     program: Program,
-    /// The program's instructions in the machine's own form, slot by slot.
-    code: Vec<Code>,
-    /// Its instructions in the form that a run takes, slot by slot.
+    /// The program's instructions in the form that a run takes, slot by slot.
     flats: Vec<FlatCode>,
     pc: u16,
     /// r0 to r9, and the frame pointer, which follows from the depth.
@@ -44,7 +42,6 @@ pub struct Cpu {
 impl Model for Cpu {
     ghost use Rattle.std.specs.Prelude.{◌≡◌, ◌<◌, All, take, length, slice_index};
     ghost use Rattle.bpf_isa.specs.Programs.{IsStart};
-    ghost use Rattle.bpf_steps.specs.Codes.{codes_of};
     ghost use Rattle.bpf_steps.specs.Flat.{AreFlat};
     ghost use Rattle.bpf_steps.specs.Platform.{frame_pointer, frame_count};
     ghost use Rattle.bpf_steps.specs.State.{State, IsFrame};
@@ -55,8 +52,7 @@ impl Model for Cpu {
 
     ghost invariant = { λ c. record {
       start : IsStart c.program c.pc;
-      coded : c.code.items ≡ codes_of c.program;
-      flat : AreFlat (codes_of c.program) c.flats.items;
+      flat : AreFlat c.program c.flats.items;
       pointer : slice_index c.registers 10 ≡ frame_pointer (length c.frames.items);
       shallow : length c.frames.items < frame_count;
       framed : All (IsFrame c.program) c.frames.items;

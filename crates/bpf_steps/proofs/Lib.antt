@@ -3,7 +3,7 @@ pub mod Spans
 pub mod ByAddress
 pub mod Facts
 pub mod Loans
-pub mod Codes
+pub mod Resolved
 pub mod Flats
 pub mod Arms
 pub mod Running

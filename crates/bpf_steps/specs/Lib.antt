@@ -3,7 +3,6 @@ pub mod Arithmetic
 pub mod Atomics
 pub mod ByAddress
 pub mod Calls
-pub mod Codes
 pub mod Entries
 pub mod Fetched
 pub mod Flat
@@ -18,8 +17,8 @@ pub mod Numbers
 pub mod Opening
 pub mod Platform
 pub mod Regions
+pub mod Resolved
 pub mod Runs
-pub mod Sorts
 pub mod Spans
 pub mod State
 pub mod Swaps

@@ -1,6 +1,6 @@
 //! What a step does to the machine: the places that it replaces, and their new values.
 ghost use Rattle.std.specs.Prelude.{◌≡◌};
-ghost use Rattle.bpf_steps.specs.Codes.{change_weight};
+ghost use Rattle.bpf_steps.specs.Entries.{change_weight};
 
 use bpf_entries::{FRAME_LEN, Status, weights};
 use bpf_isa::{Reg, Size};

@@ -4,7 +4,6 @@
 
 pub mod alu;
 mod change;
-mod code;
 mod fault;
 mod flat;
 mod frame;
@@ -12,14 +11,11 @@ mod map_layout;
 mod memory;
 pub mod platform;
 pub mod run;
-mod sort;
 mod words;
 
 pub use change::Change;
-pub use code::{Code, codes_of};
 pub use fault::OpenFault;
 pub use flat::{FlatCode, flats_of};
 pub use frame::Frame;
 pub use memory::Memory;
-pub use sort::Sort;
 pub use words::{are_registers, are_words};

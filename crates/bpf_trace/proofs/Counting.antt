@@ -14,7 +14,7 @@ use Rattle.bpfdb_replies.specs.Texts.{text_at}
 use Rattle.bpf_steps.specs.Next.{next}
 use Rattle.bpf_steps.specs.Runs.{Steps}
 use Rattle.bpf_steps.specs.State.{State, IsState}
-use Rattle.bpf_steps.proofs.Codes.{start-within}
+use Rattle.bpf_steps.proofs.Resolved.{start-within}
 use Rattle.bpf_machine.proofs.StepLaws.{law_rest}
 use Rattle.bpf_trace.specs.Runs.{steps_of}
 use Rattle.bpf_trace.specs.Profiles.{count_line, count_lines, profile_of, times}

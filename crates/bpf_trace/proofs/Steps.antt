@@ -14,7 +14,7 @@ use Rattle.bpf_steps.specs.State.{IsState, State, depth}
 use Rattle.bpf_steps.specs.declared.change.Change.{Change}
 use Rattle.bpf_steps.specs.declared.change.Change.TheVariants.{Set, Go, Store, Fetch, Call, Return, Cell, Trace, Stop}
 use Rattle.bpf_steps.proofs.ByAddress.{fits_within, length-run}
-use Rattle.bpf_steps.proofs.Codes.{start-within}
+use Rattle.bpf_steps.proofs.Resolved.{start-within}
 use Rattle.bpf_machine.proofs.Fitting.{change_fits}
 use Rattle.bpf_origin.specs.Writes.{written}
 use Rattle.bpf_origin.specs.declared.place.Part.TheVariants as part

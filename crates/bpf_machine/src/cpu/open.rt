@@ -8,7 +8,7 @@ use arrayvec::ArrayVec;
 use bpf_entries::Status;
 use bpf_isa::Program;
 use bpf_steps::platform::{CONTEXT_BASE, frame_pointer};
-use bpf_steps::{Memory, OpenFault, codes_of, flats_of};
+use bpf_steps::{Memory, OpenFault, flats_of};
 use std::alloc::Global;
 
 impl Cpu {
@@ -24,17 +24,12 @@ impl Cpu {
             Ok(memory) => memory,
             Err(fault) => return Err(fault),
         };
-        let code = match codes_of(alloc, &program) {
-            Ok(code) => code,
-            Err(_) => return Err(OpenFault::OutOfMemory),
-        };
-        let flats = match flats_of(alloc, code.as_slice()) {
+        let flats = match flats_of(alloc, &program) {
             Ok(flats) => flats,
             Err(_) => return Err(OpenFault::OutOfMemory),
         };
         Ok(Cpu {
             program,
-            code,
             flats,
             pc: 0,
             registers: opening_registers(context),

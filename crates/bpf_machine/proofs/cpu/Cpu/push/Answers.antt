@@ -8,7 +8,6 @@ use Rattle.bpf_machine.proofs.cpu.Cpu.push.Goals as goal
 pub invariant_of-self : goal.invariant_of-self
 invariant_of-self c = record {
   start = c.self.invariant.start;
-  coded = c.self.invariant.coded;
   flat = c.self.invariant.flat;
   pointer = search rules;
   shallow =
