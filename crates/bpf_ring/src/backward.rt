@@ -56,7 +56,7 @@ impl RingKeeper {
         ensures { HandsSteps marks.now stays most (beside cpu.old self.old)
             (beside cpu.new self.new) other.old other.new result }
     {
-        let text = self.ring.newest_run();
+        let text = self.ring.newest_run(self.ring.len());
         let handed = other.ring.take_run(cpu, text, most, marks, stays);
         self.ring.drop_newest(handed.len);
         let less = self.counts.entries.saturating_sub(handed.taken as usize);

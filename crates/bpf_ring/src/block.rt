@@ -5,7 +5,11 @@ ghost use Rattle.bpf_ring.specs.Recorded.{HasPlace, WritesIn};
 
 use circular_buffer::HeapCircularBuffer;
 
-/// Fills a buffer with zeros so that it has so many bytes, or until it is full: 4,096 at a time.
+/// How many bytes more a buffer gets than are asked for, so that it is filled seldom.
+const AHEAD: usize = 4_096;
+
+/// Fills a buffer with zeros so that it has so many bytes and some more, or until it is full: 1,024
+/// at a time, which the C library writes by wide stores, and not by one instruction a byte.
 /// Where it then goes around its end, it is filled on to twice that, since all of it will be moved.
 pub(crate) fn fill(buffer: &mut HeapCircularBuffer<u8>, count: usize)
     ensures capacity { buffer.new.capacity ≡ buffer.old.capacity }
@@ -15,7 +19,7 @@ pub(crate) fn fill(buffer: &mut HeapCircularBuffer<u8>, count: usize)
         count ≤ length buffer.new.items }
 {
     if count > buffer.len() {
-        fill_on(buffer, count);
+        fill_on(buffer, count.saturating_add(AHEAD));
         if !buffer.as_slices().1.is_empty() {
             fill_on(buffer, 2 * buffer.len());
         }
@@ -32,7 +36,7 @@ fn fill_on(buffer: &mut HeapCircularBuffer<u8>, count: usize)
 {
     let end = count.min(buffer.capacity());
     while buffer.len() < end {
-        buffer.fill_from_slice(&[0u8; 4096]);
+        buffer.fill_from_slice(&[0u8; 1024]);
     }
 }
 

@@ -26,7 +26,7 @@ const STEPS: u64 = 128;
 pub(crate) const BYTES: usize = 4_096;
 
 /// Those of a piece of steps that are repeated, of which few come at once.
-const FEW: usize = 1_344;
+const FEW: usize = 2_016;
 
 /// The fewest bytes that a ring has beside a piece.
 const SPARE: usize = 16;

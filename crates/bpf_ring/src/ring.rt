@@ -245,15 +245,15 @@ impl Ring {
         Some(&block[from..from + count])
     }
 
-    /// The newest bytes that lie in one piece up to the newest one.
+    /// The newest bytes that lie in one piece up to the newest one, at most so many.
     #[inline(always)]
-    pub(crate) fn newest_run(&self) -> &[u8]
+    pub(crate) fn newest_run(&self, most: usize) -> &[u8]
         ensures within { length result.now ≤ length self.now.bytes }
         ensures newest { result.now
             ≡ drop (length self.now.bytes - length result.now) self.now.bytes }
     {
         let end = place(self.buffer.len(), self.first, self.len());
-        match self.newest_piece(end.min(self.len())) {
+        match self.newest_piece(end.min(self.len()).min(most)) {
             Some(piece) => piece,
             None => &[],
         }

@@ -12,6 +12,9 @@ ghost use Rattle.bpf_ring.specs.Ways.{HasText};
 use crate::keeper::RingKeeper;
 use crate::ring::number;
 
+/// The most bytes of a stretch: for steps of so many bytes a piece has room as a rule.
+const REACH: usize = 1_800;
+
 /// Some of the newest entries, each of a step and without a mark.
 #[derive(Clone, Copy)]
 pub struct Stretch {
@@ -28,7 +31,7 @@ impl RingKeeper {
         ensures within { result.count ≤ most }
         ensures stretch { (ks : List Kept) → RingHolds self.now ks → IsStretch result ks }
     {
-        stretch_in(self.ring.newest_run(), most)
+        stretch_in(self.ring.newest_run(REACH), most)
     }
 
     /// Drops so many of a stretch of the newest entries.

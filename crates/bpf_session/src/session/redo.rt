@@ -11,7 +11,7 @@ use bpfdb_commands::{Count, Refusal};
 use bpfdb_replies::Why;
 
 /// The most steps that are made again at once.
-const LONGEST: u64 = 42;
+const LONGEST: u64 = 63;
 
 /// How many of them pay.
 const WORTHWHILE: u64 = 8;
