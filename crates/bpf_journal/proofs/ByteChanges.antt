@@ -17,8 +17,9 @@ use Rattle.bpf_journal.specs.Replaced.{byte_before, depth_before, depth_by}
 use Rattle.bpf_journal.proofs.Items.{few_entries}
 use Rattle.bpf_journal.specs.Changes.{further, change_in}
 use Rattle.bpf_journal.specs.declared.timeline.ByteChange.{ByteChange}
-use Rattle.bpf_journal.proofs.Telling.{level_by, no_run, tells_before}
-use Rattle.bpf_ring.specs.Quiet.{AreQuiet, IsQuiet}
+use Rattle.bpf_journal.proofs.Telling.{tells_before}
+use Rattle.bpf_ring.specs.Quiet.{AreQuiet}
+use Rattle.bpf_ring.specs.declared.quiet.PassedOver.{PassedOver}
 use Rattle.bpf_journal.proofs.Walks.{At, entry_at, drop_all, split_at}
 
 further_none : (o : Option ByteChange) → o ≡ option_map (further 0) o
@@ -51,7 +52,7 @@ one_by (More saved) d = omega arith
 one_deeper : (d : ℕ) (e : Entry) → depth_before d e ≤ d + 1
 one_deeper d e = one_by (past d e).frames d
 
--- Moves that left memory and the depth as they were are passed over.
+-- Moves that left the byte as it was are passed over.
 further_one : (n : ℕ) (o : Option ByteChange) → option_map (further 1) (option_map (further n) o) ≡ option_map (further (suc n)) o
 further_one n None = refl
 further_one n (Some c) =
@@ -64,16 +65,24 @@ further_both k n (Some c) =
     let sum : k + (n + c.moves) ≡ k + n + c.moves = omega arith in
     ap (λ (m : ℕ). Some (record c { moves = m })) sum
 
-quiet_on : (a d value n : ℕ) (ks : List Kept) → AreQuiet n ks → change_in a d value ks ≡ option_map (further n) (change_in a d value (drop n ks))
-quiet_on a d value zero ks quiet = further_none (change_in a d value ks)
-quiet_on a d value (suc n) [] quiet = absurd (omega (arith, quiet.there))
-quiet_on a d value (suc n) (k ∷ ks) quiet =
-    let is = All-head IsQuiet k (take n ks) quiet.each in
-    let rest : AreQuiet n ks = record { there = omega (arith, quiet.there); each = All-tail IsQuiet k (take n ks) quiet.each } in
-    same_byte a d value value k ks (sym (no_run k.0 (ap is_some is.0) d a value)) refl
-    ∙ ap (λ (e : ℕ). option_map (further 1) (change_in a e value ks)) (level_by d k.0 is.1)
-    ∙ ap (option_map (further 1)) (quiet_on a d value n ks rest)
-    ∙ further_one n (change_in a d value (drop n ks))
+quiet_on : (a value d e n : ℕ) (ks : List Kept) → AreQuiet a value d e n ks → change_in a d value ks ≡ option_map (further n) (change_in a e value (drop n ks))
+quiet_on a value d e zero ks quiet = subst (λ (f : ℕ). change_in a f value ks ≡ option_map (further 0) (change_in a e value ks)) quiet (further_none (change_in a e value ks))
+quiet_on a value d e (suc n) [] quiet = absurd quiet
+quiet_on a value d e (suc n) (k ∷ ks) quiet =
+    same_byte a d value value k ks (sym quiet.0) refl
+    ∙ ap (option_map (further 1)) (quiet_on a value (depth_before d k.0) e n ks quiet.1)
+    ∙ further_one n (change_in a e value (drop n ks))
+
+-- There are so many, and the depth before them isn't much greater.
+quiet_low : (a value d e n : ℕ) (ks : List Kept) → AreQuiet a value d e n ks → (n ≤ length ks) × (e ≤ d + n)
+quiet_low a value d e zero ks quiet = (omega arith, omega (arith, quiet))
+quiet_low a value d e (suc n) [] quiet = absurd quiet
+quiet_low a value d e (suc n) (k ∷ ks) quiet =
+    let rest = quiet_low a value (depth_before d k.0) e n ks quiet.1 in
+    let one = one_deeper d k.0 in
+    let many = rest.0 in
+    let low = rest.1 in
+    (omega (arith, many), omega (arith, low, one))
 
 module _ {K : Type 0} (holds : K → List Kept → Type 0) (place : K → List Kept → ℕ) (keeper : K) where
   -- after k turns a walk is at the place of the front without its k newest, at the depth there; these left the byte as it was
@@ -102,22 +111,25 @@ module _ {K : Type 0} (holds : K → List Kept → Type 0) (place : K → List K
       omega (arith, few_entries es, weighs, most, low, lt, shallow)
 
   -- some are passed over
-  pub looking_past : (es : List Kept) (a value d at e k : ℕ) (passed : ℕ × ℕ) → holds keeper es → k ≤ length es → Looking es a value d at e k → Passes holds place keeper at passed
-      → Looking es a value d passed.1 e (k + passed.0) × (k + passed.0 ≤ length es)
+  pub looking_past : (es : List Kept) (a value d at e k : ℕ) (passed : PassedOver) → holds keeper es → k ≤ length es → Looking es a value d at e k → Passes holds place keeper at a value e passed
+      → Looking es a value d passed.place passed.depth (k + passed.count) × (k + passed.count ≤ length es)
   looking_past es a value d at e k passed held within w passes =
       let p = passes (take k es) (drop k es) (subst (holds keeper) (sym (split_at es k)) held) w.here in
-      let on : drop passed.0 (drop k es) ≡ drop (k + passed.0) es = drop-drop passed.0 k es in
+      let on : drop passed.count (drop k es) ≡ drop (k + passed.count) es = drop-drop passed.count k es in
+      let few = quiet_low a value e passed.depth passed.count (drop k es) p.quiet in
+      let many = few.0 in
+      let deep = few.1 in
       let low = w.low in (
         record {
           here = ap (place keeper) (sym on) ∙ p.behind;
           rest =
               w.rest
-              ∙ ap (option_map (further k)) (quiet_on a e value passed.0 (drop k es) p.quiet)
-              ∙ further_both k passed.0 (change_in a e value (drop passed.0 (drop k es)))
-              ∙ ap (λ (ks : List Kept). option_map (further (k + passed.0)) (change_in a e value ks)) on;
-          low = omega (arith, low);
+              ∙ ap (option_map (further k)) (quiet_on a value e passed.depth passed.count (drop k es) p.quiet)
+              ∙ further_both k passed.count (change_in a passed.depth value (drop passed.count (drop k es)))
+              ∙ ap (λ (ks : List Kept). option_map (further (k + passed.count)) (change_in a passed.depth value ks)) on;
+          low = omega (arith, low, deep);
         },
-        omega (arith, p.quiet.there, length-drop k es, within),
+        omega (arith, many, length-drop k es, within),
       )
 
   -- what is told there

@@ -2,6 +2,7 @@
 use Rattle.std.specs.Prelude.{◌≡◌, ◌≤◌, ℕ, Bool, List, [], ◌∷◌, ◌++◌, Option, Some, None, Result, Ok, Err, OnOk, OnErr, drop, sum_by}
 use Rattle.bpf_entries.specs.declared.entry.Entry.{Entry}
 use Rattle.bpf_ring.specs.Quiet.{AreQuiet}
+use Rattle.bpf_ring.specs.declared.quiet.PassedOver.{PassedOver}
 use Rattle.bpf_journal.specs.Counts.{one_more}
 use Rattle.bpf_entries.specs.Keeping.{IsSize, Kept, keep, kept_weight}
 use Rattle.bpf_journal.specs.Histories.{newest, older}
@@ -63,15 +64,15 @@ module _ {K : Type 0} (holds : K → List Kept → Type 0) where
       (newer front : List Kept) → holds keeper (newer ++ front) → place keeper front ≡ at → result ≡ walked (place keeper) front
 
   -- A byte and the depth are told of each front at the place.
-  -- So many of the newest entries of the front at a place are of moves that left memory and the depth of calls as they were, and that is the
-  -- place of the others.
-  pub record IsPassed (place : List Kept → ℕ) (front : List Kept) (passed : ℕ × ℕ) : Type 0 where
-    pub quiet : AreQuiet passed.0 front
-    pub behind : place (drop passed.0 front) ≡ passed.1
+  -- So many of the newest entries of the front at a place are of moves that left the byte at an address as it was, before them the depth of calls
+  -- is this one, and that is the place of the others.
+  pub record IsPassed (place : List Kept → ℕ) (address byte depth : ℕ) (front : List Kept) (passed : PassedOver) : Type 0 where
+    pub quiet : AreQuiet address byte depth passed.depth passed.count front
+    pub behind : place (drop passed.count front) ≡ passed.place
 
-  abbrev pub Passes : (K → List Kept → ℕ) → K → ℕ → ℕ × ℕ → Type 0
-  Passes place keeper at passed =
-      (newer front : List Kept) → holds keeper (newer ++ front) → place keeper front ≡ at → IsPassed (place keeper) front passed
+  abbrev pub Passes : (K → List Kept → ℕ) → K → ℕ → ℕ → ℕ → ℕ → PassedOver → Type 0
+  Passes place keeper at address byte depth passed =
+      (newer front : List Kept) → holds keeper (newer ++ front) → place keeper front ≡ at → IsPassed (place keeper) address byte depth front passed
 
   abbrev pub TellsByteBefore : (K → List Kept → ℕ) → K → ℕ → ℕ → ℕ → ℕ → Option (ℕ × ℕ × ℕ) → Type 0
   TellsByteBefore place keeper at depth address after result =

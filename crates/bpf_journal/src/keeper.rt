@@ -21,7 +21,7 @@ use crate::run::Run;
 use crate::taken::Taken;
 use bpf_machine::laws::entries_fit;
 use bpf_machine::{Change, Cpu, Ended, Entry};
-use bpf_ring::{RingKeeper, Stays, StopTest, Touched, change_replaces_bytes};
+use bpf_ring::{PassedOver, RingKeeper, Stays, StopTest, Touched, change_replaces_bytes};
 use std::alloc::AllocError;
 
 /// Keeps the newest entries of moves, in a journal of some size. Its content is a list of entries
@@ -261,14 +261,20 @@ pub trait Keeper {
         requires { IsPlace holds place self.now at }
         ensures { WalksBack holds place self.now at result };
 
-    /// How many of the newest entries of the front at a place are of moves that left the bytes of
-    /// memory and the depth of calls as they were, maybe none of them; and the place of the front
-    /// without them. By itself a keeper passes over none.
-    fn pass_over(&self, at: usize) -> (usize, usize)
+    /// How many of the newest entries of the front at a place are of moves that left the byte at an
+    /// address as it was, which is `value` behind them, maybe none of them; the place of the front
+    /// without them; and the depth of calls before them, by that behind them. By itself a keeper
+    /// passes over none.
+    fn pass_over(&self, at: usize, depth: u32, address: u64, value: u8) -> PassedOver
         requires { IsPlace holds place self.now at }
-        ensures { Passes holds place self.now at result }
+        ensures { Passes holds place self.now at address value depth result }
     {
-        (0, at)
+        let _byte = (address, value);
+        PassedOver {
+            count: 0,
+            place: at,
+            depth,
+        }
     }
 
     /// What the byte at an address and the depth of calls were before the newest entry's move of

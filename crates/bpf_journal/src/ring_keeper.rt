@@ -7,7 +7,7 @@ use crate::keeper::Keeper;
 use crate::run::Run;
 use crate::taken::Taken;
 use bpf_machine::{Change, Cpu, Entry};
-use bpf_ring::{RingKeeper, Stays, StopTest, Touched};
+use bpf_ring::{PassedOver, RingKeeper, Stays, StopTest, Touched};
 use std::alloc::AllocError;
 
 impl Keeper for RingKeeper {
@@ -126,8 +126,8 @@ impl Keeper for RingKeeper {
     }
 
     #[inline(always)]
-    fn pass_over(&self, at: usize) -> (usize, usize) {
-        self.pass_over(at)
+    fn pass_over(&self, at: usize, depth: u32, address: u64, value: u8) -> PassedOver {
+        self.pass_over(at, depth, address, value)
     }
 
     fn byte_before(

@@ -309,9 +309,10 @@ fn change_among<K: Keeper>(keeper: &K, depth: u32, address: u64, value: u8) -> O
     let mut k = 0;
     let len = keeper.len();
     while k < len {
-        let (passed, behind) = keeper.pass_over(at);
-        k += passed;
-        at = behind;
+        let passed = keeper.pass_over(at, deep, address, value);
+        k += passed.count;
+        at = passed.place;
+        deep = passed.depth;
         if k >= len {
             return None;
         }

@@ -4,6 +4,7 @@ pub mod Held
 pub mod Runs
 pub mod PieceLaws
 pub mod Edges
+pub mod QuietLaws
 pub mod StretchLaws
 pub mod Spans
 pub mod Touching

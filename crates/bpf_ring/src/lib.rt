@@ -19,6 +19,7 @@ mod touched;
 pub use backward::Stays;
 pub use fault::JournalFault;
 pub use keeper::{Head, RingKeeper};
+pub use quiet::PassedOver;
 pub use ring::Ring;
 pub use run::{StopTest, change_replaces_bytes};
 pub use size::is_size;

@@ -1,84 +1,122 @@
-//! Quiet moves, which left the bytes of memory and the depth of calls as they were: their entries are
-//! passed over where they lie.
-ghost use Rattle.std.specs.Prelude.{◌≡◌, ◌≤◌, ◌∷◌, ◌++◌, ℕ, Bool, List, length, sum_by, true};
+//! Moves that left the byte at an address as it was: their entries are passed over where they lie.
+ghost use Rattle.std.specs.Prelude.{◌≡◌, ◌≤◌, ◌<◌, ◌+◌, ◌^◌, ◌∷◌, ◌++◌, ℕ, Bool, List, IfSome, length, sum_by};
+ghost use Rattle.bpf_entries.specs.Before.{byte_before as byte_before_by, depth_before as depth_before_by};
 ghost use Rattle.bpf_entries.specs.Fields.{FitsFields};
 ghost use Rattle.bpf_entries.specs.Keeping.{Kept, kept_weight};
 ghost use Rattle.bpf_entries.specs.Texts.{text as text_of};
 ghost use Rattle.bpf_entries.specs.declared.entry.Entry.{Entry};
 ghost use Rattle.bpf_ring.specs.Held.{RingHolds};
-ghost use Rattle.bpf_ring.specs.Quiet.{EndsQuiet, IsQuiet, IsQuietStretch, PassesOver};
+ghost use Rattle.bpf_ring.specs.Quiet.{EndsQuiet, IsQuietTo, PassesOver};
 ghost use Rattle.bpf_ring.specs.Ways.{HasText};
 
 use crate::keeper::RingKeeper;
 use crate::ring::number;
-use crate::stretches::Stretch;
+use bpf_entries::{byte_before, depth_before};
+
+/// How far entries were passed over.
+#[derive(Clone, Copy)]
+pub struct PassedOver {
+    /// How many they were.
+    pub count: usize,
+    /// The place of the front without them.
+    pub place: usize,
+    /// The depth of calls before their moves.
+    pub depth: u32,
+}
 
 impl RingKeeper {
-    /// How many of the newest entries of the front at a place are of quiet moves that lie in one
-    /// piece, maybe none; and the place of the front without them.
+    /// How many of the newest entries of the front at a place are of moves that left the byte at an
+    /// address as it was, which is `value` behind them, and lie in one piece, maybe none; the place
+    /// of the front without them; and the depth of calls before them, by that behind them.
     #[inline(always)]
-    pub fn pass_over(&self, place: usize) -> (usize, usize)
+    pub fn pass_over(&self, place: usize, depth: u32, address: u64, value: u8) -> PassedOver
         ensures { (newer front : List Kept) → RingHolds self.now (newer ++ front) →
-            place ≡ sum_by kept_weight front → PassesOver front result }
+            place ≡ sum_by kept_weight front → PassesOver address value depth front result }
     {
         if place > self.ring.len() {
-            return (0, place);
+            return PassedOver {
+                count: 0,
+                place,
+                depth,
+            };
         }
-        let passed = quiet_in(self.ring.run_before(place));
-        (passed.count as usize, place - passed.len)
+        let run = self.ring.run_before(place);
+        let passed = quiet_in(run, depth, address, value);
+        PassedOver {
+            count: passed.count,
+            place: place - run.len() + passed.place,
+            depth: passed.depth,
+        }
     }
 }
 
-/// The stretch of quiet moves that the end of a text is.
+/// How many entries at the end of a text are of such moves, and how many bytes are in front of them.
 #[inline(always)]
-fn quiet_in(text: &[u8]) -> Stretch
-    ensures within { (result.count ≤ length text.now) × (result.len ≤ length text.now) }
+fn quiet_in(text: &[u8], depth: u32, address: u64, value: u8) -> PassedOver
+    ensures within { result.place ≤ length text.now }
     ensures quiet { (front : List ℕ) (ks : List Kept) → HasText (front ++ text.now) ks →
-        IsQuietStretch result ks }
+        IsQuietTo address value depth front text.now ks result }
 {
-    let mut len = 0;
-    let most = text.len() as u64;
-    for count in 0..most {
-        let weight = quiet_len(&text[..text.len() - len]);
-        if weight == 0 {
-            return Stretch { count, len };
+    let mut place = text.len();
+    let mut deep = depth;
+    for count in 0..text.len() {
+        match quiet_end(&text[..place], deep, address, value) {
+            Some((weight, before)) => {
+                place -= weight;
+                deep = before;
+            }
+            None => {
+                return PassedOver {
+                    count,
+                    place,
+                    depth: deep,
+                };
+            }
         }
-        len += weight;
     }
-    Stretch { count: most, len }
+    PassedOver {
+        count: text.len(),
+        place,
+        depth: deep,
+    }
 }
 
-/// How many bytes the entry has that the end of a text is, where that is of a quiet move; else 0.
+/// How many bytes the entry has that the end of a text is, and the depth of calls before its move,
+/// where that left the byte as it was.
 #[inline(always)]
-fn quiet_len(text: &[u8]) -> usize
-    ensures within { result ≤ length text.now }
-    ensures quiet { 1 ≤ result → (front : List ℕ) (k : Kept) (ks : List Kept) →
-        HasText (front ++ text.now) (k ∷ ks) → EndsQuiet text.now result k }
-    ensures some { 1 ≤ result → 5 ≤ result }
+fn quiet_end(text: &[u8], depth: u32, address: u64, value: u8) -> Option<(usize, u32)>
+    ensures { IfSome result (λ end. EndsQuiet address value depth text.now end.0 end.1) }
 {
     let len = text.len();
     if len < 5 {
-        return 0;
+        return None;
     }
     let count = number(&text[len - 2..len]);
     if count < 5 || count > len {
-        return 0;
+        return None;
     }
-    if is_quiet(&text[len - count..len]) {
-        count
-    } else {
-        0
+    match quiet_depth(&text[len - count..len], depth, address, value) {
+        Some(before) => Some((count, before)),
+        None => None,
     }
 }
 
-/// Whether the entry with this text is of a quiet move: of a step that replaced a register or
-/// nothing, with a mark or without.
+/// The depth of calls before the move of the entry with this text, by that behind it, where the move
+/// left the byte at an address as it was, which is `value` behind it. A step that replaced a
+/// register or nothing, with a mark or without, is told by its kind alone.
 #[inline(always)]
-fn is_quiet(text: &[u8]) -> bool
+fn quiet_depth(text: &[u8], depth: u32, address: u64, value: u8) -> Option<u32>
     requires { 5 ≤ length text.now }
-    ensures { result ≡ true → (e : Entry) (mark : Bool) → FitsFields e → text.now ≡ text_of e mark →
-        IsQuiet (e, mark) }
+    ensures { IfSome result (λ before. (e : Entry) (mark : Bool) → FitsFields e →
+        text.now ≡ text_of e mark → (byte_before_by depth e address value ≡ value)
+        × (before ≡ depth_before_by depth e)) }
 {
     let kind = text[2] % 128;
-    kind == 1 || kind == 2
+    if kind == 1 || kind == 2 {
+        return Some(depth);
+    }
+    if depth == u32::MAX || byte_before(text, depth, address, value) != value {
+        return None;
+    }
+    Some(depth_before(text, depth))
 }
