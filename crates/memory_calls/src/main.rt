@@ -1,5 +1,5 @@
 //! For tests: each public call of the libraries that takes memory, made once over a worked input,
-//! and what else only the libraries can be asked.
+//! what else only the libraries can be asked, and the examples of docs/CALLING.md.
 //!
 //! The argument names the call; without one all are made, each followed by its name and its status.
 //! What comes of a call goes to standard output, and a refusal to standard error as bpfdb tells it,
@@ -9,6 +9,7 @@
 //! (`sessions.rt`), and `questions`, a line each (`questions.rt`).
 #![tactic(auto)]
 
+mod examples;
 mod faults;
 mod files;
 mod programs;
@@ -33,7 +34,7 @@ pub const REFUSED: u8 = 2;
 pub const NOT_REACHED: u8 = 3;
 
 /// The calls.
-const CALLS: [&str; 17] = [
+const CALLS: [&str; 18] = [
     "check",
     "assemble",
     "disassemble",
@@ -51,6 +52,7 @@ const CALLS: [&str; 17] = [
     "back",
     "faults",
     "streams",
+    "examples",
 ];
 
 fn main(rt: HostRuntime) -> ExitCode {
@@ -135,6 +137,7 @@ fn made<W: Write>(rt: &HostRuntime, name: &str, output: &mut Counted<W>) -> Resu
         "back" => scripts::step_back(alloc, output),
         "faults" => faults::tell_faults(alloc, output),
         "streams" => streams::pass_on(output),
+        "examples" => examples::tell(alloc, output),
         _ => Err(Lack::NotReached),
     }
 }
