@@ -173,15 +173,21 @@ fn put_detail<W: Write>(
     output: &mut Counted<W>,
 ) -> Result<(), WriteFault> {
     match fault {
-        Some(AsmFault::Line(LineFault::LabelTwice(first), _)) => {
-            let told = put(output, Ok(()), b"twice ");
-            put_decimal(output, told, first as u64)
-        }
-        Some(AsmFault::Line(LineFault::TooFar(distance), _)) => {
-            let told = put(output, Ok(()), b"far ");
-            put_signed(output, told, i64::from(distance))
-        }
+        Some(AsmFault::Line(LineFault::LabelTwice(first), _)) => put_first(first, output),
+        Some(AsmFault::Line(LineFault::TooFar(distance), _)) => put_far(distance, output),
         Some(_) => put(output, Ok(()), b"other"),
         None => put(output, Ok(()), b"none"),
     }
+}
+
+/// The line that has the label first.
+fn put_first<W: Write>(line: usize, output: &mut Counted<W>) -> Result<(), WriteFault> {
+    let told = put(output, Ok(()), b"twice ");
+    put_decimal(output, told, line as u64)
+}
+
+/// How far a target is.
+fn put_far<W: Write>(distance: i32, output: &mut Counted<W>) -> Result<(), WriteFault> {
+    let told = put(output, Ok(()), b"far ");
+    put_signed(output, told, i64::from(distance))
 }

@@ -53,14 +53,11 @@ fn put_numbers<W: Write>(
     counted: u64,
     passed: u64,
 ) -> Result<(), WriteFault> {
-    let told = put_decimal(output, Ok(()), failed);
-    let told = put(output, told, b" ");
-    let told = put_decimal(output, told, counted);
-    let told = put(output, told, b" ");
-    let told = put_decimal(output, told, passed);
-    let told = put(output, told, b" ");
-    let told = put_decimal(output, told, u64::MAX);
-    let told = put(output, told, b" ");
+    let mut told = Ok(());
+    for number in [failed, counted, passed, u64::MAX] {
+        told = put_decimal(output, told, number);
+        told = put(output, told, b" ");
+    }
     let told = put_signed(output, told, i64::MIN);
     let told = put(output, told, b" ");
     let told = put_hexadecimal(output, told, 0);
