@@ -1,5 +1,6 @@
 -- The jumps that lead to a slot, one after another.
-use Rattle.std.proofs.Common.{◌≡◌, ◌<◌, ◌≤◌, ℕ, zero, suc, ◌-◌, true, length, get_or, refl, sym, ap, subst, ◌∙◌, arith}
+use Rattle.std.proofs.Common.{◌≡◌, ◌<◌, ◌≤◌, ℕ, zero, suc, ◌-◌, length, get_or, refl, sym, ap, subst, ◌∙◌, arith}
+use Rattle.std.specs.Prelude.{Bool, ◌==◌, not}
 use Rattle.bpf_isa.specs.Programs.{Checked}
 use Rattle.bpf_whynot.specs.Flows.{AreSources, jump}
 use Rattle.bpf_whynot.specs.Walks.{MarksIf}
@@ -8,30 +9,32 @@ use Rattle.bpf_whynot.specs.declared.walk.Walk.{Walk}
 use Rattle.bpf_whynot.proofs.Flowing.{jumps_within}
 use Rattle.bpf_whynot.proofs.Walking.{Along, along_begins, along_on}
 
-pub begins : (program : Checked) (sources : Sources) (q at : ℕ) (walk : Walk) → AreSources program (length program.insns) sources
-    → q < length program.insns → at ≡ get_or sources.first.items q 0 → (at ≤ length program.insns) × Along (jump program) q at walk walk
-begins program sources q at walk a within is = (
+pub begins : (program : Checked) (sources : Sources) (but q at : ℕ) (walk : Walk) → AreSources program (length program.insns) sources
+    → q < length program.insns → at ≡ get_or sources.first.items q 0 → (at ≤ length program.insns) × Along but (jump program) q at walk walk
+begins program sources but q at walk a within is = (
   (let below = a.first_below q in omega (arith, below, is)),
-  along_begins (jump program) q at walk
+  along_begins but (jump program) q at walk
       (λ p to. let low = a.first p q to (jumps_within program p q to) within in omega (arith, low, is))
       (λ p at_is. a.first_of p q (sym is ∙ at_is)),
 )
 
-steps : (program : Checked) (sources : Sources) (q s next : ℕ) (old now new : Walk) → AreSources program (length program.insns) sources
+steps : (program : Checked) (sources : Sources) (but q s next : ℕ) (test : Bool) (old now new : Walk) → AreSources program (length program.insns) sources
     → q < length program.insns → suc s ≤ length program.insns → next ≡ get_or sources.next.items s 0
-    → Along (jump program) q (suc s) old now → MarksIf true s now new → (next ≤ length program.insns) × Along (jump program) q next old new
-steps program sources q s next old now new a within low is along marks = (
+    → Along but (jump program) q (suc s) old now → test ≡ not (s == but) → MarksIf test s now new
+    → (next ≤ length program.insns) × Along but (jump program) q next old new
+steps program sources but q s next test old now new a within low is along tests marks = (
   (let below = a.next_below s in omega (arith, below, is, low)),
-  along_on (jump program) q s next old now new along marks
+  along_on but (jump program) q s next test old now new along tests marks
       (λ p to less. let more = a.next p s q to (along.leads s refl) within less (omega (arith, low)) in omega (arith, more, is))
       (λ p next_is. a.next_of p s q (sym is ∙ next_is) (along.leads s refl)),
 )
 
-pub goes_along : (program : Checked) (sources : Sources) (q at next : ℕ) (old now new : Walk) → AreSources program (length program.insns) sources
+pub goes_along : (program : Checked) (sources : Sources) (but q at next : ℕ) (test : Bool) (old now new : Walk) → AreSources program (length program.insns) sources
     → q < length program.insns → 0 < at → at ≤ length program.insns → next ≡ get_or sources.next.items (at - 1) 0
-    → Along (jump program) q at old now → MarksIf true (at - 1) now new → (next ≤ length program.insns) × Along (jump program) q next old new
-goes_along program sources q zero next old now new a within some low is along marks = absurd (omega (arith, some))
-goes_along program sources q (suc s) next old now new a within some low is along marks =
+    → Along but (jump program) q at old now → test ≡ not (at - 1 == but) → MarksIf test (at - 1) now new
+    → (next ≤ length program.insns) × Along but (jump program) q next old new
+goes_along program sources but q zero next test old now new a within some low is along tests marks = absurd (omega (arith, some))
+goes_along program sources but q (suc s) next test old now new a within some low is along tests marks =
     let same : suc s - 1 ≡ s = omega arith in
-    steps program sources q s next old now new a within low (is ∙ ap (λ (i : ℕ). get_or sources.next.items i 0) same) along
-    (subst (λ (i : ℕ). MarksIf true i now new) same marks)
+    steps program sources but q s next test old now new a within low (is ∙ ap (λ (i : ℕ). get_or sources.next.items i 0) same) along
+    (tests ∙ ap (λ (i : ℕ). not (i == but)) same) (subst (λ (i : ℕ). MarksIf test i now new) same marks)

@@ -75,10 +75,10 @@ target_back_by : (o : Option ℤ) (q : ℕ) → option_and_then slot_of o ≡ So
 target_back_by None q e = absurd cc
 target_back_by (Some z) q e = ap Some (slot_back z q e)
 
-target_back : (p q : ℕ) (i : Insn) → target_slot p i ≡ Some q → target_of p i ≡ Some (pos q)
+pub target_back : (p q : ℕ) (i : Insn) → target_slot p i ≡ Some q → target_of p i ≡ Some (pos q)
 target_back p q i e = target_back_by (target_of p i) q e
 
-target_there : (p q : ℕ) (i : Insn) → target_of p i ≡ Some (pos q) → target_slot p i ≡ Some q
+pub target_there : (p q : ℕ) (i : Insn) → target_of p i ≡ Some (pos q) → target_slot p i ≡ Some q
 target_there p q i e = ap (option_and_then slot_of) e
 
 -- a call whose target is known

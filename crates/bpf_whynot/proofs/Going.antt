@@ -21,7 +21,8 @@ use Rattle.bpf_origin.specs.declared.question.Extent.TheVariants.{Whole}
 use Rattle.bpf_origin.proofs.Backs.{back_on, keeps_on}
 use Rattle.bpf_whynot.specs.Answers.{Query, because, edited_text, is_none, left_after, left_by, lost_line, never_text, only, reached_text, still_text, stood_at, went_text, why_not}
 use Rattle.bpf_whynot.specs.Reach.{can_from}
-use Rattle.bpf_whynot.specs.Turns.{IsLeft, IsNeverLeft, standing}
+use Rattle.bpf_whynot.specs.Standings.{standing}
+use Rattle.bpf_whynot.specs.Turns.{IsLeft, IsNeverLeft}
 use Rattle.bpf_whynot.specs.declared.whynot.Left.{Left}
 
 -- which move it was

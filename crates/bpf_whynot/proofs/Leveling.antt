@@ -1,13 +1,15 @@
 -- The tables, one depth after another.
 use Rattle.std.proofs.Common.{◌≡◌, ◌≢◌, ◌<◌, ◌≤◌, ◌⊎◌, inl, inr, ℕ, zero, suc, ◌+◌, ◌-◌, Bool, true, List, [], ◌∷◌, ◌++◌, length, get_or, refl, sym, ap, ◌∙◌, subst, arith, length-append, Option}
-use Rattle.std.specs.Prelude.{map}
+use Rattle.std.specs.Prelude.{◌==◌, map, not}
+use Rattle.std.proofs.lemmas.Bool.Decides.{nat_tests}
 use Rattle.bpf_isa.specs.Programs.{Checked}
+use Rattle.bpf_whynot.specs.Flows.{unless}
 use Rattle.bpf_whynot.specs.Levels.{AreLevels, AreSeeds, IsLevel, table_above, table_of}
 use Rattle.bpf_whynot.specs.Tables.{Table, is_in, no_table, table_at}
 use Rattle.bpf_whynot.specs.Walks.{AreBack, Comes}
 use Rattle.bpf_whynot.specs.Walks.Comes.{here, on, jumps}
 use Rattle.bpf_whynot.specs.declared.level.Level.{Level}
-use Rattle.bpf_whynot.proofs.Walking.{reached_within}
+use Rattle.bpf_whynot.proofs.Walking.{reached_within, unless_there, unless_way}
 
 -- seeds by their flags
 comes_by : (behind jump : ℕ → Option ℕ) (seed other : ℕ → Bool) (p : ℕ) → ((q : ℕ) → seed q ≡ true → other q ≡ true) → Comes behind jump seed p → Comes behind jump other p
@@ -24,6 +26,25 @@ back_by behind jump seed n seeds marks are back = record {
   jumps = back.jumps;
   sound = λ p marked. comes_by behind jump (is_in seeds) seed p
       (λ q is. let within = reached_within seeds q is in sym (are.each q (let size = are.size in omega (arith, size, within))) ∙ is) (back.sound p marked);
+}
+
+-- behind the last slot nothing is left
+comes_all : (but : ℕ) (behind jump : ℕ → Option ℕ) (seed : ℕ → Bool) (p : ℕ) → Comes (unless but behind) (unless but jump) seed p → Comes behind jump seed p
+comes_all but behind jump seed p (here e) = here e
+comes_all but behind jump seed p (on q e c) = on q (unless_way but behind p q e) (comes_all but behind jump seed q c)
+comes_all but behind jump seed p (jumps q e c) = jumps q (unless_way but jump p q e) (comes_all but behind jump seed q c)
+
+other_slot : (p n : ℕ) → p < n → not (p == n) ≡ true
+other_slot p n low = grind (arith, nat_tests)
+
+pub back_all : (behind jump : ℕ → Option ℕ) (seed : ℕ → Bool) (but n : ℕ) (marks : List Bool) → but ≡ n → AreBack (unless but behind) (unless but jump) seed n marks
+    → AreBack behind jump seed n marks
+back_all behind jump seed but n marks is back = record {
+  size = back.size;
+  here = back.here;
+  on = λ p q low way marked. back.on p q low (unless_there but behind p q (other_slot p but (omega (arith, is, low))) way) marked;
+  jumps = λ p q low way marked. back.jumps p q low (unless_there but jump p q (other_slot p but (omega (arith, is, low))) way) marked;
+  sound = λ p marked. comes_all but behind jump seed p (back.sound p marked);
 }
 
 -- one more level

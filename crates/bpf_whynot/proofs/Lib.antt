@@ -9,3 +9,4 @@ pub mod Goaling
 pub mod Passing
 pub mod Going
 pub mod Latest
+pub mod Surely

@@ -10,7 +10,8 @@ use Rattle.bpf_origin.specs.Pasts.{GoesBack, Stand, StandsThere, gone_from, stan
 use Rattle.bpf_origin.proofs.Backs.{back_more}
 use Rattle.bpf_whynot.specs.Answers.{Query, left_after, left_by, never_text, only}
 use Rattle.bpf_whynot.specs.Reach.{can_from}
-use Rattle.bpf_whynot.specs.Turns.{IsLeft, IsNeverLeft, standing}
+use Rattle.bpf_whynot.specs.Standings.{standing}
+use Rattle.bpf_whynot.specs.Turns.{IsLeft, IsNeverLeft}
 use Rattle.bpf_whynot.specs.declared.standing.Standing.{Standing}
 
 pub left_there : (can : ℕ → List ℕ → Bool) (s : Query) (k : ℕ) (r : Record) (h : List Record) (y : State) → can_from can r.before ≡ true

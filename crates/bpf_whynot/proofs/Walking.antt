@@ -1,8 +1,9 @@
 -- A walk backwards over the slots from which control comes to a seed.
 use Rattle.std.proofs.Common.{◌≡◌, ◌≢◌, ◌<◌, ◌≤◌, ◌⊎◌, inl, inr, ℕ, zero, suc, ◌+◌, ◌-◌, Bool, true, false, List, [], ◌∷◌, ◌++◌, length, get_or, refl, sym, ap, ◌∙◌, subst, arith, length-append, length-set, Option, Some}
-use Rattle.std.specs.Prelude.{slice_set, slice_index, count_by, cond}
+use Rattle.std.specs.Prelude.{None, if◌then◌else◌, ◌==◌, not, slice_set, slice_index, count_by, cond}
 use Rattle.std.proofs.lemmas.List.{get_or-set_same, get_or-set_other, get_or-append_right, get_or_append_left}
 use Rattle.std.proofs.lemmas.List.Sums.{sum_by-set, count_by-le-length}
+use Rattle.bpf_whynot.specs.Flows.{unless}
 use Rattle.bpf_whynot.specs.Tables.{is_in}
 use Rattle.bpf_whynot.specs.Walks.{AreBack, Begins, Comes, GoesOn, IsWalk, LooksAlong, LooksBack, LooksBehind, MarksIf, StandsIn}
 use Rattle.bpf_whynot.specs.Walks.Comes.{here, on, jumps}
@@ -153,44 +154,64 @@ two_behind by q a b old between new near far places is_near near_is is_far far_i
         subst (λ (i : ℕ). is_in new.marks.items i ≡ true) (sym same)
         (other.there (is_far (subst (λ (i : ℕ). by i ≡ Some q) same leads)) (omega (arith, same, inside)))
 
--- jumps that lead to a slot, from the last one on
-pub record Along (jump : ℕ → Option ℕ) (q at : ℕ) (old now : Walk) : Type 0 where
+-- control that never leaves one slot
+unless_if : (b : Bool) (o : Option ℕ) (q : ℕ) → (if b then None else o) ≡ Some q → (o ≡ Some q) × (not b ≡ true)
+unless_if true o q e = absurd cc
+unless_if false o q e = (e, refl)
+
+pub unless_way : (but : ℕ) (way : ℕ → Option ℕ) (p q : ℕ) → unless but way p ≡ Some q → way p ≡ Some q
+unless_way but way p q e = (unless_if (p == but) (way p) q e).0
+
+pub unless_other : (but : ℕ) (way : ℕ → Option ℕ) (p q : ℕ) → unless but way p ≡ Some q → not (p == but) ≡ true
+unless_other but way p q e = (unless_if (p == but) (way p) q e).1
+
+unless_not : (b : Bool) (o : Option ℕ) → not b ≡ true → (if b then None else o) ≡ o
+unless_not true o e = absurd cc
+unless_not false o e = refl
+
+pub unless_there : (but : ℕ) (way : ℕ → Option ℕ) (p q : ℕ) → not (p == but) ≡ true → way p ≡ Some q → unless but way p ≡ Some q
+unless_there but way p q e to = unless_not (p == but) (way p) e ∙ to
+
+-- jumps that lead to a slot, from the last one on, without one of them
+pub record Along (but : ℕ) (jump : ℕ → Option ℕ) (q at : ℕ) (old now : Walk) : Type 0 where
   pub on : GoesOn old now
-  pub there : (p : ℕ) → jump p ≡ Some q → at ≤ p → p < length now.marks.items → is_in now.marks.items p ≡ true
+  pub there : (p : ℕ) → unless but jump p ≡ Some q → at ≤ p → p < length now.marks.items → is_in now.marks.items p ≡ true
   pub leads : (p : ℕ) → at ≡ suc p → jump p ≡ Some q
   pub is_walk : (behind : ℕ → Option ℕ) (seeds : ℕ → Bool) (n : ℕ)
-      → IsWalk behind jump seeds n old → Comes behind jump seeds q → IsWalk behind jump seeds n now
+      → IsWalk behind (unless but jump) seeds n old → Comes behind (unless but jump) seeds q → IsWalk behind (unless but jump) seeds n now
 
-pub along_begins : (jump : ℕ → Option ℕ) (q at : ℕ) (walk : Walk) → ((p : ℕ) → jump p ≡ Some q → p < at)
-    → ((p : ℕ) → at ≡ suc p → jump p ≡ Some q) → Along jump q at walk walk
-along_begins jump q at walk first leads = record {
+pub along_begins : (but : ℕ) (jump : ℕ → Option ℕ) (q at : ℕ) (walk : Walk) → ((p : ℕ) → jump p ≡ Some q → p < at)
+    → ((p : ℕ) → at ≡ suc p → jump p ≡ Some q) → Along but jump q at walk walk
+along_begins but jump q at walk first leads = record {
   on = stays walk;
-  there = λ p to high inside. absurd (let low = first p to in omega (arith, low, high));
+  there = λ p to high inside. absurd (let low = first p (unless_way but jump p q to) in omega (arith, low, high));
   leads = leads;
   is_walk = λ behind seeds n walk comes. walk;
 }
 
-pub along_on : (jump : ℕ → Option ℕ) (q s next : ℕ) (old now new : Walk) → Along jump q (suc s) old now → MarksIf true s now new
-    → ((p : ℕ) → jump p ≡ Some q → p < s → p < next) → ((p : ℕ) → next ≡ suc p → jump p ≡ Some q) → Along jump q next old new
-along_on jump q s next old now new a m below leads = record {
+pub along_on : (but : ℕ) (jump : ℕ → Option ℕ) (q s next : ℕ) (test : Bool) (old now new : Walk) → Along but jump q (suc s) old now → test ≡ not (s == but)
+    → MarksIf test s now new → ((p : ℕ) → jump p ≡ Some q → p < s → p < next) → ((p : ℕ) → next ≡ suc p → jump p ≡ Some q) → Along but jump q next old new
+along_on but jump q s next test old now new a is m below leads = record {
   on = both_on old now new a.on m.on;
   there = λ p to high inside. found p to high inside (same_or_other p s);
   leads = leads;
-  is_walk = λ behind seeds n walk comes. m.walk behind jump seeds n (a.is_walk behind seeds n walk comes) (λ test. jumps q (a.leads s refl) comes);
+  is_walk = λ behind seeds n walk comes.
+      m.walk behind (unless but jump) seeds n (a.is_walk behind seeds n walk comes) (λ t. jumps q (unless_there but jump s q (sym is ∙ t) (a.leads s refl)) comes);
 }
   where
-    found : (p : ℕ) → jump p ≡ Some q → next ≤ p → p < length new.marks.items → (p ≡ s) ⊎ (p ≢ s) → is_in new.marks.items p ≡ true
+    found : (p : ℕ) → unless but jump p ≡ Some q → next ≤ p → p < length new.marks.items → (p ≡ s) ⊎ (p ≢ s) → is_in new.marks.items p ≡ true
     found p to high inside (inl same) =
-        subst (λ (i : ℕ). is_in new.marks.items i ≡ true) (sym same) (m.there refl (omega (arith, same, inside)))
+        subst (λ (i : ℕ). is_in new.marks.items i ≡ true) (sym same)
+        (m.there (is ∙ unless_other but jump s q (subst (λ (i : ℕ). unless but jump i ≡ Some q) same to)) (omega (arith, same, inside)))
     found p to high inside (inr apart) = past p to high inside apart (within_or_not p s)
       where
-        past : (p : ℕ) → jump p ≡ Some q → next ≤ p → p < length new.marks.items → p ≢ s → (p < s) ⊎ (s ≤ p) → is_in new.marks.items p ≡ true
-        past p to high inside apart (inl low) = absurd (let less = below p to low in omega (arith, less, high))
+        past : (p : ℕ) → unless but jump p ≡ Some q → next ≤ p → p < length new.marks.items → p ≢ s → (p < s) ⊎ (s ≤ p) → is_in new.marks.items p ≡ true
+        past p to high inside apart (inl low) = absurd (let less = below p (unless_way but jump p q to) low in omega (arith, less, high))
         past p to high inside apart (inr up) =
             let size = m.on.size in m.on.kept p (a.there p to (omega (arith, up, apart)) (omega (arith, size, inside)))
 
-pub along_ends : (jump : ℕ → Option ℕ) (q : ℕ) (old now : Walk) → Along jump q 0 old now → LooksAlong jump q old now
-along_ends jump q old now a = record { on = a.on; there = λ p to inside. a.there p to (omega arith) inside; walk = a.is_walk }
+pub along_ends : (but : ℕ) (jump : ℕ → Option ℕ) (q : ℕ) (old now : Walk) → Along but jump q 0 old now → LooksAlong (unless but jump) q old now
+along_ends but jump q old now a = record { on = a.on; there = λ p to inside. a.there p to (omega arith) inside; walk = a.is_walk }
 
 -- both
 pub looks : (by along : ℕ → Option ℕ) (q : ℕ) (old between new : Walk) → LooksBehind by q old between → LooksAlong along q between new → LooksBack by along q old new

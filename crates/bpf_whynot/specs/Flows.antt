@@ -1,5 +1,5 @@
--- Scaffolding: how control flows within one function, and which slots lead to one. No public contract cites this.
-use Rattle.std.specs.Prelude.{◌≡◌, ◌<◌, ◌≤◌, ℕ, ℤ, pos, negsuc, suc, ◌+◌, Bool, true, false, if◌then◌else◌, List, Option, Some, None, get_or, length, slice_set}
+-- How control flows within one function, and which slots lead to one.
+use Rattle.std.specs.Prelude.{◌≡◌, ◌<◌, ◌≤◌, ℕ, ℤ, pos, negsuc, suc, ◌+◌, ◌==◌, Bool, true, false, if◌then◌else◌, List, Option, Some, None, get_or, length, slice_set}
 use Rattle.std.specs.Option.{option_map_or, option_and_then}
 use Rattle.bpf_isa.specs.Programs.{Checked, insn_at, slots_of, target_of}
 use Rattle.bpf_isa.specs.declared.instruction.Insn.{Insn}
@@ -51,6 +51,10 @@ ends_by _ = false
 
 unfoldable pub ends : Checked → ℕ → Bool
 ends program p = option_map_or ends_by (insn_at program p) false
+
+-- Control that never leaves one slot.
+abbrev pub unless : ℕ → (ℕ → Option ℕ) → ℕ → Option ℕ
+unless but way p = if p == but then None else way p
 
 -- The jumps that lead to a slot hang together, the last one first: 0 is the end, and a slot's number is one less than what stands for it.
 pub record AreSources (program : Checked) (n : ℕ) (sources : Sources) : Type 0 where

@@ -10,3 +10,5 @@ pub mod Asking
 pub mod Turns
 pub mod Aims
 pub mod Looks
+pub mod Sures
+pub mod Standings

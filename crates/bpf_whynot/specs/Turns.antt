@@ -1,17 +1,12 @@
 -- Scaffolding: the pass over a history. No public contract cites this.
 use Rattle.std.specs.Prelude.{◌≡◌, ℕ, ◌+◌, Bool, List, Option, Some, None, length}
-use Rattle.bpf_entries.specs.Status.{has_ended}
 use Rattle.bpf_steps.specs.State.{State}
 use Rattle.bpf_journal.specs.Histories.{Record, is_step}
 use Rattle.bpf_journal.specs.Tracks.{Track}
 use Rattle.bpf_origin.specs.Pasts.{StandsThere, gone_from, stand}
 use Rattle.bpf_whynot.specs.Answers.{Query, left_after, left_by, never_text, only}
-use Rattle.bpf_whynot.specs.declared.standing.Standing.{Standing}
+use Rattle.bpf_whynot.specs.Standings.{standing}
 use Rattle.bpf_whynot.specs.declared.whynot.Left.{Left}
-
--- Where a machine stands.
-abbrev pub standing : State → Standing
-standing y = record { slot = y.pc; ended = has_ended y.status }
 
 module _ {P : Type 0} (state : P → State) (follows : P → Track → Type 0) (can : ℕ → List ℕ → Bool) (t : Track) (y : State) (new : P) where
   -- All moves were taken back, up to that from whose state a goal can be come to, and that one.

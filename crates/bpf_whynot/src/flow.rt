@@ -34,7 +34,7 @@ fn calls(insn: &Insn) -> bool
 }
 
 /// The slot that an instruction in a slot names.
-fn target_slot(insn: &Insn, slot: usize) -> Option<usize>
+pub fn target_slot(insn: &Insn, slot: usize) -> Option<usize>
     requires { slot ≤ most_slots }
     ensures { result ≡ spec.target_slot slot insn.now }
 {

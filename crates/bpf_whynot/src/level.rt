@@ -54,6 +54,7 @@ pub fn level_of(
         program,
         above.returns.as_slice(),
         sources,
+        program.len(),
         seeds.as_slice(),
     ) {
         Ok(hits) => hits,
@@ -68,6 +69,7 @@ pub fn level_of(
         program,
         above.returns.as_slice(),
         sources,
+        program.len(),
         exits.as_slice(),
     ) {
         Ok(returns) => Ok(Level { hits, returns }),

@@ -8,7 +8,7 @@ ghost use Rattle.bpf_machine.specs.declared.moves.Move.TheVariants as move_of;
 ghost use Rattle.bpf_origin.specs.Reads as reads;
 ghost use Rattle.bpf_origin.specs.Texts as origin;
 ghost use Rattle.bpf_whynot.specs.Answers as spec;
-ghost use Rattle.bpf_whynot.specs.Turns.{standing};
+ghost use Rattle.bpf_whynot.specs.Standings.{standing};
 
 use crate::standing::Standing;
 use bpf_isa::{Insn, Reg, Source};

@@ -1,6 +1,6 @@
 //! Where a machine stands, by its slot.
 ghost use Rattle.std.specs.Prelude.{◌≡◌};
-ghost use Rattle.bpf_whynot.specs.Turns.{standing};
+ghost use Rattle.bpf_whynot.specs.Standings.{standing};
 
 use bpf_machine::Cpu;
 

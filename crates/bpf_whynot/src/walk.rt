@@ -34,11 +34,15 @@ fn mark_if(test: bool, slot: usize, walk: Walk) -> Result<Walk, AllocError>
     }
 }
 
-/// Whether one slot stands behind another, where control may come to it.
-fn is_behind(program: &Program, above: &[bool], slot: usize, to: usize) -> bool
+/// Whether one slot stands behind another, where control may come to it. It doesn't leave `but`.
+fn is_behind(program: &Program, above: &[bool], but: usize, slot: usize, to: usize) -> bool
     requires { slot ≤ most_slots }
-    ensures { (result ≡ true) ↔ (flows.behind program.now above.now slot ≡ Some to) }
+    ensures { (result ≡ true)
+        ↔ (flows.unless but (flows.behind program.now above.now) slot ≡ Some to) }
 {
+    if slot == but {
+        return false;
+    }
     match behind(program, above, slot) {
         Some(next) => next == to,
         None => false,
@@ -49,35 +53,38 @@ fn is_behind(program: &Program, above: &[bool], slot: usize, to: usize) -> bool
 fn look_behind(
     program: &Program,
     above: &[bool],
+    but: usize,
     slot: usize,
     walk: Walk,
 ) -> Result<Walk, AllocError>
     requires { slot ≤ most_slots }
-    ensures { IfOk result (spec.LooksBehind (flows.behind program.now above.now) slot walk) }
+    ensures { IfOk result (spec.LooksBehind
+        (flows.unless but (flows.behind program.now above.now)) slot walk) }
 {
     let near = slot.saturating_sub(1);
     let far = slot.saturating_sub(2);
-    match mark_if(is_behind(program, above, near, slot), near, walk) {
-        Ok(walk) => mark_if(is_behind(program, above, far, slot), far, walk),
+    match mark_if(is_behind(program, above, but, near, slot), near, walk) {
+        Ok(walk) => mark_if(is_behind(program, above, but, far, slot), far, walk),
         Err(error) => Err(error),
     }
 }
 
-/// A walk that has marked the slots that jump to one.
+/// A walk that has marked the slots that jump to one, without `but`.
 fn look_along(
     program: &Program,
     sources: &Sources,
+    but: usize,
     slot: usize,
     walk: Walk,
 ) -> Result<Walk, AllocError>
     requires sources { flows.AreSources program.now (length program.now.insns) sources.now }
     requires within { slot < length program.now.insns }
-    ensures { IfOk result (spec.LooksAlong (flows.jump program.now) slot walk) }
+    ensures { IfOk result (spec.LooksAlong (flows.unless but (flows.jump program.now)) slot walk) }
 {
     let mut walk = walk;
     let mut at = sources.first[slot];
     while at > 0 {
-        walk = match mark_if(true, at - 1, walk) {
+        walk = match mark_if(at - 1 != but, at - 1, walk) {
             Ok(next) => next,
             Err(error) => return Err(error),
         };
@@ -91,17 +98,19 @@ fn look_back(
     program: &Program,
     above: &[bool],
     sources: &Sources,
+    but: usize,
     slot: usize,
     walk: Walk,
 ) -> Result<Walk, AllocError>
     requires sources { flows.AreSources program.now (length program.now.insns) sources.now }
     requires within { slot < length program.now.insns }
-    ensures { IfOk result (spec.LooksBack (flows.behind program.now above.now)
-        (flows.jump program.now) slot walk) }
+    ensures { IfOk result (spec.LooksBack
+        (flows.unless but (flows.behind program.now above.now))
+        (flows.unless but (flows.jump program.now)) slot walk) }
 {
     program.invariant();
-    match look_behind(program, above, slot, walk) {
-        Ok(walk) => look_along(program, sources, slot, walk),
+    match look_behind(program, above, but, slot, walk) {
+        Ok(walk) => look_along(program, sources, but, slot, walk),
         Err(error) => Err(error),
     }
 }
@@ -128,18 +137,21 @@ fn begun(alloc: Global, seeds: &[bool]) -> Result<Walk, AllocError>
 }
 
 /// The slots from which control comes to a seed: behind an instruction and along jumps and, where
-/// `above` has the slot that a call names, behind that.
+/// `above` has the slot that a call names, behind that. It never leaves `but`.
 pub fn come_back(
     alloc: Global,
     program: &Program,
     above: &[bool],
     sources: &Sources,
+    but: usize,
     seeds: &[bool],
 ) -> Result<Vec<bool>, AllocError>
     requires sources { flows.AreSources program.now (length program.now.insns) sources.now }
     requires seeds { length seeds.now ≡ length program.now.insns }
-    ensures { IfOk result (λ marks. spec.AreBack (flows.behind program.now above.now)
-        (flows.jump program.now) (tables.is_in seeds.now) (length program.now.insns) marks.items) }
+    ensures { IfOk result (λ marks. spec.AreBack
+        (flows.unless but (flows.behind program.now above.now))
+        (flows.unless but (flows.jump program.now))
+        (tables.is_in seeds.now) (length program.now.insns) marks.items) }
 {
     let mut walk = match begun(alloc, seeds) {
         Ok(walk) => walk,
@@ -150,7 +162,7 @@ pub fn come_back(
             return Ok(walk.marks);
         }
         let slot = walk.queue[k];
-        walk = match look_back(program, above, sources, slot, walk) {
+        walk = match look_back(program, above, sources, but, slot, walk) {
             Ok(next) => next,
             Err(error) => return Err(error),
         };

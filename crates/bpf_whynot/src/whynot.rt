@@ -10,7 +10,8 @@ ghost use Rattle.bpf_origin.specs.declared.question.Extent.TheVariants.{Whole};
 ghost use Rattle.bpf_whynot.specs.Answers as spec;
 ghost use Rattle.bpf_whynot.specs.Asking.{query};
 ghost use Rattle.bpf_whynot.specs.Tables.{AreGoals, told_by};
-ghost use Rattle.bpf_whynot.specs.Turns.{GoesTo, standing};
+ghost use Rattle.bpf_whynot.specs.Standings.{standing};
+ghost use Rattle.bpf_whynot.specs.Turns.{GoesTo};
 ghost use Rattle.counted_io.specs.Writing.{WritesAfter};
 
 use crate::line::{compared, put_line};

@@ -2,7 +2,7 @@ use Rattle.std.proofs.Common.{◌∙◌, refl, sym, ap, arith}
 use Rattle.bpf_origin.proofs.Backs.{keeps_on}
 use Rattle.bpf_whynot.specs.Reach.{can_from}
 use Rattle.bpf_whynot.specs.Tables.{told_by}
-use Rattle.bpf_whynot.specs.Turns.{standing}
+use Rattle.bpf_whynot.specs.Standings.{standing}
 use Rattle.bpf_whynot.proofs.Passing.{found, never, passed_more, passed_none, passed_stop}
 use Rattle.bpf_whynot.proofs.whynot.go_back.Goals as goal
 
