@@ -67,7 +67,7 @@ _bpfdb() {
     run) words="-m --mem --maps --steps --strict --listing --object --section --entry --entries --stub --as-compiled -h --help" ;;
     trace) words="-m --mem --maps --steps --from --count --branches --profile --strict --listing --object --section --entry --entries --stub --as-compiled -h --help" ;;
     debug) words="-m --mem --maps --journal --steps --listing --object --section --entry --entries --stub --as-compiled -h --help" ;;
-    origin) words="-m --mem --maps --journal --steps --listing --object --section --entry --entries --stub --script --as-compiled --lines --addresses -h --help" ;;
+    origin) words="-m --mem --maps --journal --steps --branches --listing --object --section --entry --entries --stub --script --as-compiled --lines --addresses -h --help" ;;
     whynot) words="-m --mem --maps --journal --steps --listing --object --section --entry --entries --stub --script --as-compiled --lines --addresses --alone -h --help" ;;
     diff) words="-m --mem --maps --steps --listing --object --section --entry --entries --stub --as-compiled --other-mem --trace -h --help" ;;
     asm) words="-h --help" ;;

@@ -104,7 +104,7 @@ for absent in 'run --journal=65536' 'debug -j=65536' 'asm -m=context' 'asm --mem
     'check -m=context' 'check --mem=context' 'check --journal=65536' 'check --steps=7' 'asm --section=a' 'asm --entry=a' 'asm --object' 'link --object' 'test --object' 'run --with=a' 'debug --joined' \
     'link -m=context' 'link --mem=context' 'link --maps=8x2' 'link --journal=65536' 'link --steps=7' 'link --listing' \
     'run --from=7' 'run --count=7' 'run --branches' 'run --profile' 'debug --from=7' 'debug --count=7' 'debug --profile' 'trace --journal=65536' 'trace --registers=x86' \
-    'origin --registers=x86' 'origin --alone' 'gdb --alone' 'whynot --registers=x86' 'run --lines=7' 'debug --lines=7' 'debug --addresses' 'gdb --lines=7' 'lines --lines=7' 'lines --listing' 'lines --maps=8x2' 'lines -m=context' 'lines --steps=7' 'lines --joined' 'run --registers=x86' 'debug --registers=x86' 'test --listing' 'test --maps=8x2' 'test --steps=7' 'diff --journal=65536' 'diff --script=a' 'diff --lines=7' 'diff --alone' 'trace --trace=a' 'run --trace=a' 'debug --trace=a' 'run --other-mem=a' 'trace --other-mem=a' 'debug --other-mem=a' 'run --only=a' 'debug --only=a' 'run --cover' 'trace --cover' 'debug --strict' 'diff --strict' 'link --only=a' 'run --show=program' 'debug --show=script'
+    'origin --registers=x86' 'origin --alone' 'whynot --branches' 'run --branches' 'gdb --alone' 'whynot --registers=x86' 'run --lines=7' 'debug --lines=7' 'debug --addresses' 'gdb --lines=7' 'lines --lines=7' 'lines --listing' 'lines --maps=8x2' 'lines -m=context' 'lines --steps=7' 'lines --joined' 'run --registers=x86' 'debug --registers=x86' 'test --listing' 'test --maps=8x2' 'test --steps=7' 'diff --journal=65536' 'diff --script=a' 'diff --lines=7' 'diff --alone' 'trace --trace=a' 'run --trace=a' 'debug --trace=a' 'run --other-mem=a' 'trace --other-mem=a' 'debug --other-mem=a' 'run --only=a' 'debug --only=a' 'run --cover' 'trace --cover' 'debug --strict' 'diff --strict' 'link --only=a' 'run --show=program' 'debug --show=script'
 do
     subcommand=${absent%% *} option=${absent#* }
     name=${option%%=*}
@@ -193,6 +193,7 @@ usage "invalid value '-1' for '--lines <N>': invalid digit found in string" orig
 usage "a value is required for '--lines <N>' but none was supplied" origin first r0 --lines
 usage "the argument '--lines <N>' cannot be used multiple times" origin --lines 7 --lines 7 first
 usage "the argument '--addresses' cannot be used multiple times" origin --addresses --addresses first
+usage "the argument '--branches' cannot be used multiple times" origin --branches --branches first
 usage "unexpected value 'yes' for '--addresses' found; no more were expected" origin --addresses=yes first
 usage "a value is required for '--section <NAME>' but none was supplied" link first --section
 usage "the argument '--section <NAME>' cannot be used multiple times" link --section a --section a first

@@ -55,7 +55,7 @@ count_rule = record (new_rule (codes "count")) {
   parser = Some (vp.Unsigned 1 greatest_count);
 }
 
--- `--branches`: conditional jumps alone.
+-- `--branches`: conditional jumps, of `trace` alone, of `origin` those that decided.
 abbrev pub branches_rule : Rule
 branches_rule = record (new_rule (codes "branches")) { long = Some (codes "branches"); action = Some SetTrue }
 
@@ -217,8 +217,8 @@ gdb_app = with_rule (with_rule (with_file_kinds (with_rule (with_rule (with_rule
 
 -- `origin` runs the program as `debug` does, over that journal, too.
 abbrev pub origin_app : App
-origin_app = with_rule (with_rule (with_rule (with_rule (with_file_kinds (with_rule (with_rule (with_rule (with_rule (with_rule (new_app (codes "origin"))
-    mem_rule) maps_rule) gdb_journal_rule) steps_rule) script_rule)) lines_rule) addresses_rule) what_rule) file_rule
+origin_app = with_rule (with_rule (with_rule (with_rule (with_rule (with_file_kinds (with_rule (with_rule (with_rule (with_rule (with_rule (new_app (codes "origin"))
+    mem_rule) maps_rule) gdb_journal_rule) steps_rule) script_rule)) lines_rule) addresses_rule) branches_rule) what_rule) file_rule
 
 -- `whynot` does so, too.
 abbrev pub whynot_app : App

@@ -29,6 +29,7 @@ option_rule option.Steps = steps_rule
 option_rule option.From = from_rule
 option_rule option.Count = count_rule
 option_rule option.Branches = branches_rule
+option_rule option.Deciders = branches_rule
 option_rule option.Profile = profile_rule
 option_rule option.Strict = strict_rule
 option_rule option.Listing = listing_rule

@@ -71,6 +71,7 @@ fn argument_of<'a>(alloc: Global, option: CliOption) -> Arg<'a>
         }
         CliOption::Count => count_option(alloc, "count", "N", help::COUNT, help::COUNT_LONG),
         CliOption::Branches => flag(alloc, "branches", help::BRANCHES),
+        CliOption::Deciders => flag(alloc, "branches", help::DECIDERS),
         CliOption::Profile => flag(alloc, "profile", help::PROFILE),
         CliOption::Strict => flag(alloc, "strict", help::STRICT),
         CliOption::Listing => flag(alloc, "listing", help::LISTING),

@@ -20,6 +20,8 @@ pub(crate) enum CliOption {
     Count,
     /// `--branches`.
     Branches,
+    /// `--branches` of `origin`.
+    Deciders,
     /// `--profile`.
     Profile,
     /// `--strict`.
@@ -171,6 +173,7 @@ pub(crate) const SUBCOMMANDS: [CliSubcommand<'static>; 13] = [
             CliOption::AsCompiled,
             CliOption::Lines,
             CliOption::Addresses,
+            CliOption::Deciders,
             CliOption::What,
         ],
         file: help::PROGRAM,

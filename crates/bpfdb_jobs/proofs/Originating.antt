@@ -1,15 +1,21 @@
 -- Where a job of `origin` asks, what it prints there, and why it is refused.
-use Rattle.std.proofs.Common.{◌≡◌, ◌==◌, ◌∙◌, ℕ, List, [], Option, Some, None, Ok, Err, ap, refl, subst, sym, length}
+use Rattle.std.proofs.Common.{◌≡◌, ◌==◌, ◌∙◌, ℕ, Bool, true, false, List, [], Option, Some, None, Ok, Err, ap, ap₂, refl, subst, sym, length}
 use Rattle.std.specs.Borrow.{Bor}
+use Rattle.bpf_branches.specs.Branches.{AreBranches}
+use Rattle.bpf_branches.specs.Courses.{IsFound}
+use Rattle.bpf_branches.specs.declared.text.Found.{Found}
 use Rattle.bpf_journal.specs.Histories.{Record, StandsFor}
 use Rattle.bpf_journal.specs.Runs.{history_after}
 use Rattle.bpf_journal.specs.Timelines.{Moment}
 use Rattle.bpf_journal.specs.Tracks.{RingHolds, Track, ring_room}
 use Rattle.bpf_ring.specs.declared.keeper.RingKeeper.{RingKeeper}
 use Rattle.bpf_steps.specs.State.{State, initial}
+use Rattle.bpf_origin.specs.Answers.{Answer}
 use Rattle.bpf_origin.specs.Asked.{answer_about, parts_asked}
 use Rattle.bpf_origin.specs.declared.fault.WhatFault.{WhatFault}
 use Rattle.bpf_origin.specs.declared.place.Part.{Part}
+use Rattle.bpf_origin.specs.declared.question.Extent.{Extent}
+use Rattle.bpf_origin.specs.declared.question.Extent.TheVariants.{Whole}
 use Rattle.bpf_origin.specs.declared.question.Question.{Question}
 use Rattle.bpf_origin.specs.declared.what.What.{What}
 use Rattle.bpf_session.specs.Plain.{plain_end, plain_steps}
@@ -18,8 +24,8 @@ use Rattle.bpf_session.specs.Sessions.{HasPast, SessionValue, bounds_of, track_a
 use Rattle.bpfdb_commands.specs.declared.refusal.Refusal.{Refusal}
 use Rattle.bpfdb_jobs.specs.Jobs.{Prints, arrival_of, origin_print, start_of}
 use Rattle.bpfdb_jobs.specs.Obeying.{ObeysScript, arrived}
-use Rattle.bpfdb_jobs.specs.Openings.{HasArrived, IsOpening, IsStart}
-use Rattle.bpfdb_jobs.specs.Origins.{Asks, RefusesWhat, arrival, bounds, obeyed, question_by, run_arrival, run_history}
+use Rattle.bpfdb_jobs.specs.Openings.{HasArrived, HasTail, IsOpening, IsStart}
+use Rattle.bpfdb_jobs.specs.Origins.{Asks, IsTail, RefusesWhat, arrival, bounds, followed_by, obeyed, question_by, run_arrival, run_history}
 use Rattle.bpfdb_jobs.specs.Refusals.{RefusesArrival, RefusesAs}
 use Rattle.bpfdb_jobs.specs.declared.job.Job.{Job}
 use Rattle.bpfdb_faults.specs.declared.refusal.JobRefusal.TheVariants as jobs
@@ -95,21 +101,55 @@ module _ (job : Job) (moment : Moment RingKeeper) (n : ℕ) (a : HasArrived job 
   -- the answer about it is printed
   pub origin-prints : (q : Question) (what : Option What) (parts : List Part) → q ≡ question job a.at.point.history n
       → Asks job.options.what moment.state what → parts ≡ parts_asked moment.state what
-      → Prints Origin job (origin_print moment.state (answer_about q parts a.at.point.history moment.state))
-  origin-prints q what parts asks-as asks is = (
+      → (tail : Answer) → IsTail job.options.only_branches (question_by job.options a.at) a.at.point tail
+      → Prints Origin job (origin_print moment.state (followed_by (answer_about q parts a.at.point.history moment.state) tail))
+  origin-prints q what parts asks-as asks is tail behind = (
     a.code,
     a.at,
     what,
+    tail,
     a.opens,
     a.arrives,
     subst (λ (x : State). Asks job.options.what x what) a.state asks,
-    ap (λ (z : Question). origin_print moment.state (answer_about z parts a.at.point.history moment.state))
+    behind,
+    ap (λ (z : Question). origin_print moment.state (followed_by (answer_about z parts a.at.point.history moment.state) tail))
         (asks-as ∙ ap (question job a.at.point.history) a.counted)
-        ∙ ap (λ (ps : List Part). origin_print moment.state (answer_about (question_by job.options a.at) ps a.at.point.history moment.state)) is
-        ∙ ap (λ (x : State). origin_print x (answer_about (question_by job.options a.at) (parts_asked x what) a.at.point.history x)) a.state,
+        ∙ ap (λ (ps : List Part). origin_print moment.state (followed_by (answer_about (question_by job.options a.at) ps a.at.point.history moment.state) tail)) is
+        ∙ ap (λ (x : State). origin_print x (followed_by (answer_about (question_by job.options a.at) (parts_asked x what) a.at.point.history x) tail)) a.state,
   )
 
   -- and so is what it refuses
   pub origin-refuses : (fault : WhatFault) → RefusesWhat job.options.what moment.state fault → RefusesAs Origin job (jobs.What fault)
   origin-refuses fault refuses =
       (a.code, a.at, a.opens, a.arrives, subst (λ (x : State). RefusesWhat job.options.what x fault) a.state refuses)
+
+  -- behind it are the branches that were found
+  pub branches-behind : (q : Question) (found : Found) → job.options.only_branches ≡ true → q ≡ question job a.at.point.history n
+      → IsFound q a.at.point.history moment.state found
+      → HasTail job found.timeline n (record { text = found.text.items; extent = found.extent })
+  branches-behind q found given asks-as is = record {
+    arrived = record {
+      code = a.code;
+      at = a.at;
+      opens = a.opens;
+      arrives = a.arrives;
+      state = is.state ∙ a.state;
+      held = is.stands;
+      counted = a.counted;
+    };
+    is = subst (λ (b : Bool). IsTail b (question_by job.options a.at) a.at.point (record { text = found.text.items; extent = found.extent })) (sym given)
+        (subst (λ (z : Question). AreBranches z a.at.point.history a.at.point.state (record { text = found.text.items; extent = found.extent }))
+        (asks-as ∙ ap (question job a.at.point.history) a.counted)
+        (subst (λ (x : State). AreBranches q a.at.point.history x (record { text = found.text.items; extent = found.extent })) a.state
+        (subst (λ (z : Answer). AreBranches q a.at.point.history moment.state z) (same is.text is.extent) is.is)));
+  }
+    where
+      same : {text : List ℕ} {extent : Extent} {other : Answer} → text ≡ other.text → extent ≡ other.extent → other ≡ record { text = text; extent = extent }
+      same e f = ap₂ (λ (text : List ℕ) (extent : Extent). record { text = text; extent = extent }) (sym e) (sym f)
+
+  -- or nothing
+  pub nothing-behind : job.options.only_branches ≡ false → HasTail job moment n (record { text = []; extent = Whole })
+  nothing-behind without = record {
+    arrived = a;
+    is = subst (λ (b : Bool). IsTail b (question_by job.options a.at) a.at.point (record { text = []; extent = Whole })) (sym without) refl;
+  }

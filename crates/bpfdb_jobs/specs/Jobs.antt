@@ -45,7 +45,7 @@ use Rattle.bpf_whynot.specs.Reach.{TellsReach}
 use Rattle.bpfdb_commands.specs.declared.refusal.Refusal.{Refusal}
 use Rattle.bpfdb_replies.specs.Texts.{place}
 use Rattle.bpfdb_jobs.specs.MapLines.{linked_told}
-use Rattle.bpfdb_jobs.specs.Origins.{Arrival, Asks, answer_by, arrival, found_text, question_by, status_of_extent}
+use Rattle.bpfdb_jobs.specs.Origins.{Arrival, Asks, IsTail, answer_by, arrival, followed_by, found_text, question_by, status_of_extent}
 use Rattle.bpfdb_jobs.specs.declared.job.Job.{Job}
 use Rattle.bpfdb_options.specs.declared.subcommand.Subcommand.{Subcommand}
 use Rattle.bpfdb_options.specs.declared.subcommand.Subcommand.TheVariants.{Run, Trace, Debug, Origin, Whynot, Diff, Gdb, Asm, Disasm, Lines, Check, Link, Test}
@@ -314,8 +314,9 @@ Prints Run job a = (code : Checked) × Opens job code × (a ≡ run_or_stopped (
 Prints Trace job a = (code : Checked) × Opens job code
     × (a ≡ trace_or_stopped (unwritten_in job (initial code job.context.now)) job (initial code job.context.now) (run_end job code))
 Prints Debug job a = ⊥
-Prints Origin job a = (code : Checked) × (at : Arrival) × (what : Option What) × OpensSession job code × (arrival_of job code ≡ Ok at)
-    × Asks job.options.what at.point.state what × (a ≡ origin_print at.point.state (answer_by job.options what at))
+Prints Origin job a = (code : Checked) × (at : Arrival) × (what : Option What) × (tail : Answer) × OpensSession job code
+    × (arrival_of job code ≡ Ok at) × Asks job.options.what at.point.state what × IsTail job.options.only_branches (question_by job.options at) at.point tail
+    × (a ≡ origin_print at.point.state (followed_by (answer_by job.options what at) tail))
 Prints Whynot job a = (code : Checked) × (at : Arrival) × (goals : List ℕ) × (can : ℕ → List ℕ → Bool) × OpensSession job code
     × (arrival_of job code ≡ Ok at) × (goals_in at.point.state.program (asked_of job) ≡ Ok goals)
     × TellsReach at.point.state.program goals can × (a ≡ whynot_print job goals can at)

@@ -5,11 +5,12 @@ use Rattle.bpf_journal.specs.Histories.{StandsFor}
 use Rattle.bpf_journal.specs.Timelines.{Moment}
 use Rattle.bpf_journal.specs.Tracks.{RingHolds, ring_room}
 use Rattle.bpf_ring.specs.declared.keeper.RingKeeper.{RingKeeper}
+use Rattle.bpf_origin.specs.Answers.{Answer}
 use Rattle.bpf_steps.specs.State.{initial}
 use Rattle.bpf_session.specs.Sessions.{SessionValue}
 use Rattle.bpfdb_jobs.specs.Connections.{Begins}
 use Rattle.bpfdb_jobs.specs.Jobs.{OpensSession, arrival_of}
-use Rattle.bpfdb_jobs.specs.Origins.{Arrival}
+use Rattle.bpfdb_jobs.specs.Origins.{Arrival, IsTail, question_by}
 use Rattle.bpfdb_jobs.specs.declared.job.Job.{Job}
 
 -- It has the job's program, and stands where one of the job begins.
@@ -35,3 +36,8 @@ pub record HasArrived (job : Job) (moment : Moment RingKeeper) (moves : ℕ) : T
   pub state : moment.state ≡ at.point.state
   pub held : StandsFor RingHolds moment.keeper moment.state at.point.history
   pub counted : moves ≡ at.moves
+
+-- And this stands behind its answer.
+pub record HasTail (job : Job) (moment : Moment RingKeeper) (moves : ℕ) (tail : Answer) : Type 0 where
+  pub arrived : HasArrived job moment moves
+  pub is : IsTail job.options.only_branches (question_by job.options arrived.at) arrived.at.point tail

@@ -1,7 +1,8 @@
 -- What `origin` is asked, and what it answers: over the history that the journal keeps of a run to the program's end or to the limit of steps,
 -- or of the session of a script.
-use Rattle.std.specs.Prelude.{ℕ, ◌≡◌, ◌==◌, List, [], ◌∷◌, ◌++◌, Option, Some, None, Result, Ok, Err, if◌then◌else◌, codes, length}
+use Rattle.std.specs.Prelude.{ℕ, ◌≡◌, ◌==◌, Bool, true, false, List, [], ◌∷◌, ◌++◌, Option, Some, None, Result, Ok, Err, if◌then◌else◌, codes, length}
 use Rattle.std.specs.Borrow.{Bor}
+use Rattle.bpf_branches.specs.Branches.{AreBranches}
 use Rattle.bpf_journal.specs.Histories.{Record}
 use Rattle.bpf_journal.specs.Runs.{history_after}
 use Rattle.bpf_steps.specs.State.{State}
@@ -88,6 +89,19 @@ question_by options a = record {
 -- The answer there.
 abbrev pub answer_by : Options → Option What → Arrival → Answer
 answer_by options what a = answer_about (question_by options a) (parts_asked a.point.state what) a.point.history a.point.state
+
+-- What stands behind that: with `--branches` those that decided that the program came there, else nothing.
+abbrev pub IsTail : Bool → Question → Point → Answer → Type 0
+IsTail true q point tail = AreBranches q point.history point.state tail
+IsTail false q point tail = tail ≡ record { text = []; extent = Whole }
+
+-- Two answers, one behind the other, and how far both go.
+abbrev pub both_extents : Extent → Extent → Extent
+both_extents Whole second = second
+both_extents first second = first
+
+abbrev pub followed_by : Answer → Answer → Answer
+followed_by first second = record { text = first.text ++ second.text; extent = both_extents first.extent second.extent }
 
 -- What is written of it: where the machine stands, and the answer.
 abbrev pub found_text : State → Answer → List ℕ

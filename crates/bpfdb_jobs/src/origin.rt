@@ -1,12 +1,14 @@
 //! What a job of `origin` does.
-ghost use Rattle.std.specs.Prelude.{◌≡◌, ◌≤◌, IfErr, IfOk, List, None, Option, Some};
+ghost use Rattle.std.specs.Prelude.{◌≡◌, ◌≤◌, ◌==◌, true, length, IfErr, IfOk, List, None, Option, Some};
 ghost use Rattle.bpf_journal.specs.Histories.{Record, StandsFor};
+ghost use Rattle.bpf_journal.specs.Tracks.{RingHolds};
 ghost use Rattle.bpf_origin.specs.Asked as spec;
+ghost use Rattle.bpf_origin.specs.declared.question.Extent.TheVariants.{Whole};
 ghost use Rattle.bpf_origin.specs.declared.what.What.{What as Asked};
 ghost use Rattle.counted_io.specs.Writing.{Writes};
 ghost use Rattle.bpfdb_jobs.specs.Endings.{EndsPrinted};
-ghost use Rattle.bpfdb_jobs.specs.Openings.{HasArrived};
-ghost use Rattle.bpfdb_jobs.specs.Origins.{Asks, RefusesWhat, found_text, status_of_extent};
+ghost use Rattle.bpfdb_jobs.specs.Openings.{HasArrived, HasTail};
+ghost use Rattle.bpfdb_jobs.specs.Origins.{Asks, RefusesWhat, both_extents, followed_by, found_text, status_of_extent};
 ghost use Rattle.bpfdb_jobs.specs.Refusals.{RefusesArrival};
 ghost use Rattle.bpfdb_limits.specs.Limits.{IsLimit};
 ghost use Rattle.bpfdb_options.specs.declared.subcommand.Subcommand.TheVariants.{Origin};
@@ -15,7 +17,8 @@ ghost use Rattle.bpfdb_faults.specs.Streams.{stream};
 use crate::job::Job;
 use crate::opening::{session_of, timeline_of, wanted_of};
 use crate::script::obey_script;
-use bpf_journal::{Keeper, RingKeeper, Timeline};
+use bpf_branches::{Found, find_branches};
+use bpf_journal::{JournalFault, Keeper, RingKeeper, Timeline};
 use bpf_machine::Cpu;
 use bpf_origin::{
     Extent, Part, Parts, Question, Told, Wanted, What, WhatFault, parts_asked, put_answer,
@@ -51,8 +54,72 @@ pub fn origin_job<W: Write, E: Write>(
     ensures status { result ≤ 2 }
 {
     match arrive(alloc, job) {
-        Ok(mut arrived) => ask(job, &mut arrived, writer, errors),
+        Ok(arrived) => {
+            if job.options.only_branches {
+                ask_branches(alloc, job, arrived, writer, errors)
+            } else {
+                ask(job, arrived, &[], Extent::Whole, writer, errors)
+            }
+        }
         Err(refusal) => give_up(errors, &JobFault::Refused(refusal)),
+    }
+}
+
+/// Finds the branches that decided that the program came to where it is asked, and asks.
+fn ask_branches<W: Write, E: Write>(
+    alloc: Global,
+    job: &Job<'_>,
+    arrived: Arrived,
+    writer: &mut Counted<W>,
+    errors: &mut Counted<E>,
+) -> u8
+    requires arrived { HasArrived job.now arrived.timeline arrived.moves }
+    requires branches { job.now.options.only_branches ≡ true }
+    ensures does { EndsPrinted Origin job.now (stream W.contents writer.old writer.new)
+        (stream E.contents errors.old errors.new) result }
+    ensures status { result ≤ 2 }
+{
+    let question = question_of(job, &arrived);
+    let Arrived {
+        timeline,
+        moves,
+        wanted,
+    } = arrived;
+    match find_branches(alloc, timeline, question) {
+        Ok(found) => {
+            let Found {
+                timeline,
+                text,
+                extent,
+            } = found;
+            let arrived = Arrived {
+                timeline,
+                moves,
+                wanted,
+            };
+            ask(job, arrived, text.as_slice(), extent, writer, errors)
+        }
+        Err(_) => give_up(
+            errors,
+            &JobFault::Refused(JobRefusal::Journal(JournalFault::OutOfMemory)),
+        ),
+    }
+}
+
+/// How it is asked.
+fn question_of(job: &Job<'_>, arrived: &Arrived) -> Question
+    ensures { (h : List Record) →
+        StandsFor RingHolds arrived.now.timeline.keeper arrived.now.timeline.state h →
+        result ≡ record {
+          addresses = job.now.options.addresses;
+          lines = job.now.options.lines;
+          opening = length h == arrived.now.moves;
+        } }
+{
+    Question {
+        addresses: job.options.addresses,
+        lines: job.options.lines,
+        opening: arrived.timeline.len() as u64 == arrived.moves,
     }
 }
 
@@ -118,14 +185,18 @@ fn arrive_at_end(alloc: Global, job: &Job<'_>) -> Result<Arrived, JobRefusal<'st
     })
 }
 
-/// Writes where the machine stands, and where the values came from that are asked about.
+/// Writes where the machine stands, where the values came from that are asked about, and what else
+/// is asked.
 fn ask<W: Write, E: Write>(
     job: &Job<'_>,
-    arrived: &mut Arrived,
+    arrived: Arrived,
+    tail: &[u8],
+    tail_extent: Extent,
     writer: &mut Counted<W>,
     errors: &mut Counted<E>,
 ) -> u8
-    requires { HasArrived job.now arrived.old.timeline arrived.old.moves }
+    requires { HasTail job.now arrived.timeline arrived.moves
+        (record { text = tail.now; extent = tail_extent }) }
     ensures does { EndsPrinted Origin job.now (stream W.contents writer.old writer.new)
         (stream E.contents errors.old errors.new) result }
     ensures status { result ≤ 2 }
@@ -134,20 +205,18 @@ fn ask<W: Write, E: Write>(
         Ok(parts) => parts,
         Err(fault) => return give_up(errors, &JobFault::Refused(JobRefusal::What(fault))),
     };
-    let question = Question {
-        addresses: job.options.addresses,
-        lines: job.options.lines,
-        opening: arrived.timeline.len() as u64 == arrived.moves,
-    };
+    let question = question_of(job, &arrived);
+    let mut arrived = arrived;
     let told = put_found(
         &mut arrived.timeline,
         &mut arrived.wanted,
         parts.as_slice(),
         question,
+        tail,
         writer,
     );
     match told.written {
-        Ok(()) => status_of(told.extent),
+        Ok(()) => status_of(both_of(told.extent, tail_extent)),
         Err(WriteFault) => give_up(errors, &JobFault::Output),
     }
 }
@@ -174,12 +243,14 @@ fn put_found<K: Keeper, W: Write>(
     wanted: &mut Wanted,
     parts: &[Part],
     question: Question,
+    tail: &[u8],
     writer: &mut Counted<W>,
 ) -> Told
     ensures text { (h : List Record) →
         StandsFor K.holds timeline.old.keeper timeline.old.state h →
         Writes W.contents writer.old writer.new result.written (found_text timeline.old.state
-        (spec.answer_about question parts.now h timeline.old.state)) }
+        (followed_by (spec.answer_about question parts.now h timeline.old.state)
+        (record { text = tail.now; extent = Whole }))) }
     ensures extent { (h : List Record) →
         StandsFor K.holds timeline.old.keeper timeline.old.state h →
         result.extent ≡ (spec.answer_about question parts.now h timeline.old.state).extent }
@@ -187,10 +258,21 @@ fn put_found<K: Keeper, W: Write>(
     let placed = write_place(timeline.cpu(), writer);
     let ended = put(writer, placed, b"\n");
     let told = put_answer(timeline, wanted, parts, question, writer, ended);
+    let all = put(writer, told.written, tail);
     Told {
-        written: flush_after(writer, told.written),
+        written: flush_after(writer, all),
         extent: told.extent,
         moves: told.moves,
+    }
+}
+
+/// How far two answers go, one behind the other.
+fn both_of(first: Extent, second: Extent) -> Extent
+    ensures { result ≡ both_extents first second }
+{
+    match first {
+        Extent::Whole => second,
+        _ => first,
     }
 }
 

@@ -1,4 +1,4 @@
-use Rattle.std.proofs.Common.{[], ◌++◌, codes}
+use Rattle.std.proofs.Common.{[], ◌++◌, ◌∙◌, append_assoc, codes}
 use Rattle.std.proofs.lemmas.List.{append-nil}
 use Rattle.bpf_origin.specs.Asked as spec
 use Rattle.bpfdb_replies.specs.Texts.{place}
@@ -12,8 +12,10 @@ returns-clause-text g c = λ h stands.
     let placed = rw c.cpu.ensures at c.write_place-placed.ensures in
     let ended = c.put-ended.ensures _ _ placed in
     let told = c.put_answer-told.ensures.text (record { history = h; ahead = [] }) stands _ _ ended in
-    let last = c.flush_after.ensures _ _ told in
-    Writes-text g.W.Write.contents _ _ _ _ _ last (append-nil (place x ++ codes "\n" ++ text))
+    let all = c.put-all.ensures _ _ told in
+    let last = c.flush_after.ensures _ _ all in
+    Writes-text g.W.Write.contents _ _ _ _ _ last
+    (append-nil (place x ++ codes "\n" ++ text ++ c.args.tail.now) ∙ append_assoc (place x ++ codes "\n") text c.args.tail.now)
 
 pub returns-clause-extent : goal.returns-clause-extent
 returns-clause-extent g c = λ h stands. c.put_answer-told.ensures.extent (record { history = h; ahead = [] }) stands

@@ -1,0 +1,23 @@
+use Rattle.std.proofs.Common.{refl}
+use Rattle.bpf_ring.specs.declared.fault.JournalFault.TheVariants.{OutOfMemory}
+use Rattle.bpfdb_faults.specs.declared.refusal.JobRefusal.TheVariants.{Journal}
+use Rattle.bpfdb_jobs.specs.Endings.{Refused}
+use Rattle.bpfdb_jobs.proofs.Originating.{branches-behind}
+use Rattle.bpfdb_jobs.proofs.Refusing.{arrival-origin, no-places, session-arrival}
+use Rattle.bpfdb_jobs.proofs.origin.ask_branches.Goals as goal
+
+pub ask-requires : goal.ask-requires
+ask-requires g c =
+    let job = c.args.job.now in
+    let a = c.requires.arrived in
+    let h = a.at.point.history in
+    rw c.as_slice.ensures.value
+    (branches-behind job c.args.arrived.timeline c.args.arrived.moves a c.question_of-question.result c.in-Ok.found c.requires.branches
+    (c.question_of-question.ensures h a.held) (c.in-Ok.ensures h a.held))
+
+pub returns-in-Err-clause-does : goal.returns-in-Err-clause-does
+returns-in-Err-clause-does g c =
+    let job = c.args.job.now in
+    let a = c.requires.arrived in
+    Refused (Journal OutOfMemory) (arrival-origin job (Journal OutOfMemory) (session-arrival job (Journal OutOfMemory) (no-places job a.code (Journal OutOfMemory) a.opens refl)))
+    refl c.give_up.ensures.told c.give_up.ensures.value

@@ -1,0 +1,88 @@
+# The branches that decided that a program came to where it stands (`origin --branches`): each kind of answer, loops, calls and recursion, edits, what the
+# journal dropped, and answers that are cut. What is wanted was worked out by hand from the jumps, calls and returns of each listing. Then programs at
+# random, held against a model (tests/trials/branches.py).
+
+# Nested conditions, the both sides of one, and early exits.
+listing nest.s 'jeq r1, 0, none;jeq r2, 0, none;mov r0, 1;jgt r2, 5, big;mov r0, 2;exit;big: mov r0, 3;exit;none: exit'
+printf '123' > three
+printf '123456' > six
+start='; at the opening\n'
+tells 0 "exited at 8: r0 0x0\nleft r0 = 0x0$start-2 0: jeq r1, 0, L8; r1 = 0x0; jumped to 8\nno other branch$start" origin --branches --listing nest.s
+tells 0 "exited at 5: r0 0x2\n-2 r0 = 0x2; 4: mov r0, 2\n-3 3: jgt r2, 5, L6; r2 = 0x3; went on\n-5 1: jeq r2, 0, L8; r2 = 0x3; went on\n-6 0: jeq r1, 0, L8; r1 = 0x100000000; went on\nno other branch$start" \
+    origin --branches -m three --listing nest.s
+tells 0 "exited at 7: r0 0x3\n-2 r0 = 0x3; 6: mov r0, 3\n-3 3: jgt r2, 5, L6; r2 = 0x6; jumped to 6\n-5 1: jeq r2, 0, L8; r2 = 0x6; went on\n-6 0: jeq r1, 0, L8; r1 = 0x100000000; went on\nno other branch$start" \
+    origin --branches -m six --listing nest.s
+tells 0 "at 3: jgt r2, 5, L6\nleft r2 = 0x6$start-2 1: jeq r2, 0, L8; r2 = 0x6; went on\n-3 0: jeq r1, 0, L8; r1 = 0x100000000; went on\nno other branch$start" \
+    origin --branches -m six --steps 3 --listing nest.s r2
+
+# Where two ways meet again nothing was decided; on one of them it was.
+listing join.s 'jeq r2, 0, else;mov r0, 1;ja join;else: mov r0, 2;join: exit'
+tells 0 "exited at 4: r0 0x2\n-2 r0 = 0x2; 3: mov r0, 2\nno other branch$start" origin --branches --listing join.s
+tells 0 "exited at 4: r0 0x1\n-3 r0 = 0x1; 1: mov r0, 1\nno other branch$start" origin --branches -m six --listing join.s
+tells 0 "at 2: ja L4\n-1 r0 = 0x1; 1: mov r0, 1\n-2 0: jeq r2, 0, L3; r2 = 0x6; went on\nno other branch$start" origin --branches -m six --steps 2 --listing join.s
+tells 0 "at 3: mov r0, 2\nleft r0 = 0x0$start-1 0: jeq r2, 0, L3; r2 = 0x0; jumped to 3\nno other branch$start" origin --branches --steps 1 --listing join.s
+listing same.s 'jeq r0, 0, on;on: exit'
+tells 0 "exited at 1: r0 0x0\nleft r0 = 0x0${start}no other branch$start" origin --branches --listing same.s
+
+# Loops: behind one nothing was decided, in one each turn was, by the turn before.
+listing until.s 'loop: add r0, 1;jlt r0, 3, loop;exit'
+added='-1 r0 = 0x3; 0: add r0, 1; from r0\n-3 r0 = 0x2; 0: add r0, 1; from r0\n-5 r0 = 0x1; 0: add r0, 1; from r0\nleft r0 = 0x0; at the opening\n'
+tells 0 "at 1: jlt r0, 3, L0\n$added-2 1: jlt r0, 3, L0; r0 = 0x2; jumped to 0\n-4 1: jlt r0, 3, L0; r0 = 0x1; jumped to 0\nno other branch$start" \
+    origin --branches --steps 5 --listing until.s
+tells 0 "exited at 2: r0 0x3\nleft r1 = 0x0${start}no other branch$start" origin --branches --listing until.s r1
+listing while.s 'while: jge r0, 2, out;add r0, 1;ja while;out: exit'
+tells 0 "exited at 3: r0 0x2\nleft r1 = 0x0${start}no other branch$start" origin --branches --listing while.s r1
+tells 0 "at 2: ja L0\nleft r1 = 0x0$start-2 0: jge r0, 2, L3; r0 = 0x1; went on\n-5 0: jge r0, 2, L3; r0 = 0x0; went on\nno other branch$start" \
+    origin --branches --steps 5 --listing while.s r1
+listing find.s 'loop: add r0, 1;jeq r0, 2, found;jlt r0, 5, loop;mov r0, 0;exit;found: mov r1, 1;exit'
+tells 0 "exited at 6: r0 0x2\n-2 r1 = 0x1; 5: mov r1, 1\n-3 1: jeq r0, 2, L5; r0 = 0x2; jumped to 5\n-5 2: jlt r0, 5, L0; r0 = 0x1; jumped to 0\n-6 1: jeq r0, 2, L5; r0 = 0x1; went on\nno other branch$start" \
+    origin --branches --listing find.s r1
+# (A loop that never ends is no way past it.)
+listing ever.s 'jeq r1, 0, on;ever: ja ever;on: exit'
+tells 0 "exited at 2: r0 0x0\nleft r0 = 0x0$start-2 0: jeq r1, 0, L2; r1 = 0x0; jumped to 2\nno other branch$start" origin --branches --listing ever.s
+
+# Calls: what a function decides doesn't count for its caller; in it the branches of its caller follow. Recursion.
+listing calls.s 'jeq r1, 0, skip;exit;skip: callf f;exit;f: jeq r0, 0, in;exit;in: mov r0, 7;exit'
+tells 0 "exited at 3: r0 0x7\n-3 r0 = 0x7; 6: mov r0, 7\n-6 0: jeq r1, 0, L2; r1 = 0x0; jumped to 2\nno other branch$start" origin --branches --listing calls.s
+tells 0 "at 7: exit\n-1 r0 = 0x7; 6: mov r0, 7\n-2 4: jeq r0, 0, L6; r0 = 0x0; jumped to 6\n-4 0: jeq r1, 0, L2; r1 = 0x0; jumped to 2\nno other branch$start" \
+    origin --branches --steps 4 --listing calls.s
+tells 0 "at 4: jeq r0, 0, L6\nleft r0 = 0x0$start-2 0: jeq r1, 0, L2; r1 = 0x0; jumped to 2\nno other branch$start" origin --branches --steps 2 --listing calls.s
+listing back.s 'f: jeq r0, 0, deeper;exit;deeper: callf f;mov r0, 1;exit'
+turn='0: jeq r0, 0, L2; r0 = 0x0; jumped to 2\n'
+tells 0 "at 0: jeq r0, 0, L2\nleft r0 = 0x0$start-2 $turn-4 ${turn}no other branch$start" origin --branches --steps 4 --listing back.s
+
+# Scripts: an edit that led elsewhere, others, what was taken back, and the move that an answer told. What the journal dropped.
+listing plain.s 'mov r0, 1;mov r0, 2;exit'
+printf 'stepi\nset pc 2\n' > edited
+tells 0 "at 2: exit\n-2 r0 = 0x1; 0: mov r0, 1\n-1 edit; then at 2\nno other branch$start" origin --branches --script edited --listing plain.s
+printf 'stepi\nset pc 1\nset reg r0 7\n' > others
+tells 0 "at 1: mov r0, 2\n-1 r0 = 0x7; edit\nno other branch$start" origin --branches --script others --listing plain.s
+printf 'stepi\nset pc 2\nundo\n' > undone
+tells 0 "at 1: mov r0, 2\n-1 r0 = 0x1; 0: mov r0, 1\nno other branch$start" origin --branches --script undone --listing plain.s
+printf 'continue\nreverse-stepi 3\n' > told
+tells 0 "at 6: mov r0, 7\nleft r0 = 0x0$start-1 4: jeq r0, 0, L6; r0 = 0x0; jumped to 6\n-3 0: jeq r1, 0, L2; r1 = 0x0; jumped to 2\nno other branch$start" \
+    origin --branches --script told --listing calls.s
+tells 0 "at 0: mov r0, 1\nleft r0 = 0x0${start}no other branch$start" origin --branches --script /dev/null --listing plain.s
+listing late.s 'jeq r0, 0, l;mov r0, 1;exit;l: ja l'
+tells 0 "at 3: ja L3\nleft r0 = 0x0$start-1000 0: jeq r0, 0, L3; r0 = 0x0; jumped to 3\nno other branch$start" origin --branches --steps 1000 --listing late.s
+tells 0 'at 3: ja L3\nleft r0 = 0x0; before the kept history\nno other branch; before the kept history\n' \
+    origin --branches --steps 1000 --journal 1024 --listing late.s
+
+# Answers that are cut: each part has its lines.
+tells 1 "at 1: jlt r0, 3, L0\n-1 r0 = 0x3; 0: add r0, 1; from r0\ncut: there are more lines\n-2 1: jlt r0, 3, L0; r0 = 0x2; jumped to 0\ncut: there are more lines\n" \
+    origin --branches --lines 1 --steps 5 --listing until.s
+tells 1 "at 1: jlt r0, 3, L0\nleft r1 = 0x0$start-2 1: jlt r0, 3, L0; r0 = 0x2; jumped to 0\ncut: there are more lines\n" \
+    origin --branches --lines 1 --steps 5 --listing until.s r1
+tells 0 "at 1: jlt r0, 3, L0\nleft r1 = 0x0$start-2 1: jlt r0, 3, L0; r0 = 0x2; jumped to 0\n-4 1: jlt r0, 3, L0; r0 = 0x1; jumped to 0\nno other branch$start" \
+    origin --branches --lines 2 --steps 5 --listing until.s r1
+
+# What is asked about is refused as without it.
+refused 'refused V1: neither r0 to r9 nor ADDRESS:COUNT' origin --branches --listing plain.s r10
+
+# Programs at random.
+if has python3 'which branches of programs at random decided'; then
+    python3 "$top/tests/trials/branches.py" "$program" 200 > trial 2> found/err
+    echo $? > found/status
+    { grep -a '^FAILED' trial; sed -n 's/^[0-9]* answers.*: \([0-9]* failed\)$/\1/p' trial; } > found/out
+    check 'which branches of programs at random decided' 0 '0 failed\n' ''
+fi
