@@ -15,7 +15,7 @@ pub record Buffer : Type 0 where
 
 -- The buffer holds the line, or the line is longer than one may be.
 abbrev pub Holds : Buffer → List ℕ → Type 0
-Holds buffer line = elim buffer.is_long [ true ↦ longest_line < length line | false ↦ buffer.bytes ≡ line ]
+Holds buffer line = elim buffer.is_long [ true ↦ longest_line < length line | false ↦ (buffer.bytes ≡ line) × (length line ≤ longest_line) ]
 
 -- The tests of what was found.
 abbrev pub is_missing : NextLine → Bool

@@ -1,5 +1,5 @@
 //! Lines of cases, read a byte at a time.
-ghost use Rattle.std.specs.Prelude.{◌≡◌, ◌<◌, ◌++◌, ◌∷◌, [], ◌↔◌, IsTrue, List, MatchOption, OnOk, length, ℕ};
+ghost use Rattle.std.specs.Prelude.{◌≡◌, ◌≤◌, ◌<◌, ◌++◌, ◌∷◌, [], ◌↔◌, IsTrue, List, MatchOption, OnOk, length, ℕ};
 ghost use Rattle.case_texts.specs.Cases.{longest_line};
 ghost use Rattle.case_texts.specs.ReadLines.{Holds, ReadsLine, is_last, is_missing};
 
@@ -70,7 +70,8 @@ impl LineBuffer {
     /// Its bytes, None where there are more than can be read.
     pub fn bytes(&self) -> Option<&[u8]>
         ensures { (line : List ℕ) → Holds self.now line →
-            MatchOption result (longest_line < length line) (λ bytes. bytes.now ≡ line) }
+            MatchOption result (longest_line < length line)
+            (λ bytes. (bytes.now ≡ line) × (length line ≤ longest_line)) }
     {
         if self.is_long {
             return None;
