@@ -1,0 +1,4 @@
+pub mod Answering
+pub mod Begun
+pub mod Ran
+pub mod Writings
