@@ -60,7 +60,7 @@ _bpfdb() {
     --over) mapfile -t COMPREPLY < <(compgen -W "gdb bpfdb" -- "$word"); return ;;
     esac
     if [ "$COMP_CWORD" -eq "$first" ]; then
-        mapfile -t COMPREPLY < <(compgen -W "run trace debug origin whynot diff asm disasm lines check link gdb test help --help --version" -- "$word")
+        mapfile -t COMPREPLY < <(compgen -W "run trace debug origin whynot diff asm disasm lines check link gdb test batch help --help --version" -- "$word")
         return
     fi
     case $job in
@@ -77,10 +77,11 @@ _bpfdb() {
     link) words="--section --entry --entries --stub --as-compiled --packet --with --joined -h --help" ;;
     gdb) words="-m --mem --maps --journal --steps --listing --object --registers --section --entry --entries --stub --as-compiled -h --help" ;;
     test) words="--only --show --cover --anywhere -h --help" ;;
+    batch) words="--maps --steps -h --help" ;;
     shell) words="-m --mem --maps --journal --steps --listing --object --section --entry --entries --stub --as-compiled --packet -h --help" ;;
     page) words="-m --mem --maps --steps --strict --listing --section --entry --entries --stub --as-compiled --packet -o --output --from --count --title --object -h --help" ;;
     dap) words="--port --over -h --help" ;;
-    help) words="run trace debug origin whynot diff asm disasm lines check link gdb test" ;;
+    help) words="run trace debug origin whynot diff asm disasm lines check link gdb test batch" ;;
     *) return ;;
     esac
     case $word in

@@ -215,6 +215,10 @@ cp "$parts/suites/cells.test" "$parts/suites/alone.test" .
     cp told wanted/err
     echo 0 > wanted/status
     compare 'link of maps with 256 kB of stack'
+    { od -An -v -tx1 longest | tr -d ' \n'; printf ' '; od -An -v -tx1 context | tr -d ' \n'; } > script
+    run batch --maps $sixteen
+    check 'batch with 256 kB of stack' 0 '0xfffe\n' ''
+    : > script
     run test cells.test
     cp "$parts/suites/cells.out" wanted/out
     : > wanted/err

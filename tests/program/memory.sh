@@ -107,6 +107,9 @@ of_functions='refused E26: out of memory (--with)\n'
 wants "$plain$c13$o2" 0 '0x2a\n' '' run -m context --maps 8x2 program
 wants "$plain$a7$c13$o2" 0 '0x2a\n' '' run --listing program.s
 wants "$plain$c13$o2$j2" 0 '' '' debug -m context --maps 8x2 --journal 1024 --steps 7 program
+printf 'b70000002a0000009500000000000000 01\n' > script
+wants "$plain" 0 '0x2a\n' '' batch --maps 8x2
+: > script
 for size in 2097152 16777216; do
     wants "$plain$c13$o2$j2" 0 '' '' debug --maps 8x2 --journal "$size" program
 done

@@ -1,5 +1,5 @@
--- The command line as `clap` is told of it: thirteen subcommands, the options of each, and FILE.
-use Rattle.std.specs.Prelude.{[], ◌∷◌, Some, true, codes}
+-- The command line as `clap` is told of it: fourteen subcommands, the options of each, and FILE.
+use Rattle.std.specs.Prelude.{Bool, [], ◌∷◌, Some, true, codes, if◌then◌else◌}
 use Rattle.clap.specs.Words.{App, Rule, Text, new_app, new_rule, with_rule, with_subcommand}
 use Rattle.clap.specs.declared.builder.action.ArgAction.TheVariants.{Append, SetTrue}
 use Rattle.clap.specs.declared.builder.value_parser.ValueParser.TheVariants as vp
@@ -168,9 +168,15 @@ what_rule = record (new_rule (codes "what")) { index = Some 2; value_names = 1 }
 abbrev pub goal_rule : Rule
 goal_rule = record (new_rule (codes "what")) { required = true; index = Some 2; value_names = 1 }
 
--- FILE, which each subcommand needs.
+-- FILE, which each subcommand needs but `batch`, for which it is an empty file where it isn't named.
 abbrev pub file_rule : Rule
 file_rule = record (new_rule (codes "file")) { required = true; value_names = 1 }
+
+abbrev pub shared_file_rule : Rule
+shared_file_rule = record (new_rule (codes "file")) { value_names = 1; defaults = codes "/dev/null" ∷ [] }
+
+abbrev pub file_rule_if : Bool → Rule
+file_rule_if is_needed = if is_needed then file_rule else shared_file_rule
 
 -- What is asked of the link of an object.
 abbrev pub with_link_rules : App → App
@@ -230,14 +236,18 @@ abbrev pub diff_app : App
 diff_app = with_rule (with_rule (with_file_kinds (with_rule (with_rule (with_rule (with_rule (with_rule (new_app (codes "diff"))
     mem_rule) other_mem_rule) other_trace_rule) maps_rule) steps_rule)) other_rule) file_rule
 
+-- `batch` runs cases as `run` does.
+abbrev pub batch_app : App
+batch_app = with_rule (with_rule (with_rule (new_app (codes "batch")) maps_rule) steps_rule) shared_file_rule
+
 -- The command without its subcommands: it can't stand without one, and it tells its version.
 abbrev pub bare_app : App
 bare_app = record (new_app (codes "bpfdb")) { top = record (new_app (codes "bpfdb")).top { subcommand_required = true; has_version = true } }
 
 -- A command with the subcommands.
 unfoldable pub with_subcommands : App → App
-with_subcommands app = with_subcommand (with_subcommand (with_subcommand (with_subcommand (with_subcommand (with_subcommand (with_subcommand (with_subcommand (with_subcommand (with_subcommand (with_subcommand (with_subcommand (with_subcommand app
-    run_app.top) trace_app.top) debug_app.top) origin_app.top) whynot_app.top) diff_app.top) gdb_app.top) asm_app.top) disasm_app.top) lines_app.top) check_app.top) link_app.top) test_app.top
+with_subcommands app = with_subcommand (with_subcommand (with_subcommand (with_subcommand (with_subcommand (with_subcommand (with_subcommand (with_subcommand (with_subcommand (with_subcommand (with_subcommand (with_subcommand (with_subcommand (with_subcommand app
+    run_app.top) trace_app.top) debug_app.top) origin_app.top) whynot_app.top) diff_app.top) gdb_app.top) asm_app.top) disasm_app.top) lines_app.top) check_app.top) link_app.top) test_app.top) batch_app.top
 
 unfoldable pub command_app : App
 command_app = with_subcommands bare_app

@@ -1,7 +1,7 @@
 //! The command line, as `clap` is told of it.
 ghost use Rattle.std.specs.Prelude.{◌≡◌, IfOk, false, fold};
 ghost use Rattle.clap.specs.Words.{app_of, new_app, rule_of, with_subcommand};
-ghost use Rattle.bpfdb_cli.specs.CommandLine.{bare_app, command_app, entries_rule, file_rule, journal_rule_with, lines_rule, registers_rule, section_rule, steps_rule, with_subcommands};
+ghost use Rattle.bpfdb_cli.specs.CommandLine.{bare_app, command_app, entries_rule, file_rule_if, journal_rule_with, lines_rule, registers_rule, section_rule, steps_rule, with_subcommands};
 ghost use Rattle.bpfdb_cli.specs.Subcommands.{count_rule_of, entry_app, flag_rule, option_rule, text_rule, with_entry};
 
 use crate::help;
@@ -191,15 +191,17 @@ fn journal_option<'a>(alloc: Global, default: &'a str) -> Arg<'a>
         .default_value(default)
 }
 
-/// FILE.
-fn file_argument<'a>(alloc: Global, text: &'a str) -> Arg<'a>
-    ensures value { rule_of result ≡ file_rule }
+/// FILE, which may have to be named; else it is an empty file where it isn't.
+fn file_argument<'a>(alloc: Global, is_needed: bool, text: &'a str) -> Arg<'a>
+    ensures value { rule_of result ≡ file_rule_if is_needed }
     ensures local { result.global ≡ false }
 {
-    Arg::new(alloc, "file")
-        .required(true)
-        .value_name("FILE")
-        .help(text)
+    let file = Arg::new(alloc, "file").value_name("FILE").help(text);
+    if is_needed {
+        file.required(true)
+    } else {
+        file.default_value("/dev/null")
+    }
 }
 
 /// A command with its texts of help.
@@ -233,7 +235,7 @@ fn subcommand<'a>(alloc: Global, entry: &CliSubcommand<'a>) -> Result<Command<'a
     for option in entry.options {
         command = command.arg(argument_of(alloc, *option))?;
     }
-    command.arg(file_argument(alloc, entry.file))
+    command.arg(file_argument(alloc, entry.needs_file, entry.file))
 }
 
 /// A command and one more subcommand.

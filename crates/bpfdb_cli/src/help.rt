@@ -312,6 +312,24 @@ pub const GDB_EXAMPLE: &str = "Example, in gdb:
   (gdb) reverse-stepi
   (gdb) monitor undo";
 
+pub const BATCH: &str = "Runs cases from standard input, a line each";
+
+pub const BATCH_LONG: &str = "Runs cases from standard input, a line each.
+
+A line is WORDS [CONTEXT], both in hexadecimal: the bytes of a program and those
+of its context, empty if left out. With - for WORDS the program is FILE's. Each
+line is answered by one on standard output, at once: r0, as 0x and hexadecimal
+digits, or the fault, the limit of steps or the refusal, as run tells it. So a
+fuzzer can send a case, read what it came to, and send the next. No case sees
+another; those with the words of the case before run the fastest.";
+
+pub const BATCH_EXAMPLE: &str = "Example:
+  $ echo 'b70000002a000000 9500000000000000' | tr -d ' ' | bpfdb batch
+  0x2a";
+
+/// FILE of `batch`.
+pub const SHARED_PROGRAM: &str = "Program of the lines with - for WORDS";
+
 /// `-m`, `--mem`.
 pub const MEM: &str = "File with the context, 0 to 65536 bytes at r1";
 

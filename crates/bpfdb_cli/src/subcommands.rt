@@ -85,10 +85,12 @@ pub(crate) struct CliSubcommand<'a> {
     pub(crate) options: &'a [CliOption],
     /// What FILE is.
     pub(crate) file: &'a str,
+    /// Whether FILE has to be named; else it is an empty file where it isn't.
+    pub(crate) needs_file: bool,
 }
 
 /// The subcommands, as help lists them.
-pub(crate) const SUBCOMMANDS: [CliSubcommand<'static>; 13] = [
+pub(crate) const SUBCOMMANDS: [CliSubcommand<'static>; 14] = [
     CliSubcommand {
         name: "run",
         about: help::RUN,
@@ -108,6 +110,7 @@ pub(crate) const SUBCOMMANDS: [CliSubcommand<'static>; 13] = [
             CliOption::AsCompiled,
         ],
         file: help::PROGRAM,
+        needs_file: true,
     },
     CliSubcommand {
         name: "trace",
@@ -132,6 +135,7 @@ pub(crate) const SUBCOMMANDS: [CliSubcommand<'static>; 13] = [
             CliOption::AsCompiled,
         ],
         file: help::PROGRAM,
+        needs_file: true,
     },
     CliSubcommand {
         name: "debug",
@@ -152,6 +156,7 @@ pub(crate) const SUBCOMMANDS: [CliSubcommand<'static>; 13] = [
             CliOption::AsCompiled,
         ],
         file: help::PROGRAM,
+        needs_file: true,
     },
     CliSubcommand {
         name: "origin",
@@ -177,6 +182,7 @@ pub(crate) const SUBCOMMANDS: [CliSubcommand<'static>; 13] = [
             CliOption::What,
         ],
         file: help::PROGRAM,
+        needs_file: true,
     },
     CliSubcommand {
         name: "whynot",
@@ -202,6 +208,7 @@ pub(crate) const SUBCOMMANDS: [CliSubcommand<'static>; 13] = [
             CliOption::Goal,
         ],
         file: help::PROGRAM,
+        needs_file: true,
     },
     CliSubcommand {
         name: "diff",
@@ -224,6 +231,7 @@ pub(crate) const SUBCOMMANDS: [CliSubcommand<'static>; 13] = [
             CliOption::Other,
         ],
         file: help::PROGRAM,
+        needs_file: true,
     },
     CliSubcommand {
         name: "gdb",
@@ -245,6 +253,7 @@ pub(crate) const SUBCOMMANDS: [CliSubcommand<'static>; 13] = [
             CliOption::Registers,
         ],
         file: help::PROGRAM,
+        needs_file: true,
     },
     CliSubcommand {
         name: "asm",
@@ -253,6 +262,7 @@ pub(crate) const SUBCOMMANDS: [CliSubcommand<'static>; 13] = [
         example: help::ASM_EXAMPLE,
         options: &[],
         file: help::LISTING_FILE,
+        needs_file: true,
     },
     CliSubcommand {
         name: "disasm",
@@ -270,6 +280,7 @@ pub(crate) const SUBCOMMANDS: [CliSubcommand<'static>; 13] = [
             CliOption::AsCompiled,
         ],
         file: help::PROGRAM,
+        needs_file: true,
     },
     CliSubcommand {
         name: "lines",
@@ -286,6 +297,7 @@ pub(crate) const SUBCOMMANDS: [CliSubcommand<'static>; 13] = [
             CliOption::With,
         ],
         file: help::LINES_FILE,
+        needs_file: true,
     },
     CliSubcommand {
         name: "check",
@@ -303,6 +315,7 @@ pub(crate) const SUBCOMMANDS: [CliSubcommand<'static>; 13] = [
             CliOption::AsCompiled,
         ],
         file: help::PROGRAM,
+        needs_file: true,
     },
     CliSubcommand {
         name: "link",
@@ -320,6 +333,7 @@ pub(crate) const SUBCOMMANDS: [CliSubcommand<'static>; 13] = [
             CliOption::Joined,
         ],
         file: help::OBJECT_FILE,
+        needs_file: true,
     },
     CliSubcommand {
         name: "test",
@@ -333,5 +347,15 @@ pub(crate) const SUBCOMMANDS: [CliSubcommand<'static>; 13] = [
             CliOption::Anywhere,
         ],
         file: help::TEST_FILE,
+        needs_file: true,
+    },
+    CliSubcommand {
+        name: "batch",
+        about: help::BATCH,
+        long_about: help::BATCH_LONG,
+        example: help::BATCH_EXAMPLE,
+        options: &[CliOption::Maps, CliOption::Steps],
+        file: help::SHARED_PROGRAM,
+        needs_file: false,
     },
 ];

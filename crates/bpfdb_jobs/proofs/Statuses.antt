@@ -3,17 +3,18 @@ use Rattle.std.proofs.Common.{ℕ, ◌≡◌, ◌≢◌, Bool, true, false, Opti
 use Rattle.bpf_isa.specs.Programs.{Checked}
 use Rattle.bpf_session.specs.declared.fault.RunFault.{RunFault}
 use Rattle.bpfdb_faults.specs.Streams.{Stream}
+use Rattle.bpfdb_jobs.specs.Cases as batches
 use Rattle.bpfdb_jobs.specs.Done.{DoesAs, DoesJob, DoesPlain, Over, Unlinked}
 use Rattle.bpfdb_jobs.specs.Endings.{Broken, EndsPrinted, EndsSession, ErrLost, Exhausted, OutLost, Printed, Refused, Served}
 use Rattle.bpfdb_jobs.specs.Jobs.{Print, Prints}
 use Rattle.bpfdb_jobs.specs.Objects.{links_first}
 use Rattle.bpfdb_jobs.specs.Shown.{EndsTest}
 use Rattle.bpfdb_jobs.specs.Shown as shown
-use Rattle.bpfdb_jobs.specs.Statuses.{EndsAs, EndsPlainWith, EndsSessionWith, EndsTestWith, EndsWith}
+use Rattle.bpfdb_jobs.specs.Statuses.{EndsAs, EndsBatchWith, EndsPlainWith, EndsSessionWith, EndsTestWith, EndsWith}
 use Rattle.bpfdb_jobs.specs.Suites as tests
 use Rattle.bpfdb_jobs.specs.declared.job.Job.{Job}
 use Rattle.bpfdb_options.specs.declared.subcommand.Subcommand.{Subcommand}
-use Rattle.bpfdb_options.specs.declared.subcommand.Subcommand.TheVariants.{Run, Trace, Debug, Origin, Whynot, Diff, Gdb, Asm, Disasm, Lines, Check, Link, Test}
+use Rattle.bpfdb_options.specs.declared.subcommand.Subcommand.TheVariants.{Run, Trace, Debug, Origin, Whynot, Diff, Gdb, Asm, Disasm, Lines, Check, Link, Test, Batch}
 use Rattle.bpfdb_options.specs.declared.test_part.TestPart.{TestPart}
 
 -- the status of a report, and of one behind which stands what ran
@@ -44,6 +45,11 @@ module _ {R W E : Type 0} (reader : Stream R) (writer : Stream W) (errors : Stre
   session_with job Serves Breaks status (Refused refusal why r w told two) other = absurd (other two)
   session_with job Serves Breaks status (Broken code why opens breaks fails told two) other = absurd (other two)
 
+  batch_with : (job : Job) (status : ℕ) → batches.EndsBatch job reader writer errors status → status ≢ 2 → EndsBatchWith job status
+  batch_with job status (batches.Served b is answers r w e zero) other = (b.maps.now, is.maps, zero)
+  batch_with job status (batches.Refused refusal why r w told two) other = absurd (other two)
+  batch_with job status (batches.Broken b why is breaks fails told two) other = absurd (other two)
+
   test_with : (show : Option TestPart) (job : Job) (status : ℕ) → EndsTest show job writer errors status → status ≢ 2
       → EndsTestWith show job status
   test_with None job status ends other = cover_with writer errors job.options.covers job status ends other
@@ -64,6 +70,7 @@ module _ {R W E : Type 0} (reader : Stream R) (writer : Stream W) (errors : Stre
   plain_with : (s : Subcommand) (job : Job) (status : ℕ) → DoesPlain s job reader writer errors status → status ≢ 2 → EndsPlainWith s job status
   plain_with Debug job status does other = session_with job _ _ status does other
   plain_with Gdb job status does other = session_with job _ _ status does other
+  plain_with Batch job status does other = batch_with job status does other
   plain_with Test job status does other = test_with job.options.show job status does.1 other
   plain_with Run job status does other = printed_with Run job status does.1 other
   plain_with Trace job status does other = printed_with Trace job status does.1 other

@@ -4,6 +4,7 @@ use Rattle.std.specs.Borrow.{Bor}
 use Rattle.bpf_link.specs.Names.{fault_names}
 use Rattle.bpf_link.specs.declared.fault.LinkFault.{LinkFault}
 use Rattle.bpf_link.specs.declared.linker.Linked.{Linked}
+use Rattle.bpfdb_jobs.specs.Cases.{EndsBatch}
 use Rattle.bpfdb_jobs.specs.Connections.{BreaksConnection, ServesConnection}
 use Rattle.bpfdb_faults.specs.Streams.{Stream, Told}
 use Rattle.bpfdb_jobs.specs.Endings.{EndsPrinted, EndsSession}
@@ -16,7 +17,7 @@ use Rattle.bpfdb_faults.specs.declared.fault.JobFault.TheVariants as fault
 use Rattle.bpfdb_jobs.specs.declared.job.Job.{Job}
 use Rattle.bpfdb_faults.specs.declared.refusal.JobRefusal.TheVariants.{Object}
 use Rattle.bpfdb_options.specs.declared.subcommand.Subcommand.{Subcommand}
-use Rattle.bpfdb_options.specs.declared.subcommand.Subcommand.TheVariants.{Debug, Gdb, Test}
+use Rattle.bpfdb_options.specs.declared.subcommand.Subcommand.TheVariants.{Batch, Debug, Gdb, Test}
 
 -- A script was obeyed.
 abbrev pub Debugs : {R W E : Type 0} → Job → Stream R → Stream W → Stream E → ℕ → Type 0
@@ -28,10 +29,11 @@ abbrev pub ServesGdb : {R W E : Type 0} → Job → Stream R → Stream W → St
 ServesGdb job reader writer errors status =
     EndsSession job (ServesConnection job reader writer) (BreaksConnection job reader writer) reader writer errors status
 
--- Each other subcommand prints, and reads nothing; `test` reports on tests, or shows a part of one.
+-- Each other subcommand prints, and reads nothing; `batch` answers cases, `test` reports on tests, or shows a part of one.
 abbrev pub DoesPlain : {R W E : Type 0} → Subcommand → Job → Stream R → Stream W → Stream E → ℕ → Type 0
 DoesPlain Debug job reader writer errors status = Debugs job reader writer errors status
 DoesPlain Gdb job reader writer errors status = ServesGdb job reader writer errors status
+DoesPlain Batch job reader writer errors status = EndsBatch job reader writer errors status
 DoesPlain Test job reader writer errors status = (reader.new ≡ reader.old) × EndsTest job.options.show job writer errors status
 DoesPlain subcommand job reader writer errors status = (reader.new ≡ reader.old) × EndsPrinted subcommand job writer errors status
 

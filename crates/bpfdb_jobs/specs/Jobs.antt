@@ -48,7 +48,7 @@ use Rattle.bpfdb_jobs.specs.MapLines.{linked_told}
 use Rattle.bpfdb_jobs.specs.Origins.{Arrival, Asks, IsTail, answer_by, arrival, followed_by, found_text, question_by, status_of_extent}
 use Rattle.bpfdb_jobs.specs.declared.job.Job.{Job}
 use Rattle.bpfdb_options.specs.declared.subcommand.Subcommand.{Subcommand}
-use Rattle.bpfdb_options.specs.declared.subcommand.Subcommand.TheVariants.{Run, Trace, Debug, Origin, Whynot, Diff, Gdb, Asm, Disasm, Lines, Check, Link, Test}
+use Rattle.bpfdb_options.specs.declared.subcommand.Subcommand.TheVariants.{Run, Trace, Debug, Origin, Whynot, Diff, Gdb, Asm, Disasm, Lines, Check, Link, Test, Batch}
 
 -- The maps of an object that was linked; else the map table that a text names; no map where there is no text.
 abbrev pub AreMapsOf : Option (Bor (List MapShape)) → Option (Bor (List ℕ)) → List MapShape → Type 0
@@ -323,6 +323,7 @@ Prints Whynot job a = (code : Checked) × (at : Arrival) × (goals : List ℕ) �
 Prints Diff job a = DiffPrints job.options.other_is_trace job a
 Prints Gdb job a = ⊥
 Prints Test job a = ⊥
+Prints Batch job a = ⊥
 Prints Asm job a = (words : List ℕ) × IsListing job.file.now words × (a ≡ printed words)
 Prints Disasm job a = (code : Checked) × IsProgramOf job code × (a ≡ printed (canon code))
 Prints Lines job a = (table : List ℕ) × IsTable job.options.is_object job table × (a ≡ printed table)

@@ -1,3 +1,4 @@
+pub mod Cases
 pub mod Connections
 pub mod Done
 pub mod Endings

@@ -9,14 +9,15 @@ use Rattle.bpfdb_jobs.specs.Jobs.{link_of, stubs_of}
 use Rattle.bpfdb_jobs.specs.Refusals.{RefusesLink, RefusesStubs}
 use Rattle.bpfdb_jobs.specs.declared.job.Job.{Job}
 use Rattle.bpfdb_options.specs.declared.subcommand.Subcommand.{Subcommand}
-use Rattle.bpfdb_options.specs.declared.subcommand.Subcommand.TheVariants.{Asm, Lines, Link, Test}
+use Rattle.bpfdb_options.specs.declared.subcommand.Subcommand.TheVariants.{Asm, Batch, Lines, Link, Test}
 
--- Subcommands that check a program.
+-- Subcommands that check FILE as a program.
 abbrev pub is_check : Subcommand → Bool
 is_check Asm = false
 is_check Lines = false
 is_check Link = false
 is_check Test = false
+is_check Batch = false
 is_check subcommand = true
 
 -- Such a one links FILE first where that is an object.

@@ -35,7 +35,7 @@ use Rattle.bpfdb_jobs.specs.declared.job.Job.{Job}
 use Rattle.bpfdb_faults.specs.declared.refusal.JobRefusal.{JobRefusal}
 use Rattle.bpfdb_faults.specs.declared.refusal.JobRefusal.TheVariants.{Maps, Listing, Load, Open, OtherRun, TraceLine, Journal, What, Goal, Object, Functions, Tests, NoTest, ManyTests, Script}
 use Rattle.bpfdb_options.specs.declared.subcommand.Subcommand.{Subcommand}
-use Rattle.bpfdb_options.specs.declared.subcommand.Subcommand.TheVariants.{Run, Trace, Debug, Origin, Whynot, Diff, Gdb, Asm, Disasm, Lines, Check, Link, Test}
+use Rattle.bpfdb_options.specs.declared.subcommand.Subcommand.TheVariants.{Run, Trace, Debug, Origin, Whynot, Diff, Gdb, Asm, Disasm, Lines, Check, Link, Test, Batch}
 
 -- The maps of an object that was linked are out of their limits; or the text of a map table is none.
 abbrev pub RefusesMaps : Option (Bor (List MapShape)) → Option (Bor (List ℕ)) → MapFault → Type 0
@@ -171,6 +171,11 @@ RefusesTests job (NoTest name) =
     (suite.file_fault job.file.now ≡ None) × LacksName job.options.only (tests (sections job.file.now)) (NoTest name)
 RefusesTests job refusal = ⊥
 
+-- `batch` looks at its maps alone: each of its cases is refused by itself.
+abbrev pub RefusesBatch : Job → JobRefusal → Type 0
+RefusesBatch job (Maps fault) = RefusesMaps job.shapes job.options.maps fault
+RefusesBatch job refusal = ⊥
+
 abbrev pub RefusesAs : Subcommand → Job → JobRefusal → Type 0
 RefusesAs Run job refusal = RefusesMachine job refusal
 RefusesAs Trace job refusal = RefusesMachine job refusal
@@ -185,3 +190,4 @@ RefusesAs Lines job refusal = RefusesLines job.options.is_object job refusal
 RefusesAs Check job refusal = RefusesProgram job refusal
 RefusesAs Link job refusal = RefusesObject job refusal
 RefusesAs Test job refusal = RefusesTests job refusal
+RefusesAs Batch job refusal = RefusesBatch job refusal

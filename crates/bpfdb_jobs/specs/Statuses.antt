@@ -1,22 +1,27 @@
 -- The exit status of a job that is done, other than 2.
 use Rattle.std.specs.Prelude.{ℕ, ◌≡◌, Bool, true, false, List, [], ◌∷◌, Option, Some, None}
 use Rattle.bpf_isa.specs.Programs.{Checked}
+use Rattle.bpf_isa.specs.declared.maps.MapShape.{MapShape}
 use Rattle.bpf_link.specs.declared.linker.Linked.{Linked}
 use Rattle.bpf_suite.specs.Outcomes.{Outcome}
 use Rattle.bpf_suite.specs.Reports.{AreOutcomes, all_pass}
 use Rattle.bpf_suite.specs.declared.section.Section.{Section}
-use Rattle.bpfdb_jobs.specs.Jobs.{OpensSession, Print, Prints}
+use Rattle.bpfdb_jobs.specs.Jobs.{HasMaps, OpensSession, Print, Prints}
 use Rattle.bpfdb_jobs.specs.Objects.{IsOver, LinksTo, links_first}
 use Rattle.bpfdb_jobs.specs.Shown.{Shows}
 use Rattle.bpfdb_jobs.specs.Suites.{AreTestsOf, status_of}
 use Rattle.bpfdb_jobs.specs.declared.job.Job.{Job}
 use Rattle.bpfdb_options.specs.declared.subcommand.Subcommand.{Subcommand}
-use Rattle.bpfdb_options.specs.declared.subcommand.Subcommand.TheVariants.{Debug, Gdb, Test}
+use Rattle.bpfdb_options.specs.declared.subcommand.Subcommand.TheVariants.{Batch, Debug, Gdb, Test}
 use Rattle.bpfdb_options.specs.declared.test_part.TestPart.{TestPart}
 
 -- A session was opened.
 abbrev pub EndsSessionWith : Job → ℕ → Type 0
 EndsSessionWith job status = (code : Checked) × OpensSession job code × (status ≡ 0)
+
+-- Cases were run.
+abbrev pub EndsBatchWith : Job → ℕ → Type 0
+EndsBatchWith job status = (maps : List MapShape) × HasMaps job maps × (status ≡ 0)
 
 -- Tests were run, or a part of one was shown.
 abbrev pub EndsTestWith : Option TestPart → Job → ℕ → Type 0
@@ -28,6 +33,7 @@ EndsTestWith (Some part) job status = (test : List Section) × (bytes : List ℕ
 abbrev pub EndsPlainWith : Subcommand → Job → ℕ → Type 0
 EndsPlainWith Debug job status = EndsSessionWith job status
 EndsPlainWith Gdb job status = EndsSessionWith job status
+EndsPlainWith Batch job status = EndsBatchWith job status
 EndsPlainWith Test job status = EndsTestWith job.options.show job status
 EndsPlainWith subcommand job status = (a : Print) × Prints subcommand job a × (status ≡ a.status)
 

@@ -4,6 +4,7 @@ ghost use Rattle.bpfdb_jobs.specs.Done.{DoesJob, DoesPlain};
 ghost use Rattle.bpfdb_limits.specs.Limits.{IsLimit};
 ghost use Rattle.bpfdb_faults.specs.Streams.{stream};
 
+use crate::batch::batch_job;
 use crate::check::check_job;
 use crate::debug::debug_job;
 use crate::diff::diff_job;
@@ -27,8 +28,8 @@ use std::io::{Read, Write};
 /// cut, and where the runs of `diff` part; 2 where the job is refused, where input or output fails, and where memory runs out.
 ///
 /// Results, replies and answers go to the writer. A refusal, a fault or a limit is one line on
-/// `errors`, and so are the maps of an object that `link` links. The reader is read by `debug` and
-/// `gdb` alone.
+/// `errors`, and so are the maps of an object that `link` links. The reader is read by `debug`,
+/// `gdb` and `batch` alone.
 pub fn tool<R: Read, W: Write, E: Write>(
     alloc: Global,
     job: &Job<'_>,
@@ -75,5 +76,6 @@ pub fn plain_tool<R: Read, W: Write, E: Write>(
         Subcommand::Check => check_job(alloc, job, writer, errors),
         Subcommand::Link => link_job(alloc, job, writer, errors),
         Subcommand::Test => test_job(alloc, job, writer, errors),
+        Subcommand::Batch => batch_job(alloc, job, reader, writer, errors),
     }
 }

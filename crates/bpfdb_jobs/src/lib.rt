@@ -2,6 +2,7 @@
 #![tactic(auto)]
 
 mod against;
+mod batch;
 mod check;
 mod debug;
 mod diff;

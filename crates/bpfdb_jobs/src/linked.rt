@@ -27,7 +27,7 @@ pub fn links_first(job: &Job<'_>) -> bool
     }
 }
 
-/// Whether a subcommand checks a program.
+/// Whether a subcommand checks FILE as a program.
 pub fn is_check(subcommand: Subcommand) -> bool
     ensures { result ≡ is_check subcommand }
 {
@@ -36,6 +36,7 @@ pub fn is_check(subcommand: Subcommand) -> bool
         Subcommand::Lines => false,
         Subcommand::Link => false,
         Subcommand::Test => false,
+        Subcommand::Batch => false,
         _ => true,
     }
 }

@@ -6,7 +6,7 @@ ghost use Rattle.bpf_isa.specs.Programs.{Checked};
 ghost use Rattle.bpf_steps.specs.State.{initial};
 ghost use Rattle.bpfdb_jobs.specs.Jobs.{HasMaps, HasWords, IsProgramOf, Opens};
 ghost use Rattle.bpfdb_jobs.specs.Openings.{IsOpening, IsStart};
-ghost use Rattle.bpfdb_jobs.specs.Refusals.{Refuses, RefusesMachine, RefusesProgram};
+ghost use Rattle.bpfdb_jobs.specs.Refusals.{Refuses, RefusesMachine, RefusesMaps, RefusesProgram};
 ghost use Rattle.bpfdb_faults.specs.declared.refusal.JobRefusal.TheVariants.{Journal};
 ghost use Rattle.bpf_ring.specs.declared.fault.JournalFault.TheVariants.{OutOfMemory};
 ghost use Rattle.bpfdb_limits.specs.Limits.{IsLimit};
@@ -22,22 +22,27 @@ use bpfdb_faults::{JobRefusal, open_machine};
 use std::alloc::Global;
 
 /// The map table: that of an object's maps, or the one that the options name.
+pub fn map_table(job: &Job<'_>) -> Result<MapTable, MapFault>
+    ensures ok { IfOk result (HasMaps job.now) }
+    ensures err { IfErr result (RefusesMaps job.now.shapes job.now.options.maps) }
+{
+    match job.shapes {
+        Some(shapes) => table_of(shapes),
+        None => match job.options.maps {
+            None => Ok(MapTable::empty()),
+            Some(text) => MapTable::parse(text.as_bytes()),
+        },
+    }
+}
+
+/// The same, or why the job is refused.
 fn maps_of(job: &Job<'_>) -> Result<MapTable, JobRefusal<'static>>
     ensures ok { IfOk result (HasMaps job.now) }
     ensures err { IfErr result (RefusesProgram job.now) }
 {
-    match job.shapes {
-        Some(shapes) => match table_of(shapes) {
-            Ok(maps) => Ok(maps),
-            Err(fault) => Err(JobRefusal::Maps(fault)),
-        },
-        None => match job.options.maps {
-            None => Ok(MapTable::empty()),
-            Some(text) => match MapTable::parse(text.as_bytes()) {
-                Ok(maps) => Ok(maps),
-                Err(fault) => Err(JobRefusal::Maps(fault)),
-            },
-        },
+    match map_table(job) {
+        Ok(maps) => Ok(maps),
+        Err(fault) => Err(JobRefusal::Maps(fault)),
     }
 }
 

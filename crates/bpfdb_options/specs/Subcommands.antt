@@ -1,7 +1,7 @@
 -- The names of the subcommands.
 use Rattle.std.specs.Prelude.{ℕ, List, codes}
 use Rattle.bpfdb_options.specs.declared.subcommand.Subcommand.{Subcommand}
-use Rattle.bpfdb_options.specs.declared.subcommand.Subcommand.TheVariants.{Run, Trace, Debug, Origin, Whynot, Diff, Gdb, Asm, Disasm, Lines, Check, Link, Test}
+use Rattle.bpfdb_options.specs.declared.subcommand.Subcommand.TheVariants.{Run, Trace, Debug, Origin, Whynot, Diff, Gdb, Asm, Disasm, Lines, Check, Link, Test, Batch}
 
 -- As help lists them.
 abbrev pub subcommand_name : Subcommand → List ℕ
@@ -18,3 +18,4 @@ subcommand_name Lines = codes "lines"
 subcommand_name Check = codes "check"
 subcommand_name Link = codes "link"
 subcommand_name Test = codes "test"
+subcommand_name Batch = codes "batch"

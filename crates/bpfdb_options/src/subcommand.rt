@@ -31,6 +31,8 @@ pub enum Subcommand {
     Link,
     /// The tests of a file are run.
     Test,
+    /// Cases are read and run, one after another.
+    Batch,
 }
 
 impl Subcommand {
@@ -54,6 +56,7 @@ impl Subcommand {
             "check" => Some(Subcommand::Check),
             "link" => Some(Subcommand::Link),
             "test" => Some(Subcommand::Test),
+            "batch" => Some(Subcommand::Batch),
             _ => None,
         }
     }

@@ -68,3 +68,8 @@ pub returns-in-Test-clause-does : goal.returns-in-Test-clause-does
 returns-in-Test-clause-does g c =
     subst (λ (s : Subcommand). DoesPlain s c.args.job.now (stream g.R.Read.remaining c.args.reader.now c.args.reader.now)
     (stream g.W.Write.contents c.args.writer.now c.test_job.new.writer) (stream g.E.Write.contents c.args.errors.now c.test_job.new.errors) c.test_job.result) (sym c.in-Test.is) (refl, c.test_job.ensures.does)
+
+pub returns-in-Batch-clause-does : goal.returns-in-Batch-clause-does
+returns-in-Batch-clause-does g c =
+    subst (λ (s : Subcommand). DoesPlain s c.args.job.now (stream g.R.Read.remaining c.args.reader.now c.batch_job.new.reader)
+    (stream g.W.Write.contents c.args.writer.now c.batch_job.new.writer) (stream g.E.Write.contents c.args.errors.now c.batch_job.new.errors) c.batch_job.result) (sym c.in-Batch.is) c.batch_job.ensures.does
