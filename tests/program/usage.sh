@@ -152,7 +152,8 @@ for subcommand in run trace debug origin whynot diff gdb disasm check; do
 done
 usage 'a value is none of those that its option takes' test --show words two.test
 for subcommand in $subcommands; do
-    usage 'the following required arguments were not provided:' $subcommand
+    # (FILE of batch may be left out)
+    [ "$subcommand" = batch ] || usage 'the following required arguments were not provided:' $subcommand
     case $subcommand in
         origin | whynot | diff) usage "unexpected argument 'third' found" $subcommand first second third ;;
         *) usage "unexpected argument 'second' found" $subcommand first second ;;
