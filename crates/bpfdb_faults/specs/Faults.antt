@@ -19,7 +19,7 @@ use Rattle.trace_lines.specs.Faults.{line_fault}
 use Rattle.bpfdb_faults.specs.declared.fault.JobFault.{JobFault}
 use Rattle.bpfdb_faults.specs.declared.fault.JobFault.TheVariants.{Unreadable, NotText, Refused, Input, Output, Memory, StepLimit}
 use Rattle.bpfdb_faults.specs.declared.refusal.JobRefusal.{JobRefusal}
-use Rattle.bpfdb_faults.specs.declared.refusal.JobRefusal.TheVariants.{Maps, Listing, Load, Open, OtherRun, TraceLine, Journal, What, Object, Functions, Tests, NoTest, ManyTests, Script, Goal}
+use Rattle.bpfdb_faults.specs.declared.refusal.JobRefusal.TheVariants.{Maps, Listing, Load, Open, OtherRun, TraceLine, Journal, What, Object, Functions, Tests, NoTest, ManyTests, Script, Goal, NoPlace}
 
 -- The line of a refusal: a letter and a number, its line if it has one, and a text.
 abbrev pub refused_line : List ℕ → ℕ → Option ℕ → List ℕ → List ℕ
@@ -99,6 +99,10 @@ object_text fault name =
 abbrev pub no_test_line : List ℕ → List ℕ
 no_test_line name = codes "refused T7: no test of this name" ++ name_text name ++ codes "\n"
 
+-- A place that a program doesn't have.
+abbrev pub no_place_line : List ℕ → List ℕ
+no_place_line name = codes "refused V5: no such place" ++ name_text name ++ codes "\n"
+
 -- The line of a refusal that a session looks at.
 abbrev pub session_line : JobRefusal → List ℕ
 session_line (Maps fault) = refusal_text (program.Maps fault) ++ codes "\n"
@@ -121,6 +125,7 @@ refusal_line (TraceLine fault line) = refused_line (codes "refused X") (line_fau
 refusal_line (Script refusal) = commands.refusal_text refusal
 refusal_line (What fault) = refused_line (codes "refused V") (what_fault fault).0 None (what_fault fault).1
 refusal_line (Goal fault) = refused_line (codes "refused V") (goal_fault fault).0 None (goal_fault fault).1
+refusal_line (NoPlace name) = no_place_line name.now
 refusal_line (Object fault name) = object_text fault name.now ++ codes "\n"
 refusal_line (Functions fault before name) = object_text fault name.now ++ functions_end before
 refusal_line (Tests fault line) = refused_line (codes "refused T") (section_fault fault).0 (Some line) (section_fault fault).1

@@ -69,6 +69,12 @@ fn put_refusal<E: Write>(
             let (number, text) = (fault.number(), fault.text());
             put_refused(errors, so_far, b"refused V", number, None, text)
         }
+        JobRefusal::NoPlace(name) => put_no_such(
+            errors,
+            so_far,
+            b"refused V5: no such place",
+            name,
+        ),
         JobRefusal::Object(fault, name) => put_object(errors, so_far, fault, name, b"\n"),
         JobRefusal::Functions(fault, before, name) => {
             put_functions(errors, so_far, fault, *before, name)
@@ -78,9 +84,7 @@ fn put_refusal<E: Write>(
             put_refused(errors, so_far, b"refused T", number, Some(*line), text)
         }
         JobRefusal::NoTest(name) => {
-            let begun = put(errors, so_far, b"refused T7: no test of this name");
-            let named = put_named(errors, begun, name.as_bytes());
-            put(errors, named, b"\n")
+            put_no_such(errors, so_far, b"refused T7: no test of this name", name)
         }
         JobRefusal::ManyTests => {
             put(
@@ -90,6 +94,21 @@ fn put_refusal<E: Write>(
             )
         }
     }
+}
+
+/// Writes the line of a refusal that ends with the name of what there isn't.
+fn put_no_such<E: Write>(
+    errors: &mut Counted<E>,
+    so_far: Result<(), WriteFault>,
+    text: &[u8],
+    name: &str,
+) -> Result<(), WriteFault>
+    ensures { WritesAfter E.contents errors.old so_far errors.new result
+        (text.now ++ name_text name.now ++ codes "\n") }
+{
+    let begun = put(errors, so_far, text);
+    let named = put_named(errors, begun, name.as_bytes());
+    put(errors, named, b"\n")
 }
 
 /// Writes the line of a program's refusal.

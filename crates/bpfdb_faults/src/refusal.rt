@@ -33,6 +33,8 @@ pub enum JobRefusal<'a> {
     What(WhatFault),
     /// What is asked about is no slot of the program.
     Goal(GoalFault),
+    /// It is no place of the program: the text that names it.
+    NoPlace(&'a str),
     /// No program is made of the object; the name of what is wrong, or those of what there is, as
     /// they stand in the object, or nothing.
     Object(LinkFault, &'a [u8]),

@@ -9,7 +9,7 @@ use Rattle.bpfdb_jobs.specs.Jobs.{link_of, stubs_of}
 use Rattle.bpfdb_jobs.specs.Refusals.{RefusesLink, RefusesStubs}
 use Rattle.bpfdb_jobs.specs.declared.job.Job.{Job}
 use Rattle.bpfdb_options.specs.declared.subcommand.Subcommand.{Subcommand}
-use Rattle.bpfdb_options.specs.declared.subcommand.Subcommand.TheVariants.{Asm, Batch, Lines, Link, Test}
+use Rattle.bpfdb_options.specs.declared.subcommand.Subcommand.TheVariants.{Asm, Batch, Lines, Link, Test, Whynot}
 
 -- Subcommands that check FILE as a program.
 abbrev pub is_check : Subcommand → Bool

@@ -1,4 +1,3 @@
-use Rattle.std.proofs.Common.{append_assoc}
 use Rattle.bpfdb_faults.proofs.line.put_refusal.Goals as goal
 
 pub returns-in-Object : goal.returns-in-Object
@@ -8,10 +7,10 @@ pub returns-in-Functions : goal.returns-in-Functions
 returns-in-Functions g c = rw c.in-Functions.is c.put_functions.ensures
 
 pub returns-in-NoTest : goal.returns-in-NoTest
-returns-in-NoTest g c = λ first front known.
-    let begun = c.put-begun.ensures first front known in
-    let named = rw c.as_bytes.ensures.value at (c.put_named-named.ensures first _ begun) in
-    rw c.in-NoTest.is (simp append_assoc (simp append_assoc at (c.put.ensures first _ named)))
+returns-in-NoTest g c = rw c.in-NoTest.is c.put_no_such-in-NoTest.ensures
+
+pub returns-in-NoPlace : goal.returns-in-NoPlace
+returns-in-NoPlace g c = rw c.in-NoPlace.is c.put_no_such.ensures
 
 pub returns-in-Tests : goal.returns-in-Tests
 returns-in-Tests g c = λ first front known.
