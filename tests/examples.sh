@@ -110,13 +110,22 @@ shown() {
     [ "$n" -gt 1 ] || fault "$1 has no examples in '$2'"
 }
 
+# object_of HEX: the bytes of an object, each of which stands as two hexadecimal digits.
+object_of() {
+    printf '%b' "$(awk '
+        function value(i) { return index("0123456789abcdef", substr($0, i, 1)) - 1 }
+        { for (i = 1; i < length($0); i += 2) printf "\\0%o", 16 * value(i) + value(i + 1) }
+    ' "$1")"
+}
+
 # origins PAGE SECTION EXAMPLE: each command `bpfdb origin` or `bpfdb whynot`, and each that cuts a file for it, that a section of a page (all of it, where the section is empty) shows prints the lines
-# that follow it there, in the folder of the example, where the program also stands under the example's name. (Section - is the page up to its first.)
+# that follow it there, in the folder of the example, where the program, and its object, also stand under the example's name. (Section - is the page up to its first.)
 origins() {
     rm -rf "$work/origins"
     mkdir "$work/origins" || exit 1
     cp -R "$top/examples/$3" "$work/origins/files" || exit 1
     [ ! -f "$work/origins/files/program.bin" ] || cp "$work/origins/files/program.bin" "$work/origins/files/$3.bin"
+    [ ! -f "$work/origins/files/object.hex" ] || object_of "$work/origins/files/object.hex" > "$work/origins/files/$3.o"
     awk -v section="## $2" -v work="$work/origins" '
         BEGIN { inside = section == "## " || section == "## -" }
         /^## / { inside = section == "## " || $0 == section }

@@ -263,8 +263,8 @@ refusals() {
             if (name[1] in letter) print letter[name[1]] parts[2], substr($0, RSTART + length(parts[1] parts[2]) + 8, RLENGTH - length(parts[1] parts[2]) - 11)
         }
     ' > "$work/unsorted"
-    # (a name that no test has is a job's, not a test file's)
-    sed -n 's/.*b"refused \(T[0-9]*\): \([^"\\]*\).*/\1 \2/p' crates/bpfdb_faults/src/line.rt >> "$work/unsorted"
+    # (a name that no test has is a job's, not a test file's; so is that of no place)
+    sed -n 's/.*b"refused \([TV][0-9]*\): \([^"\\]*\).*/\1 \2/p' crates/bpfdb_faults/src/line.rt >> "$work/unsorted"
     sort -u "$work/unsorted" > "$work/numbers"
     sed -n 's/^| \([CAMEOJQTV][0-9]*\) | \([^|]*\) |.*/\1 \2/p' docs/COMMANDS.md | sort > "$work/rows"
     diff "$work/numbers" "$work/rows" > "$work/diff" && [ -s "$work/numbers" ] && return

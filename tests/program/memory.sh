@@ -128,6 +128,7 @@ wants "$plain$c13$o2$j2" 0 'at 1: exit\n-1 r0 = 0x7; edit\n' '' origin -m contex
 printf 'stepi\nfinish\n' > refused
 wants "$plain$c13$o2$j2" 2 '' 'refused Q9: outermost frame\n' origin --journal 1024 --script refused program
 wants "$plain$a7$c13$o2$j2" 0 'exited at 1: r0 0x2a\nit was reached 2 moves back\n' '' whynot --listing program.s 0
+wants "$plain$a7$c13$o2$j2" 0 'exited at 1: r0 0x2a\nit was reached 2 moves back\n' '' whynot --listing program.s start
 wants "$plain$c13$o2$j2" 0 'at 1: exit\nit can still be reached\n' '' whynot -m context --maps 8x2 --journal 1024 --script obeyed program 1
 others='refused C13: out of memory (the other run)\nrefused O2: out of memory (the other run)\n'
 wants "$plain$c13$o2$others" 0 'same for 2 steps\nexited at 1: r0 0x2a\n' '' diff -m context --maps 8x2 program program
@@ -174,6 +175,7 @@ wants "$plain$e26" 0 '0 - entry\n1 - entry\n' '' lines --object text.o
 wants "$plain$e26$c13$o2" 0 '1 0: mov r0, 7; r0 = 0x7\n2 1: exit\nexited at 1: r0 0x7\n' '' trace --object text.o
 wants "$plain$e26$c13$o2$j2" 0 'exited at 1: r0 0x7\n-2 r0 = 0x7; 0: mov r0, 7\n' '' origin --object text.o
 wants "$plain$e26$c13$o2$j2" 0 'exited at 1: r0 0x7\nit was reached 2 moves back\n' '' whynot --object text.o 0
+wants "$plain$e26$c13$o2$j2" 0 'exited at 1: r0 0x7\nit was reached 2 moves back\n' '' whynot --object text.o entry
 wants "$plain$e26$c13$o2$j2" 0 '' '' debug --journal 1024 --object text.o
 # Two objects as one: the code of both, and the records of maps.
 if has_clang 'link --with where memory is refused'; then

@@ -66,7 +66,7 @@ tells 0 'at 3: ja L3\nit was out of reach before what is kept\n' whynot --steps 
 # What names no slot, and what no instruction starts at: the first one counts. It is looked at last.
 v3='refused V3: neither a slot nor slots with commas between'
 v4='refused V4: no instruction starts at the slot'
-for what in '' ' ' , 1, ,1 1,,2 x r0 1- -1 +1 '1 ' ' 1' 0x 1:2 18446744073709551616 1,x x,9 plain.s:1; do
+for what in '' ' ' , 1, ,1 1,,2 1- -1 +1 '1 ' ' 1' 0x 18446744073709551616 1,x; do
     case $what in -*) set -- --listing plain.s -- "$what" ;; *) set -- --listing plain.s "$what" ;; esac
     refused "$v3" whynot "$@"
 done
@@ -76,9 +76,66 @@ for what in 3 1,3 3,1 9,x 65535 65536 4294967296 18446744073709551615; do
 done
 refused "$v4" whynot --listing wide.s 1
 refused "$v4" whynot --listing wide.s 0,1,2
+
+# Labels, by hand: several at one slot, on lines of their own; of the second slot behind a branch; one that no instruction follows. Names that differ by a byte
+# at either end are others, and numbers stay slots.
+tells 0 "exited at 2: r0 0x3\n$left$why" whynot --listing count.s loop
+tells 0 'fault depth at 2\n-2 0: jeq r0, 0, L2; r0 = 0x0; jumped to 2\n' whynot --alone --listing back.s 3
+listing labels.s 'mov r1, 7;a:;b2:; _c: jeq r1, 7, e;ab: exit;e: mov r0, 1;last: exit;end:'
+for label in a b2 _c; do
+    tells 0 'exited at 4: r0 0x1\nit was reached 3 moves back\n' whynot --listing labels.s $label
+done
+tells 0 'exited at 4: r0 0x1\n-3 1: jeq r1, 7, L3; r1 = 0x7; jumped to 3\n' whynot --alone --listing labels.s ab
+tells 0 'exited at 4: r0 0x1\nit was reached 2 moves back\n' whynot --listing labels.s e
+tells 0 'exited at 4: r0 0x1\nit was reached 1 moves back\n' whynot --listing labels.s last
+tells 0 'exited at 1: r0 0x0\n-3 4: jeq r0, 0, L6; r0 = 0x0; jumped to 6\n' whynot --alone --listing calls.s g
+tells 0 'exited at 1: r0 0x0\nit was reached 2 moves back\n' whynot --listing calls.s out
+
+# A place that there isn't, also of raw words: it is refused by its name, after the run. What would steer a terminal is spelled out.
+"$program" asm labels.s > labels.bin
+for what in x b B2 b2a as las L3 r0 end a,ab 1:2 labels.s:1 a: : :1; do
+    refused "refused V5: no such place: $what" whynot --listing labels.s "$what"
+    refused "refused V5: no such place: $what" whynot labels.bin "$what"
+done
+refused 'refused V5: no such place: a' whynot labels.bin a
+refused 'refused V5: no such place: x\\x1b[2J' whynot --listing labels.s "$(printf 'x\033[2J')"
 refused 'refused J1: journal size out of range' whynot --journal 1023 --listing plain.s x
 printf 'finish\n' > refuses
 refused 'refused Q9: outermost frame' whynot --script refuses --listing plain.s x
+
+# Functions and lines of C: what is told of each is what is told of its slots, by another reader of the table of `lines`; of a line by its whole path and by the
+# last parts of that. Objects without BTF have functions alone.
+object calls
+for place in entry:0 next:4 thrice:7; do
+    tells 0 "$("$program" whynot --object calls.o "${place#*:}")\n" whynot --object calls.o "${place%:*}"
+done
+for what in nex ext next: thrice:7 calls.c:1 - .text; do
+    case $what in
+        -*|.*) refused 'refused V3: neither a slot nor slots with commas between' whynot --object calls.o -- "$what" ;;
+        *) refused "refused V5: no such place: $what" whynot --object calls.o "$what" ;;
+    esac
+done
+refused 'refused E1: no ELF file' whynot --object plain.s plain
+if has_clang 'whynot of functions and of lines of C'; then
+    for bug in service limits payload oversize classes; do
+        cp "$top/examples/bugs/$bug.c" "$top/examples/bugs/$bug.packet" .
+        clang -g -O2 -target bpf -c $bug.c -o $bug.o 2> found/err || complain "clang: $bug.c: $(cat found/err)"
+        "$program" lines --object $bug.o > table
+        awk '$2 != "-" { slots[$2] = slots[$2] (slots[$2] == "" ? "" : ",") $1 } !told[$3]++ { print $3, $1 } END { for (line in slots) print line, slots[line] }' table > places
+        [ "$(wc -l < places)" -gt 1 ] || complain "$bug.c has few places: $(cat places)"
+        while read -r place slots; do
+            wanted=$("$program" whynot --object -m $bug.packet $bug.o "$slots")
+            tells 0 "$wanted\n" whynot --object -m $bug.packet $bug.o "$place"
+            case $place in
+                */*:*)
+                    tells 0 "$wanted\n" whynot --object -m $bug.packet $bug.o "${place##*/}"
+                    refused "refused V5: no such place: ${place#*/[a-z]}" whynot --object -m $bug.packet $bug.o "${place#*/[a-z]}"
+                    refused "refused V5: no such place: ${place}0" whynot --object -m $bug.packet $bug.o "${place}0"
+                    ;;
+            esac
+        done < places
+    done
+fi
 
 # Programs at random.
 if has python3 'why programs at random did not come to each of their slots'; then

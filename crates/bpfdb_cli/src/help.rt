@@ -521,7 +521,7 @@ pub const ANYWHERE: &str = "Reads files that tests name also outside of their fo
 pub const WHAT: &str = "r0 to r9, or ADDRESS:COUNT; without it r0, or a fault's address";
 
 /// WHAT of `whynot`.
-pub const GOAL: &str = "Slot, or slots with commas between";
+pub const GOAL: &str = "Slot, or slots with commas between; label; function or FILE:LINE";
 
 /// FILE.
 pub const PROGRAM: &str = "Program: raw words, with --listing a listing, with --object an object";

@@ -9,7 +9,7 @@ use Rattle.counted_io.specs.Writing.{Writes}
 use Rattle.bpfdb_faults.specs.Faults.{output_line}
 use Rattle.bpfdb_faults.specs.Streams.{Stream, Told}
 use Rattle.bpfdb_faults.specs.declared.refusal.JobRefusal.{JobRefusal}
-use Rattle.bpfdb_faults.specs.declared.refusal.JobRefusal.TheVariants.{Maps, Listing, Load, Open, OtherRun, TraceLine, Journal, What, Goal, Object, Functions, Tests, NoTest, ManyTests, Script}
+use Rattle.bpfdb_faults.specs.declared.refusal.JobRefusal.TheVariants.{Maps, Listing, Load, Open, OtherRun, TraceLine, Journal, What, Goal, NoPlace, Object, Functions, Tests, NoTest, ManyTests, Script}
 use Rattle.bpfdb_jobs.specs.Endings.{EndsPrinted, OutLost, Printed}
 use Rattle.bpfdb_jobs.specs.Jobs.{AgainstPrints, DiffPrints, IsOtherRun, Opens, Print, Prints, RunsPrint, against_print, diff_print, diff_status, other_bytes}
 use Rattle.bpfdb_jobs.specs.Refusals.{RefusesAgainst, RefusesDiff, RefusesEither, RefusesMachine, RefusesRuns}
@@ -31,6 +31,7 @@ machine-diff job (Journal fault) p = p
 machine-diff job (Script refusal) p = p
 machine-diff job (What fault) p = p
 machine-diff job (Goal fault) p = p
+machine-diff job (NoPlace name) p = p
 machine-diff job (Object fault name) p = p
 machine-diff job (Functions fault index name) p = p
 machine-diff job (Tests fault line) p = p
@@ -80,6 +81,7 @@ machine-against job (Journal fault) p = p
 machine-against job (Script refusal) p = p
 machine-against job (What fault) p = p
 machine-against job (Goal fault) p = p
+machine-against job (NoPlace name) p = p
 machine-against job (Object fault name) p = p
 machine-against job (Functions fault index name) p = p
 machine-against job (Tests fault line) p = p

@@ -7,7 +7,7 @@ use Rattle.bpfdb_jobs.specs.Jobs.{OpensSession}
 use Rattle.bpfdb_jobs.specs.Refusals.{Refuses, RefusesArrival, RefusesMachine, RefusesOrigin, RefusesProgram, RefusesWhynot}
 use Rattle.bpfdb_jobs.specs.declared.job.Job.{Job}
 use Rattle.bpfdb_faults.specs.declared.refusal.JobRefusal.{JobRefusal}
-use Rattle.bpfdb_faults.specs.declared.refusal.JobRefusal.TheVariants.{Maps, Listing, Load, Open, OtherRun, TraceLine, Journal, What, Goal, Object, Functions, Tests, NoTest, ManyTests, Script}
+use Rattle.bpfdb_faults.specs.declared.refusal.JobRefusal.TheVariants.{Maps, Listing, Load, Open, OtherRun, TraceLine, Journal, What, Goal, NoPlace, Object, Functions, Tests, NoTest, ManyTests, Script}
 
 -- a refusal of a program is one of a machine on it, and that one of a session over it
 pub program-machine : (job : Job) (refusal : JobRefusal) → RefusesProgram job refusal → RefusesMachine job refusal
@@ -21,6 +21,7 @@ program-machine job (Journal fault) p = absurd p
 program-machine job (Script refusal) p = absurd p
 program-machine job (What fault) p = absurd p
 program-machine job (Goal fault) p = absurd p
+program-machine job (NoPlace name) p = absurd p
 program-machine job (Object fault name) p = absurd p
 program-machine job (Functions fault index name) p = absurd p
 program-machine job (Tests fault line) p = absurd p
@@ -38,6 +39,7 @@ machine-session job (Journal fault) p = absurd p
 machine-session job (Script refusal) p = absurd p
 machine-session job (What fault) p = absurd p
 machine-session job (Goal fault) p = absurd p
+machine-session job (NoPlace name) p = absurd p
 machine-session job (Object fault name) p = absurd p
 machine-session job (Functions fault index name) p = absurd p
 machine-session job (Tests fault line) p = absurd p
@@ -56,6 +58,7 @@ session-arrival job (Journal fault) p = p
 session-arrival job (Script refusal) p = absurd p
 session-arrival job (What fault) p = p
 session-arrival job (Goal fault) p = p
+session-arrival job (NoPlace name) p = p
 session-arrival job (Object fault name) p = p
 session-arrival job (Functions fault index name) p = p
 session-arrival job (Tests fault line) p = p
@@ -73,6 +76,7 @@ arrival-origin job (Journal fault) p = p
 arrival-origin job (Script refusal) p = p
 arrival-origin job (What fault) p = absurd p
 arrival-origin job (Goal fault) p = p
+arrival-origin job (NoPlace name) p = p
 arrival-origin job (Object fault name) p = p
 arrival-origin job (Functions fault index name) p = p
 arrival-origin job (Tests fault line) p = p
@@ -90,6 +94,7 @@ arrival-whynot job (Journal fault) p = p
 arrival-whynot job (Script refusal) p = p
 arrival-whynot job (What fault) p = p
 arrival-whynot job (Goal fault) p = absurd p
+arrival-whynot job (NoPlace name) p = absurd p
 arrival-whynot job (Object fault name) p = p
 arrival-whynot job (Functions fault index name) p = p
 arrival-whynot job (Tests fault line) p = p
@@ -108,6 +113,7 @@ session-refused job (Journal fault) p = refl
 session-refused job (Script refusal) p = absurd p
 session-refused job (What fault) p = absurd p
 session-refused job (Goal fault) p = absurd p
+session-refused job (NoPlace name) p = absurd p
 session-refused job (Object fault name) p = absurd p
 session-refused job (Functions fault index name) p = absurd p
 session-refused job (Tests fault line) p = absurd p

@@ -1,5 +1,5 @@
 -- What a job asks for: its program and its session, and what each subcommand prints that reads no standard input.
-use Rattle.std.specs.Prelude.{◌≡◌, ◌≤◌, ℕ, Bool, true, false, List, [], ◌∷◌, ◌++◌, Option, Some, None, Result, Ok, is_some, length, map, count_by, codes, decimal, if◌then◌else◌}
+use Rattle.std.specs.Prelude.{◌≡◌, ◌≤◌, ◌&&◌, ℕ, Bool, true, false, List, [], ◌∷◌, ◌++◌, Option, Some, None, Result, Ok, is_some, length, map, count_by, codes, decimal, if◌then◌else◌}
 use Rattle.std.specs.Borrow.{Bor}
 use Rattle.bpf_entries.specs.Keeping.{IsSize}
 use Rattle.bpf_diff.specs.Differences.{diff_text, end_alike}
@@ -21,6 +21,8 @@ use Rattle.bpf_link.specs.declared.linker.Linked.{Linked}
 use Rattle.bpf_link.specs.declared.stubs.Stub.{Stub}
 use Rattle.bpf_lines.specs.Objects.{AreBehind, AreLinesOf, program_table}
 use Rattle.bpf_lines.specs.declared.objects.ObjectLines.{ObjectLines}
+use Rattle.bpf_places.specs.Lookups.{AreListingSlots}
+use Rattle.bpf_places.specs.Places.{is_place}
 use Rattle.bpf_steps.specs.Platform.{context_limit}
 use Rattle.bpf_steps.specs.State.{State, initial}
 use Rattle.bpf_origin.specs.Answers.{Answer}
@@ -42,6 +44,7 @@ use Rattle.bpf_trace.specs.declared.trace.Shown.{Shown}
 use Rattle.bpf_whynot.specs.Answers.{Query, why_not}
 use Rattle.bpf_whynot.specs.Asked.{goals_in}
 use Rattle.bpf_whynot.specs.Reach.{TellsReach}
+use Rattle.bpf_whynot.specs.declared.fault.GoalFault.{GoalFault}
 use Rattle.bpfdb_commands.specs.declared.refusal.Refusal.{Refusal}
 use Rattle.bpfdb_replies.specs.Texts.{place}
 use Rattle.bpfdb_jobs.specs.MapLines.{linked_told}
@@ -222,6 +225,22 @@ origin_print end answer = record (printed (found_text end answer)) { status = st
 abbrev pub asked_of : Job → List ℕ
 asked_of job = name_or_empty job.options.what
 
+-- They are named by that, or are those of the place of an object, or of a listing, which it names.
+abbrev pub AreNamed : Bool → Job → List ℕ → Type 0
+AreNamed true job slots = AreListingSlots job.file.now (asked_of job) slots
+AreNamed false job slots = slots ≡ asked_of job
+
+abbrev pub AreGiven : Option (Bor (List ℕ)) → Job → List ℕ → Type 0
+AreGiven (Some goals) job slots = slots ≡ goals.now
+AreGiven None job slots = AreNamed (job.options.is_listing && is_place (asked_of job)) job slots
+
+abbrev pub AreAsked : Job → List ℕ → Type 0
+AreAsked job slots = AreGiven job.goals job slots
+
+-- The slots of a program, or why they are none.
+abbrev pub AsksGoals : Job → Checked → Result (List ℕ) GoalFault → Type 0
+AsksGoals job program goals = (slots : List ℕ) × AreAsked job slots × (goals_in program slots ≡ goals)
+
 abbrev pub query_of : Job → List ℕ → Arrival → Query
 query_of job goals at = record { goals = goals; question = question_by job.options at; alone = job.options.alone }
 
@@ -318,7 +337,7 @@ Prints Origin job a = (code : Checked) × (at : Arrival) × (what : Option What)
     × (arrival_of job code ≡ Ok at) × Asks job.options.what at.point.state what × IsTail job.options.only_branches (question_by job.options at) at.point tail
     × (a ≡ origin_print at.point.state (followed_by (answer_by job.options what at) tail))
 Prints Whynot job a = (code : Checked) × (at : Arrival) × (goals : List ℕ) × (can : ℕ → List ℕ → Bool) × OpensSession job code
-    × (arrival_of job code ≡ Ok at) × (goals_in at.point.state.program (asked_of job) ≡ Ok goals)
+    × (arrival_of job code ≡ Ok at) × AsksGoals job at.point.state.program (Ok goals)
     × TellsReach at.point.state.program goals can × (a ≡ whynot_print job goals can at)
 Prints Diff job a = DiffPrints job.options.other_is_trace job a
 Prints Gdb job a = ⊥

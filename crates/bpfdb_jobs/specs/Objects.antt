@@ -1,11 +1,15 @@
 -- A job over an object: what that is linked to, why it isn't, and the job that is done then.
-use Rattle.std.specs.Prelude.{◌≡◌, ◌⊎◌, ◌&&◌, ℕ, Bool, true, false, List, Some, Ok, option_map}
+use Rattle.std.specs.Prelude.{◌≡◌, ◌⊎◌, ◌&&◌, ℕ, Bool, true, false, List, Option, Some, None, Ok, option_map}
+use Rattle.std.specs.Borrow.{Bor}
 use Rattle.bpf_isa.specs.declared.maps.MapShape.{MapShape}
+use Rattle.bpf_lines.specs.Objects.{IsLinesRefusal}
 use Rattle.bpf_link.specs.Programs.{IsLinkedAs}
 use Rattle.bpf_link.specs.declared.fault.LinkFault.{LinkFault}
 use Rattle.bpf_link.specs.declared.linker.Linked.{Linked}
 use Rattle.bpf_link.specs.declared.stubs.Stub.{Stub}
-use Rattle.bpfdb_jobs.specs.Jobs.{link_of, stubs_of}
+use Rattle.bpf_places.specs.Lookups.{AreObjectSlots}
+use Rattle.bpf_places.specs.Places.{is_place}
+use Rattle.bpfdb_jobs.specs.Jobs.{asked_of, link_of, section_of, stubs_of}
 use Rattle.bpfdb_jobs.specs.Refusals.{RefusesLink, RefusesStubs}
 use Rattle.bpfdb_jobs.specs.declared.job.Job.{Job}
 use Rattle.bpfdb_options.specs.declared.subcommand.Subcommand.{Subcommand}
@@ -30,12 +34,35 @@ pub record LinksTo (job : Job) (program : Linked) : Type 0 where
   pub asked : stubs_of job ≡ Ok stubs
   pub linked : IsLinkedAs (link_of job job.file.now stubs) program
 
--- Why there is none: the stubs first, then the object.
-abbrev pub RefusesLinking : Job → LinkFault → Type 0
-RefusesLinking job fault = RefusesStubs job fault ⊎ RefusesLink job job.file.now fault
+-- `whynot` may ask about a place of the object.
+abbrev pub is_whynot : Subcommand → Bool
+is_whynot Whynot = true
+is_whynot subcommand = false
 
--- The job over a program's words, with its maps.
+abbrev pub asks_place : Job → Bool
+asks_place job = is_whynot job.subcommand && is_place (asked_of job)
+
+-- Why there is none: the stubs first, then the object, then what that tells of its lines, where a place is asked about.
+abbrev pub RefusesPlace : Job → LinkFault → Type 0
+RefusesPlace job fault = (asks_place job ≡ true) × IsLinesRefusal job.file.now (section_of job) fault
+
+abbrev pub RefusesLinking : Job → LinkFault → Type 0
+RefusesLinking job fault = RefusesStubs job fault ⊎ (RefusesLink job job.file.now fault ⊎ RefusesPlace job fault)
+
+-- The slots of that place, by the table of the program's words.
+abbrev pub HasPlace : Bool → Job → List ℕ → Option (Bor (List ℕ)) → Type 0
+HasPlace false job words goals = goals ≡ None
+HasPlace true job words None = ⊥
+HasPlace true job words (Some goals) = AreObjectSlots job.file.now (section_of job) words (asked_of job) goals.now
+
+-- The job over a program's words, with its maps, and the slots that are asked about where that is a place.
 pub record IsOver (job : Job) (words : List ℕ) (shapes : List MapShape) (over : Job) : Type 0 where
   pub file : over.file.now ≡ words
   pub maps : option_map (λ s. s.now) over.shapes ≡ Some shapes
-  pub rest : over ≡ record job { file = over.file; shapes = over.shapes; options = record job.options { is_object = false } }
+  pub goals : HasPlace (asks_place job) job words over.goals
+  pub rest : over ≡ record job {
+    file = over.file;
+    shapes = over.shapes;
+    goals = over.goals;
+    options = record job.options { is_object = false };
+  }

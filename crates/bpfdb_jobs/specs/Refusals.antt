@@ -27,13 +27,15 @@ use Rattle.bpf_suite.specs.declared.section.Section.{Section}
 use Rattle.bpf_suite.specs.declared.fault.FileFault.TheVariants.{Line}
 use Rattle.bpf_steps.specs.Opening.{Refused}
 use Rattle.bpf_ring.specs.Opening.{RefusesSize}
-use Rattle.bpf_whynot.specs.Asked.{goals_in}
+use Rattle.bpf_places.specs.Places.{is_place}
+use Rattle.bpf_whynot.specs.declared.fault.GoalFault.{GoalFault}
+use Rattle.bpf_whynot.specs.declared.fault.GoalFault.TheVariants.{NoInstruction, NoSlot}
 use Rattle.trace_lines.specs.Faults.{bad_line}
-use Rattle.bpfdb_jobs.specs.Jobs.{HasMaps, HasWords, IsObjectOf, IsProgramOf, ListsStubs, IsOtherRun, Opens, OpensSession, arrival_of, asked_of, link_of, other_bytes, others_of, section_of, stubs_of}
+use Rattle.bpfdb_jobs.specs.Jobs.{AsksGoals, HasMaps, HasWords, IsObjectOf, IsProgramOf, ListsStubs, IsOtherRun, Opens, OpensSession, arrival_of, asked_of, link_of, other_bytes, others_of, section_of, stubs_of}
 use Rattle.bpfdb_jobs.specs.Origins.{Arrival, RefusesWhat}
 use Rattle.bpfdb_jobs.specs.declared.job.Job.{Job}
 use Rattle.bpfdb_faults.specs.declared.refusal.JobRefusal.{JobRefusal}
-use Rattle.bpfdb_faults.specs.declared.refusal.JobRefusal.TheVariants.{Maps, Listing, Load, Open, OtherRun, TraceLine, Journal, What, Goal, Object, Functions, Tests, NoTest, ManyTests, Script}
+use Rattle.bpfdb_faults.specs.declared.refusal.JobRefusal.TheVariants.{Maps, Listing, Load, Open, OtherRun, TraceLine, Journal, What, Goal, NoPlace, Object, Functions, Tests, NoTest, ManyTests, Script}
 use Rattle.bpfdb_options.specs.declared.subcommand.Subcommand.{Subcommand}
 use Rattle.bpfdb_options.specs.declared.subcommand.Subcommand.TheVariants.{Run, Trace, Debug, Origin, Whynot, Diff, Gdb, Asm, Disasm, Lines, Check, Link, Test, Batch}
 
@@ -57,6 +59,7 @@ Refuses job (TraceLine fault line) = ⊥
 Refuses job (Script refusal) = ⊥
 Refuses job (What fault) = ⊥
 Refuses job (Goal fault) = ⊥
+Refuses job (NoPlace name) = ⊥
 Refuses job (Object fault name) = ⊥
 Refuses job (Functions fault index name) = ⊥
 Refuses job (Tests fault line) = ⊥
@@ -83,9 +86,18 @@ RefusesOrigin job (What fault) = (code : Checked) × (at : Arrival) × OpensSess
     × RefusesWhat job.options.what at.point.state fault
 RefusesOrigin job refusal = RefusesArrival job refusal
 
+-- (A place that has no slot is refused by its name.)
+abbrev pub lacks_place : GoalFault → List ℕ → Bool
+lacks_place NoSlot what = is_place what
+lacks_place NoInstruction what = false
+
+abbrev pub RefusesGoal : Job → GoalFault → Bool → Type 0
+RefusesGoal job fault lacks = (code : Checked) × (at : Arrival) × OpensSession job code × (arrival_of job code ≡ Ok at)
+    × AsksGoals job at.point.state.program (Err fault) × (lacks_place fault (asked_of job) ≡ lacks)
+
 abbrev pub RefusesWhynot : Job → JobRefusal → Type 0
-RefusesWhynot job (Goal fault) = (code : Checked) × (at : Arrival) × OpensSession job code × (arrival_of job code ≡ Ok at)
-    × (goals_in at.point.state.program (asked_of job) ≡ Err fault)
+RefusesWhynot job (Goal fault) = RefusesGoal job fault false
+RefusesWhynot job (NoPlace name) = (name.now ≡ asked_of job) × RefusesGoal job NoSlot true
 RefusesWhynot job refusal = RefusesArrival job refusal
 
 -- `diff` looks at FILE's machine, and then at that of the other run.

@@ -1,12 +1,27 @@
 -- Scaffolding: why a job of `whynot` has nothing to ask about. No public contract cites this.
-use Rattle.std.specs.Prelude.{◌≡◌, ◌⊎◌, ℕ, List, Err}
+use Rattle.std.specs.Prelude.{◌≡◌, ℕ, List, Err, false, true}
+use Rattle.std.specs.Borrow.{Bor}
 use Rattle.bpf_isa.specs.Programs.{Checked}
 use Rattle.bpf_ring.specs.declared.fault.JournalFault.TheVariants.{OutOfMemory}
-use Rattle.bpf_whynot.specs.Asked.{goals_in}
+use Rattle.bpf_text.specs.Listing.{IsFaultOf}
 use Rattle.bpf_whynot.specs.declared.fault.GoalFault.{GoalFault}
+use Rattle.bpf_whynot.specs.declared.fault.GoalFault.TheVariants.{NoSlot}
 use Rattle.bpfdb_faults.specs.declared.refusal.JobRefusal.{JobRefusal}
-use Rattle.bpfdb_faults.specs.declared.refusal.JobRefusal.TheVariants.{Goal, Journal}
+use Rattle.bpfdb_faults.specs.declared.refusal.JobRefusal.TheVariants.{Goal, Journal, Listing, NoPlace}
+use Rattle.bpfdb_jobs.specs.Jobs.{AsksGoals, asked_of}
+use Rattle.bpfdb_jobs.specs.Refusals.{lacks_place}
+use Rattle.bpfdb_jobs.specs.declared.job.Job.{Job}
 
--- Memory ran out, or the text names no slots.
-abbrev pub RefusesGoals : Checked → List ℕ → JobRefusal → Type 0
-RefusesGoals program text refusal = (refusal ≡ Journal OutOfMemory) ⊎ ((fault : GoalFault) × (refusal ≡ Goal fault) × (goals_in program text ≡ Err fault))
+-- The refusal of a fault: of a place that has no slot it has the name of that.
+abbrev pub IsRefusalOf : Job → GoalFault → JobRefusal → Type 0
+IsRefusalOf job fault (Goal told) = (told ≡ fault) × (lacks_place fault (asked_of job) ≡ false)
+IsRefusalOf job fault (NoPlace name) = (name.now ≡ asked_of job) × (fault ≡ NoSlot) × (lacks_place fault (asked_of job) ≡ true)
+IsRefusalOf job fault refusal = ⊥
+
+-- Memory ran out, or the listing has no table, or the text names no slots.
+abbrev pub RefusesGoals : Job → Checked → JobRefusal → Type 0
+RefusesGoals job program (Journal fault) = fault ≡ OutOfMemory
+RefusesGoals job program (Listing fault) = (job.options.is_listing ≡ true) × IsFaultOf job.file.now fault
+RefusesGoals job program (Goal told) = AsksGoals job program (Err told) × (lacks_place told (asked_of job) ≡ false)
+RefusesGoals job program (NoPlace name) = (name.now ≡ asked_of job) × AsksGoals job program (Err NoSlot) × (lacks_place NoSlot (asked_of job) ≡ true)
+RefusesGoals job program refusal = ⊥

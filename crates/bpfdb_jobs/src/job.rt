@@ -22,5 +22,8 @@ pub struct Job<'a> {
     /// The maps of the object that was linked to FILE's words, where one was; without them the maps
     /// are those that the options name.
     pub shapes: Option<&'a [MapShape]>,
+    /// The slots of the place of that object which `whynot` asks about, where it is one: numbers with
+    /// commas between. Without them what the options ask about counts.
+    pub goals: Option<&'a [u8]>,
     pub options: Options<'a>,
 }

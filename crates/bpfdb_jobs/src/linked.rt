@@ -1,16 +1,18 @@
 //! Jobs over an object: it is linked, and the job is done over its words, with its maps.
 ghost use Rattle.std.specs.Prelude.{◌≡◌, ◌≤◌, IfErr, IfOk};
 ghost use Rattle.bpfdb_jobs.specs.Done.{DoesLinked, DoesPlain};
-ghost use Rattle.bpfdb_jobs.specs.Objects.{IsOver, LinksTo, RefusesLinking, is_check, links_first};
+ghost use Rattle.bpfdb_jobs.specs.Objects.{HasPlace, IsOver, LinksTo, RefusesLinking, asks_place, is_check, is_whynot, links_first};
 ghost use Rattle.bpfdb_jobs.specs.declared.job.Job.{Job as Over};
 ghost use Rattle.bpfdb_limits.specs.Limits.{IsLimit};
 ghost use Rattle.bpfdb_faults.specs.Streams.{stream};
 
 use crate::dispatch::plain_tool;
 use crate::job::Job;
-use crate::object::{linked_from, refuse, stubs_of};
+use crate::object::{linked_from, refuse, section_of, stubs_of};
+use crate::whynot::asked;
 use bpf_isa::MapShape;
 use bpf_link::{LinkFault, Linked};
+use bpf_places::{is_place, object_slots};
 use bpfdb_options::{Options, Subcommand};
 use counted_io::Counted;
 use std::alloc::Global;
@@ -55,32 +57,78 @@ pub fn linked_tool<R: Read, W: Write, E: Write>(
     ensures status { result ≤ 2 }
 {
     match linked_file(alloc, job) {
-        Ok(linked) => {
-            let words = linked.words.as_slice();
-            let shapes = linked.shapes.as_slice();
-            do_over(alloc, job, words, shapes, reader, writer, errors)
-        }
+        Ok(linked) => do_linked(alloc, job, &linked, reader, writer, errors),
         Err(fault) => refuse(job, job.file, errors, fault),
     }
 }
 
-/// Does a job over the words of its object, with the maps of that.
-fn do_over<R: Read, W: Write, E: Write>(
+/// Whether `whynot` asks about a place of its object.
+fn asks_place(job: &Job<'_>) -> bool
+    ensures { result ≡ asks_place job.now }
+{
+    is_whynot(job.subcommand) && is_place(asked(job).as_bytes())
+}
+
+/// Whether a subcommand is `whynot`.
+fn is_whynot(subcommand: Subcommand) -> bool
+    ensures { result ≡ is_whynot subcommand }
+{
+    match subcommand {
+        Subcommand::Whynot => true,
+        _ => false,
+    }
+}
+
+/// Does a job over the program to which its object is linked. First the slots of the place are looked
+/// up that it asks about, if it does.
+fn do_linked<R: Read, W: Write, E: Write>(
     alloc: Global,
     job: &Job<'_>,
-    words: &[u8],
-    shapes: &[MapShape],
+    linked: &Linked,
     reader: &mut Counted<R>,
     writer: &mut Counted<W>,
     errors: &mut Counted<E>,
 ) -> u8
     requires limit { IsLimit job.now.options.limit }
+    requires linked { LinksTo job.now linked.now }
+    ensures does { DoesLinked job.now.subcommand job.now (stream R.remaining reader.old reader.new)
+        (stream W.contents writer.old writer.new) (stream E.contents errors.old errors.new) result }
+    ensures status { result ≤ 2 }
+{
+    let words = linked.words.as_slice();
+    let shapes = linked.shapes.as_slice();
+    if !asks_place(job) {
+        return do_over(alloc, job, words, shapes, None, reader, writer, errors);
+    }
+    let what = asked(job).as_bytes();
+    match object_slots(alloc, job.file, section_of(job), words, what) {
+        Ok(slots) => {
+            let goals = Some(slots.as_slice());
+            do_over(alloc, job, words, shapes, goals, reader, writer, errors)
+        }
+        Err(why) => refuse(job, job.file, errors, why),
+    }
+}
+
+/// Does a job over the words of its object, with the maps of that, and the slots of the place.
+fn do_over<R: Read, W: Write, E: Write>(
+    alloc: Global,
+    job: &Job<'_>,
+    words: &[u8],
+    shapes: &[MapShape],
+    goals: Option<&[u8]>,
+    reader: &mut Counted<R>,
+    writer: &mut Counted<W>,
+    errors: &mut Counted<E>,
+) -> u8
+    requires limit { IsLimit job.now.options.limit }
+    requires goals { HasPlace (asks_place job.now) job.now words.now goals }
     ensures does { (over : Over) × IsOver job.now words.now shapes.now over
         × DoesPlain job.now.subcommand over (stream R.remaining reader.old reader.new)
         (stream W.contents writer.old writer.new) (stream E.contents errors.old errors.new) result }
     ensures status { result ≤ 2 }
 {
-    let over = job_over(job, words, shapes);
+    let over = job_over(job, words, shapes, goals);
     plain_tool(alloc, &over, reader, writer, errors)
 }
 
@@ -96,13 +144,20 @@ fn linked_file(alloc: Global, job: &Job<'_>) -> Result<Linked, LinkFault>
     }
 }
 
-/// The job over the words of an object, with its maps.
-fn job_over<'a>(job: &Job<'a>, words: &'a [u8], shapes: &'a [MapShape]) -> Job<'a>
+/// The job over the words of an object, with its maps, and the slots of the place.
+fn job_over<'a>(
+    job: &Job<'a>,
+    words: &'a [u8],
+    shapes: &'a [MapShape],
+    goals: Option<&'a [u8]>,
+) -> Job<'a>
+    requires { HasPlace (asks_place job.now) job.now words.now goals }
     ensures { IsOver job.now words.now shapes.now result }
 {
     Job {
         file: words,
         shapes: Some(shapes),
+        goals,
         options: Options {
             is_object: false,
             ..job.options

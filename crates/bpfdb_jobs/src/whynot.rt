@@ -8,10 +8,10 @@ ghost use Rattle.bpf_whynot.specs.Asking.{query};
 ghost use Rattle.bpf_whynot.specs.Tables.{AreGoals, told_by};
 ghost use Rattle.counted_io.specs.Writing.{Writes};
 ghost use Rattle.bpfdb_jobs.specs.Endings.{EndsPrinted};
-ghost use Rattle.bpfdb_jobs.specs.Jobs.{asked_of};
+ghost use Rattle.bpfdb_jobs.specs.Jobs.{AreAsked, asked_of};
 ghost use Rattle.bpfdb_jobs.specs.Openings.{HasArrived};
 ghost use Rattle.bpfdb_jobs.specs.Origins.{found_text};
-ghost use Rattle.bpfdb_jobs.specs.Whynots.{RefusesGoals};
+ghost use Rattle.bpfdb_jobs.specs.Whynots.{IsRefusalOf, RefusesGoals};
 ghost use Rattle.bpfdb_limits.specs.Limits.{IsLimit};
 ghost use Rattle.bpfdb_options.specs.declared.subcommand.Subcommand.TheVariants.{Whynot};
 ghost use Rattle.bpfdb_faults.specs.Streams.{stream};
@@ -21,7 +21,8 @@ use crate::origin::{Arrived, arrive, status_of};
 use bpf_isa::Program;
 use bpf_journal::{JournalFault, Keeper, Timeline};
 use bpf_origin::{Question, Told, Wanted};
-use bpf_whynot::{Aim, AimFault, Search, put_whynot};
+use bpf_places::{is_place, listing_slots};
+use bpf_whynot::{Aim, AimFault, GoalFault, Search, put_whynot};
 use bpfdb_faults::{JobFault, JobRefusal, flush_after, give_up};
 use bpfdb_replies::write_place;
 use counted_io::{Counted, WriteFault, put};
@@ -83,24 +84,67 @@ fn ask_why<W: Write, E: Write>(
 }
 
 /// The slots of a program that are asked about, and from where they can be come to.
-fn aim_of(alloc: Global, job: &Job<'_>, program: &Program) -> Result<Aim, JobRefusal<'static>>
-    ensures ok { IfOk result (IsAim program.now (asked_of job.now)) }
-    ensures err { IfErr result (RefusesGoals program.now (asked_of job.now)) }
+fn aim_of<'a>(alloc: Global, job: &Job<'a>, program: &Program) -> Result<Aim, JobRefusal<'a>>
+    ensures ok { IfOk result (λ aim. (slots : List ℕ) × AreAsked job.now slots
+        × IsAim program.now slots aim) }
+    ensures err { IfErr result (RefusesGoals job.now program.now) }
 {
-    match Aim::find(alloc, program, asked(job)) {
+    let what = asked(job).as_bytes();
+    if let Some(goals) = job.goals {
+        return aim_at(alloc, job, program, goals);
+    }
+    if !(job.options.is_listing && is_place(what)) {
+        return aim_at(alloc, job, program, what);
+    }
+    match listing_slots(alloc, job.file, what) {
+        Ok(slots) => aim_at(alloc, job, program, slots.as_slice()),
+        Err(fault) => Err(JobRefusal::Listing(fault)),
+    }
+}
+
+/// The slots that a text names, and from where they can be come to.
+fn aim_at<'a>(
+    alloc: Global,
+    job: &Job<'a>,
+    program: &Program,
+    slots: &[u8],
+) -> Result<Aim, JobRefusal<'a>>
+    requires { AreAsked job.now slots.now }
+    ensures ok { IfOk result (λ aim. (slots : List ℕ) × AreAsked job.now slots
+        × IsAim program.now slots aim) }
+    ensures err { IfErr result (RefusesGoals job.now program.now) }
+{
+    match Aim::find(alloc, program, slots) {
         Ok(aim) => Ok(aim),
-        Err(AimFault::Goal(fault)) => Err(JobRefusal::Goal(fault)),
+        Err(AimFault::Goal(fault)) => Err(goal_refusal(job, fault)),
         Err(AimFault::OutOfMemory) => Err(JobRefusal::Journal(JournalFault::OutOfMemory)),
     }
 }
 
+/// The refusal of what is asked about: of a place that has no slot by its name.
+fn goal_refusal<'a>(job: &Job<'a>, fault: GoalFault) -> JobRefusal<'a>
+    ensures { IsRefusalOf job.now fault result }
+{
+    let what = asked(job);
+    match fault {
+        GoalFault::NoSlot => {
+            if is_place(what.as_bytes()) {
+                JobRefusal::NoPlace(what)
+            } else {
+                JobRefusal::Goal(fault)
+            }
+        }
+        GoalFault::NoInstruction => JobRefusal::Goal(fault),
+    }
+}
+
 /// The text of what is asked about.
-fn asked<'a>(job: &Job<'a>) -> &'a [u8]
+pub(crate) fn asked<'a>(job: &Job<'a>) -> &'a str
     ensures { result.now ≡ asked_of job.now }
 {
     match job.options.what {
-        Some(text) => text.as_bytes(),
-        None => &[],
+        Some(text) => text,
+        None => "",
     }
 }
 

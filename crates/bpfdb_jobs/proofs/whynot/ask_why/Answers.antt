@@ -21,7 +21,8 @@ returns-in-Ok-written-clause-does g c =
     let at = c.args.arrived.now in
     let x = at.timeline.state in
     let h = c.requires.at.point.history in
-    let p = rw (c.program.ensures, c.cpu.ensures) at c.in-Ok.ensures.ok in
+    let asked = rw (c.program.ensures, c.cpu.ensures) at c.in-Ok.ensures.ok in
+    let p = asked.2 in
     let can = told_by c.in-Ok.aim.reach in
     let q : Query = record {
       goals = p.goals;
@@ -33,7 +34,7 @@ returns-in-Ok-written-clause-does g c =
     let w = rw c.in-Ok-written.is at c.put_why-told.ensures.text x.program p.goals h flags c.requires.held in
     let extent = c.put_why-told.ensures.extent x.program p.goals h flags c.requires.held in
     Printed (origin_print x (why_not can q h x))
-    (whynot-prints job at.timeline at.moves c.requires q p.goals can as-asked p.named p.tells)
+    (whynot-prints job at.timeline at.moves c.requires q p.goals can as-asked (asked.0, asked.1, p.named) p.tells)
     (w.ok, w.same) refl (c.status_of.ensures ∙ ap status_of_extent extent)
 
 pub returns-clause-does : goal.returns-clause-does
@@ -42,7 +43,8 @@ returns-clause-does g c =
     let at = c.args.arrived.now in
     let x = at.timeline.state in
     let h = c.requires.at.point.history in
-    let p = rw (c.program.ensures, c.cpu.ensures) at c.in-Ok.ensures.ok in
+    let asked = rw (c.program.ensures, c.cpu.ensures) at c.in-Ok.ensures.ok in
+    let p = asked.2 in
     let can = told_by c.in-Ok.aim.reach in
     let q : Query = record {
       goals = p.goals;
@@ -53,5 +55,5 @@ returns-clause-does g c =
     let flags = subst (λ (flags : List Bool). AreGoals x.program p.goals flags) (sym c.as_slice.ensures.value) p.flags in
     let w = rw c.in-Err-written.is at c.put_why-told.ensures.text x.program p.goals h flags c.requires.held in
     OutLost (origin_print x (why_not can q h x))
-    (whynot-prints job at.timeline at.moves c.requires q p.goals can as-asked p.named p.tells)
+    (whynot-prints job at.timeline at.moves c.requires q p.goals can as-asked (asked.0, asked.1, p.named) p.tells)
     (w.err, w.fault) c.give_up-in-Err-written.ensures.told c.give_up-in-Err-written.ensures.value

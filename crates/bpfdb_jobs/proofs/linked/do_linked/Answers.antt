@@ -1,0 +1,19 @@
+use Rattle.std.proofs.Common.{◌∙◌, inr, refl, sym}
+use Rattle.bpfdb_jobs.specs.Done.{Over, Unlinked}
+use Rattle.bpfdb_jobs.proofs.linked.do_linked.Goals as goal
+
+pub returns-then-not-asks_place-clause-does : goal.returns-then-not-asks_place-clause-does
+returns-then-not-asks_place-clause-does g c =
+    let does = c.do_over.ensures.does in
+    Over c.args.linked.now does.0 c.requires.linked (rw c.as_slice-shapes.ensures.value at (rw c.as_slice-words.ensures.value at does.1)) does.2
+
+pub returns-in-Ok-clause-does : goal.returns-in-Ok-clause-does
+returns-in-Ok-clause-does g c =
+    let does = c.do_over-in-Ok.ensures.does in
+    Over c.args.linked.now does.0 c.requires.linked (rw c.as_slice-shapes.ensures.value at (rw c.as_slice-words.ensures.value at does.1)) does.2
+
+pub returns-in-Err-clause-does : goal.returns-in-Err-clause-does
+returns-in-Err-clause-does g c =
+    let told = c.refuse.ensures.told in
+    let asks = sym c.asks_place.ensures ∙ c.if-not-asks_place.false in
+    Unlinked c.in-Err.why told.0 (inr (inr (asks, rw c.section_of.ensures at c.in-Err.ensures.err))) told.1 refl refl told.2 c.refuse.ensures.value
