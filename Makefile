@@ -47,7 +47,7 @@ install:
 
 # Takes them away again.
 uninstall:
-	@rm -f "$(DESTDIR)$(BIN)/bpfdb" "$(DESTDIR)$(BIN)/bpfdb-shell" "$(DESTDIR)$(BIN)/bpfdb-symbols" "$(DESTDIR)$(BIN)/bpfdb-show" "$(DESTDIR)$(BIN)/bpfdb-page" "$(DESTDIR)$(BIN)/bpfdb-context" "$(DESTDIR)$(BIN)/bpfdb-convert" "$(DESTDIR)$(BIN)/bpfdb-events" "$(DESTDIR)$(BIN)/bpfdb-turns" "$(DESTDIR)$(BIN)/bpfdb-conformance"
+	@rm -f "$(DESTDIR)$(BIN)/bpfdb" "$(DESTDIR)$(BIN)/bpfdb-shell" "$(DESTDIR)$(BIN)/bpfdb-symbols" "$(DESTDIR)$(BIN)/bpfdb-show" "$(DESTDIR)$(BIN)/bpfdb-page" "$(DESTDIR)$(BIN)/bpfdb-context" "$(DESTDIR)$(BIN)/bpfdb-convert" "$(DESTDIR)$(BIN)/bpfdb-events" "$(DESTDIR)$(BIN)/bpfdb-conformance"
 	@[ ! -d "$(DESTDIR)$(MAN)" ] || { cd "$(DESTDIR)$(MAN)" && rm -f $(notdir $(wildcard docs/*.1)); }
 	@[ ! -d "$(DESTDIR)$(PREFIX)/share" ] || { cd "$(DESTDIR)$(PREFIX)/share" && rm -f bpfdb/bpfdb-gdb.py bpfdb/bpfdb.h bpfdb/bpfdb.vim \
 		$(patsubst %,bash-completion/completions/%,$(COMPLETED)) zsh/site-functions/_bpfdb zsh/vendor-completions/_bpfdb \

@@ -102,7 +102,6 @@ symbols|what gdb reads of an object or a listing|OPTIONS|docs/GDB.md
 context|the bytes that a BPF program gets by r1|OPTIONS|docs/CONTEXTS.md
 show|a test of bpfdb as files, or as a page|OPTIONS|docs/TESTS.md
 events|what a BPF program sent out|OPTIONS|docs/LINUX.md
-turns|programs of an object, one after another|OPTIONS|docs/LINUX.md
 convert|tests of uBPF as a file of tests of bpfdb|OPTIONS|docs/TESTS.md
 conformance|bpfdb as a plugin of bpf_conformance|OPTIONS|examples/RECIPES.md
 TOOLS

@@ -23,7 +23,7 @@ put_as() {
     mkdir -p "$folder" && cp "$4" "$folder/$3" && chmod "$1" "$folder/$3" || exit 1
 }
 
-put 755 bin crates/bpfdb/out/bpfdb share/bpfdb-shell share/bpfdb-symbols share/bpfdb-show share/bpfdb-page share/bpfdb-context share/bpfdb-convert share/bpfdb-events share/bpfdb-turns share/bpfdb-conformance
+put 755 bin crates/bpfdb/out/bpfdb share/bpfdb-shell share/bpfdb-symbols share/bpfdb-show share/bpfdb-page share/bpfdb-context share/bpfdb-convert share/bpfdb-events share/bpfdb-conformance
 put 644 share/man/man1 docs/*.1
 put 644 share/bpfdb/page share/page/*
 put 755 bin share/bpfdb-dap
@@ -67,5 +67,5 @@ for page in docs/*.md; do
     page=$(basename "$page")
     [ -e "$folder/$page" ] || sed -i "s|\[\([^][]*\)\](\(docs/\)\{0,1\}${page}[^)]*)|\1|g" "$folder"/*.md "$folder/examples"/*.md || exit 1
 done
-echo "installed $prefix/bin/bpfdb, bpfdb-shell, bpfdb-symbols, bpfdb-show, bpfdb-page, bpfdb-context, bpfdb-convert, bpfdb-events, bpfdb-turns and bpfdb-conformance beside it, man pages, completions of bash, zsh and fish, and pages and examples in $prefix/share/doc/bpfdb; in gdb: source $prefix/share/bpfdb/bpfdb-gdb.py"
+echo "installed $prefix/bin/bpfdb, bpfdb-shell, bpfdb-symbols, bpfdb-show, bpfdb-page, bpfdb-context, bpfdb-convert, bpfdb-events and bpfdb-conformance beside it, man pages, completions of bash, zsh and fish, and pages and examples in $prefix/share/doc/bpfdb; in gdb: source $prefix/share/bpfdb/bpfdb-gdb.py"
 echo "for editors: $prefix/bin/bpfdb-dap, $prefix/share/bpfdb/vscode and $prefix/share/bpfdb/bpfdb-dap.el"

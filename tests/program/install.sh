@@ -13,7 +13,7 @@ else
         echo "for editors: $2/bin/bpfdb-dap, $2/share/bpfdb/vscode and $2/share/bpfdb/bpfdb-dap.el" > wanted/editors
         same "make install PREFIX=$2: what it says of editors" wanted/editors found/editors
         sed -i '$d' found/out
-        check "make install PREFIX=$2" 0 "installed $2/bin/bpfdb, bpfdb-shell, bpfdb-symbols, bpfdb-show, bpfdb-page, bpfdb-context, bpfdb-convert, bpfdb-events, bpfdb-turns and bpfdb-conformance beside it, man pages, completions of bash, zsh and fish, and pages and examples in $2/share/doc/bpfdb; in gdb: source $2/share/bpfdb/bpfdb-gdb.py\n" ''
+        check "make install PREFIX=$2" 0 "installed $2/bin/bpfdb, bpfdb-shell, bpfdb-symbols, bpfdb-show, bpfdb-page, bpfdb-context, bpfdb-convert, bpfdb-events and bpfdb-conformance beside it, man pages, completions of bash, zsh and fish, and pages and examples in $2/share/doc/bpfdb; in gdb: source $2/share/bpfdb/bpfdb-gdb.py\n" ''
         (cd "$installed" && find . -type f -printf '%m %P\n' | sort) > found/files
         (cd "${1:-$2}" && find . -type d ! -perm 755) > found/folders
         : > wanted/folders
@@ -78,7 +78,6 @@ else
 644 share/man/man1/bpfdb-shell.1
 644 share/man/man1/bpfdb-show.1
 644 share/man/man1/bpfdb-symbols.1
-644 share/man/man1/bpfdb-turns.1
 644 share/man/man1/bpfdb.1
 644 share/zsh/site-functions/_bpfdb
 755 bin/bpfdb
@@ -91,7 +90,6 @@ else
 755 bin/bpfdb-shell
 755 bin/bpfdb-show
 755 bin/bpfdb-symbols
-755 bin/bpfdb-turns
 FILES
             (cd "$top" && find examples -type f -printf '644 share/doc/bpfdb/%p\n' && find share/bpfdb -name '*.py' -printf '644 %p\n' && find share/bpfdb-linux -type f -printf '644 share/bpfdb/bpfdb-linux/%f\n')
             has_clang 'the object of the library of Linux' && echo '644 share/bpfdb/bpfdb-linux.o'

@@ -72,14 +72,11 @@ for compiler in $compilers; do
         gives 0x806 protocol
 
         # Programs in turn get one struct, whatever the ones before have left in registers, in r2 too, by which the length was told: here 14 and 8 bytes.
-        if has python3 'programs for packets in turn'; then
-            for names in 'spilled length' 'called firewall spilled length' 'length length'; do
-                # (names without blanks)
-                "$top/share/bpfdb-turns" works.o $names > turns.o 2> told || complain "$compiler $level: $names: $(cat told)"
-                "$program" link --packet xdp --entry turns turns.o > words 2> told || complain "$compiler $level: $names: $(cat told)"
-                result '0x16\n' run -m packet words
-            done
-        fi
+        for names in 'spilled length' 'called firewall spilled length' 'length length'; do
+            # (names without blanks)
+            "$program" link --packet xdp $(printf -- '--entry %s ' $names) works.o > words 2> told || complain "$compiler $level: $names: $(cat told)"
+            result '0x16\n' run -m packet words
+        done
 
         # A length in place of a type: 0x05ff is one, 0x0600 is none. Of 802.3 it is 4, ETH_P_802_2, or 1 where ffff follows.
         bytes_of "$ethernet 05ff 4242"

@@ -225,7 +225,7 @@ ROWS
         done
         mkdir bin typed shown installed-here
         ln -s "$program" bin/bpfdb
-        ln -s "$top/share/bpfdb-events" "$top/share/bpfdb-context" "$top/share/bpfdb-shell" "$top/share/bpfdb-turns" bin
+        ln -s "$top/share/bpfdb-events" "$top/share/bpfdb-context" "$top/share/bpfdb-shell" bin
         built clang "$top/share/bpfdb-linux.c" installed-here/bpfdb-linux.o
         cp "$top/share/bpfdb-linux.h" "$top/share/bpfdb-map.h" installed-here
         awk '
@@ -297,8 +297,7 @@ ROWS
         ' programs > several
         while read -r object section names; do
             by_section "$section"
-            "$top/share/bpfdb-turns" "installed/$object" $names > turns.o 2> told || complain "$object, in turn: $(cat told)"
-            ends_on "$object, $section, in turn" $packet --entry turns turns.o
+            ends_on "$object, $section, in turn" $packet $(printf -- '--entry %s ' $names) "installed/$object"
         done < several
     fi
 fi

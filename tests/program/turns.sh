@@ -1,16 +1,5 @@
-# Programs of an object in turn, by each clang that is installed: 'link --entry' that comes several times, and bpfdb-turns. What they give is worked out from
+# Programs of an object in turn, by each clang that is installed: 'link --entry' that comes several times. What they give is worked out from
 # tests/program/turns/pair.c: the context has the numbers 3 and 5, of 8 bytes each.
-
-# turned STATUS ERRORS WORD..: what bpfdb-turns says of these words. What it refuses it doesn't write.
-turned() {
-    status=$1 errors=$2
-    shift 2
-    "$top/share/bpfdb-turns" "$@" > turned.o 2> found/err
-    echo $? > found/status
-    : > found/out
-    [ "$status" = 0 ] || cp turned.o found/out
-    check "bpfdb-turns $*" "$status" '' "$errors"
-}
 
 # entries NAME..: options that name these programs in turn, a single one with its place.
 entries() {
@@ -18,19 +7,23 @@ entries() {
     printf -- ' --entry %s' "$@"
 }
 
-# in_turn VALUE NAME..: what programs of pair.o give, one after the other: by bpfdb-turns, by link, and where the object is linked first.
+# in_turn VALUE NAME..: what programs of pair.o give, one after the other: by link, and where the object is linked first.
 in_turn() {
     value=$1
     shift
-    turned 0 '' pair.o "$@"
-    "$program" link --entry turns turned.o > words 2> told || complain "$*: $(cat told)"
-    result "$value\n" run $(told_maps) -m context words
     # (words without blanks)
     # shellcheck disable=SC2046
     "$program" link $(entries "$@") pair.o > words 2> told || complain "link of $*: $(cat told)"
     result "$value\n" run $(told_maps) -m context words
     # shellcheck disable=SC2046
     result "$value\n" run --object $(entries "$@") -m context pair.o
+}
+
+# lines_of FUNCTION OPTION..: the lines of C of a function of pair.o that is linked with these options, each once.
+lines_of() {
+    function=$1
+    shift
+    "$program" lines --object "$@" pair.o 2> told | awk -v name="$function" '$NF == name { sub(/^[0-9]* /, ""); print }' | uniq
 }
 
 # begins OPTIONS INSTRUCTIONS: the program of pair.o with these options begins with these instructions, whatever the labels.
@@ -45,7 +38,7 @@ begins() {
 
 printf '\003\0\0\0\0\0\0\0\005\0\0\0\0\0\0\0' > context
 compilers=''
-if has_clang 'bpfdb-turns' && has python3 'bpfdb-turns'; then
+if has_clang 'programs in turn' && has python3 'programs in turn'; then
     compilers=clang
     ! command -v clang-19 > found/which || compilers='clang clang-19'
 fi
@@ -91,26 +84,12 @@ sub r2, 65535
 callf
 exit'
     # Behind the context nothing can be read: `take` multiplies a length of -1 there, and its load faults. (How many bytes a context has is a run's matter.)
-    turned 0 '' pair.o store take@65535
-    "$program" link --entry turns turned.o > words 2> told
-    "$program" run $(told_maps) -m context words > found/out 2> found/err
+    "$program" run --object --entry store --entry take@65535 -m context pair.o > found/out 2> found/err
     echo $? > found/status
     count=$((count + 1))
     [ "$(cat found/status)" = 1 ] && grep -q '^fault access 0x10000ffff at ' found/err || complain "a place behind the context: $(cat found/out found/err)"
 
-    "$program" run --object --entry store --entry take@65535 -m context pair.o > found/out 2> found/err
-    echo $? > found/status
-    count=$((count + 1))
-    [ "$(cat found/status)" = 1 ] && grep -q '^fault access 0x10000ffff at ' found/err || complain "a place behind the context, by link: $(cat found/out found/err)"
-
     # What they call is answered as ever: 100 * 2 + 1. `unused` isn't reached, so its call isn't asked for.
-    turned 0 '' pair.o begin end
-    "$program" link --entry turns --with clock.o turned.o > words 2> told || complain "begin end: $(cat told)"
-    result '0xc9\n' run $(told_maps) words
-    "$program" link --joined --entry turns --with clock.o turned.o > joined.o && "$program" link --entry turns joined.o > again 2> told || complain "joined: $(cat told)"
-    count=$((count + 1))
-    cmp -s words again || complain 'programs in turn in a joined object'
-
     "$program" link --with clock.o --entry begin --entry end pair.o > words 2> told || complain "link of begin end: $(cat told)"
     result '0xc9\n' run $(told_maps) words
     "$program" link --joined --with clock.o --entry begin --entry end pair.o > joined.o && "$program" link joined.o > again 2> found/err || complain "joined: $(cat found/err)"
@@ -118,7 +97,10 @@ exit'
     cmp -s words again && cmp -s told found/err || complain 'programs in turn in an object that is joined'
     # The other options of a link, and other subcommands. 41 + 1 of `count`, whose data are those of both calls; 7 - 1 of a constant.
     result '0x2a\n' run --object --section prog/two --entry count --entry count pair.o
-    refused 'refused E8: no such code section: .text, prog/two' link --section prog/one --entry count --entry store pair.o
+    # (functions of a section that is named are looked for there alone, as one is)
+    refused 'refused E31: no such function in the code section: count' link --section prog/one --entry store --entry count pair.o
+    refused 'refused E8: no such code section: .text, prog/one, prog/two, prog/three, prog/timed, prog/timed too, prog/field, prog/fields' link --section none --entry store --entry take pair.o
+    result '0x2b\n' run --object --section prog/two --entry take --entry count --entry count --entry count -m context pair.o
     result '0x6\n' run --object --stub 5=6 --entry begin@0 --entry store --entry unused -m context pair.o
     printf 'continue\ninfo regs\n' | "$program" debug --object --entry store --entry take -m context pair.o > found/out 2> found/err
     count=$((count + 1))
@@ -130,10 +112,21 @@ exit'
     "$program" check --object --entry store --entry take pair.o > found/out 2> found/err || complain "check: $(cat found/err)"
     count=$((count + 1))
     grep -q '^ok [0-9]* instructions in [0-9]* slots$' found/out || complain "check: $(cat found/out)"
-    # Of each instruction its function; the lines of C went with the section that tells them.
-    "$program" lines --object --entry store --entry take pair.o > found/out 2> found/err || complain "lines: $(cat found/err)"
-    count=$((count + 1))
+    # Of each instruction its function, and its line of C: those that it has where its section is linked alone. The calls have none.
+    "$program" lines --object --entry store --entry take@8 pair.o > found/out 2> found/err || complain "lines: $(cat found/err)"
+    count=$((count + 2))
     [ "$(awk '{ print $NF }' found/out | uniq | tr '\n' ' ')" = '- store take count plus call twice ' ] || complain "lines: $(cat found/out)"
+    [ "$(awk '$NF == "-"' found/out | wc -l)" = 13 ] || complain "lines of the calls: $(cat found/out)"
+    for row in 'store prog/one' 'take prog/two' 'count prog/two' 'call prog/two' 'twice prog/one' 'field prog/field' 'fields prog/fields'; do
+        set -- $row
+        lines_of "$1" --as-compiled --section "$2" --entry "$( [ "$1" = twice ] && echo store || echo "$1")" > found/wanted
+        lines_of "$1" --as-compiled --entry store --entry take --entry field --entry fields > found/out
+        [ -s found/wanted ] || complain "lines of $1 alone: $(cat told)"
+        same "lines of $1 in turn" found/wanted found/out
+    done
+    # (by the source: the second line of each is told, and no other)
+    count=$((count + 1))
+    [ "$(lines_of fields --as-compiled --entry fields --entry store | sed 's/.*pair.c:\([0-9]*\) .*/\1/')" = "$(grep -n 'it->one + 10' "$parts/turns/pair.c" | cut -d : -f 1)" ] || complain "line of fields: $(lines_of fields --as-compiled --entry fields --entry store)"
     # With one entry and no place nothing is new: the section is asked for as ever.
     refused 'refused E9: more than one code section: --section NAME chooses one: .text, prog/one, prog/two, prog/three, prog/timed, prog/timed too, prog/field, prog/fields' link --entry store pair.o
     "$program" link --section prog/two --entry count pair.o > words 2> told || complain "one entry: $(cat told)"
@@ -145,14 +138,21 @@ exit'
     "$program" link --packet xdp --entry one --entry two packets.o > words 2> told || complain "packets: $(cat told)"
     result '0x35\n' run $(told_maps) -m packet words
 
-    # Relocations of fields are those of all programs, 1 and 2. `turns` has nine slots before them: two, three for each call without a place, and an exit.
+    # Relocations of fields are those of all programs, 1 and 2. The calls have thirteen slots before them: two, five for each, and an exit.
     slot=$("$program" link --section prog/field pair.o 2>&1 | sed -n 's/^refused E36 at slot \([0-9]*\): .*/\1/p')
-    turned 0 '' pair.o field fields
-    "$program" link --entry turns turned.o > words 2> told
+    refused "refused E36 at slot $((slot + 13)): relocations of fields, 3 in all: --as-compiled leaves them undone: prog/field" link --entry field --entry fields pair.o
+    "$program" link --as-compiled --entry field --entry fields pair.o > words 2> told || complain "fields: $(cat told)"
     count=$((count + 1))
-    grep -q "^refused E36 at slot $((slot + 9)): relocations of fields, 3 in all: " told || complain "fields: $(cat told)"
-    "$program" link --as-compiled --entry turns turned.o > words 2> told || complain "fields: $(cat told)"
+    [ "$(cat told)" = 'fields left by --as-compiled: 3' ] || complain "fields: $(cat told)"
+    # 3 + 10 * 0 of `fields`, whose ints lie in the first 8 bytes; `field` before it has the second 8, 5.
     result '0x3\n' run -m context words
+    "$program" link --as-compiled --entry fields --entry field@8 pair.o > words 2> told || complain "fields: $(cat told)"
+    result '0x5\n' run -m context words
+    # (where the first one has none, those of the others count, too)
+    "$program" link --as-compiled --entry store --entry fields pair.o > words 2> told || complain "fields: $(cat told)"
+    count=$((count + 1))
+    grep -qx 'fields left by --as-compiled: 2' told || complain "fields behind a program without any: $(cat told)"
+    result '0x3\n' run $(told_maps) -m context words
 
     # Symbols of programs in turn are those of their object, which link writes.
     BPFDB=$program "$top/share/bpfdb-symbols" --entry store --entry take pair.o symbols > found/out 2> found/err
@@ -166,28 +166,9 @@ exit'
     in_turn 0x13a7a store take@8
     "$compiler" -g -O2 -target bpf -c "$parts/turns/pair.c" -o pair.o
 
-    # What is refused.
-    turned 2 "bpfdb-turns: 'bpfdb-turns FILE NAME[@PLACE] ..' is wanted; bpfdb-turns --help tells more\n"
-    turned 2 "bpfdb-turns: 'bpfdb-turns FILE NAME[@PLACE] ..' is wanted; bpfdb-turns --help tells more\n" pair.o
-    for word in '' @ @8 store@ store@x store@-1 store@65536 store@0x10000 store@8@8 store@99999999999; do
-        turned 2 "bpfdb-turns: '$word': NAME or NAME@PLACE is wanted, PLACE at most 65535\n" pair.o take "$word"
-    done
-    # (a word for each of seventeen programs)
-    turned 2 'bpfdb-turns: more than 16 programs\n' pair.o $(yes count | head -n 17)
+    # What is refused: what is said of the words, of the programs, and of what they have.
+    # (a word for each of sixteen programs, and then of seventeen)
     in_turn 0x38 $(yes count | head -n 16)
-    turned 2 'bpfdb-turns: cannot read none.o\n' none.o store
-    turned 2 'bpfdb-turns: cannot read /dev/zero\n' /dev/zero store
-    turned 2 'bpfdb-turns: no object for BPF\n' context store
-    turned 2 'bpfdb-turns: no object for BPF\n' words store
-    "$top/share/bpfdb-turns" pair.o none 2> told
-    count=$((count + 1))
-    grep -q '^bpfdb-turns: no function none: there are .*\<store, take, count, plus, call, unused, double_kept, begin, end, field, fields$' told || complain "no function: $(cat told)"
-    turned 0 '' pair.o store
-    cp turned.o own.o
-    turned 2 'bpfdb-turns: the object has a turns of its own\n' own.o turns
-    "$top/share/bpfdb-turns" --help | grep -q '^usage: bpfdb-turns' || complain 'help of bpfdb-turns'
-
-    # And by link: what is said of the words, of the programs, and of what they have.
     for word in @x store@ store@x store@-1 store@65536 store@0x10000 store@8@8 store@99999999999; do
         usage "behind the '@' of '--entry <NAME>' a number is wanted, in bytes, at most 65535" link --entry "$word" pair.o
         usage "behind the '@' of '--entry <NAME>' a number is wanted, in bytes, at most 65535" link --entry take --entry "$word" pair.o
@@ -195,19 +176,33 @@ exit'
     # shellcheck disable=SC2046
     usage "the argument '--entry <NAME>' is used more than 16 times" link $(entries $(yes count | head -n 17)) pair.o
     usage "'--section', '--entry', '--entries', '--stub' and '--as-compiled' need '--object'" run --entry store --entry take words
-    refused 'refused E31: no such function in the code section' link --entry store --entry none pair.o
-    refused 'refused E31: no such function in the code section' link --entry kept --entry store pair.o
+    refused 'refused E31: no such function in the code section: none' link --entry store --entry none pair.o
+    refused 'refused E31: no such function in the code section: none' link --entry none@8 --entry nothing pair.o
+    refused 'refused E31: no such function in the code section: kept' link --entry kept --entry store pair.o
     refused 'refused E31: no such function in the code section' link --entry '' --entry store pair.o
     refused 'refused E1: no ELF file' link --entry store --entry take context
     refused 'cannot read none.o' link --entry store --entry take none.o
-    "$program" link --entry store --entry field pair.o > words 2> told
-    count=$((count + 1))
-    grep -q '^refused E36 at slot [0-9]*: relocations of fields, 1 in all: ' told || complain "fields, by link: $(cat told)"
-    "$program" link --as-compiled --entry store --entry field pair.o > words 2> told
-    count=$((count + 1))
-    grep -q '^refused E36 at slot [0-9]*: relocations of fields, 1 in all: ' told || complain "fields that are left, by link: $(cat told)"
+    # Of two functions of one name, `store` and what was `count`, a section tells which.
+    sed 's/count/store/g' pair.o > twins.o
+    refused 'refused E30: more than one program in the code section: --entry NAME chooses one: store' link --entry take --entry store twins.o
+    result '0x2a\n' run --object --section prog/two --entry store --entry store twins.o
+    # An object whose `.BTF` doesn't have the name of the first one's section: the linker would find none of its lines and fields.
+    sed 's|prog/one|prog/uno|g' pair.o > renamed.o
+    cmp -s pair.o renamed.o && complain 'no section is renamed'
+    python3 - pair.o renamed.o unnamed.o << 'PYTHON'
+import struct
+import sys
+
+content, renamed = (open(name, 'rb').read() for name in sys.argv[1:3])
+start, = struct.unpack_from('<Q', content, 40)
+count, names = struct.unpack_from('<HH', content, 60)
+of_names, = struct.unpack_from('<Q', content, start + 64 * names + 24)
+size, = struct.unpack_from('<Q', content, start + 64 * names + 32)
+open(sys.argv[3], 'wb').write(content[:of_names] + renamed[of_names:of_names + size] + content[of_names + size:])
+PYTHON
+    refused 'refused E53: malformed section .BTF.ext' link --entry store --entry take unnamed.o
 
     # Damaged objects.
-    python3 "$top/tests/trials/turns.py" "$top/share" pair.o "$program" > found/trial 2>&1 || complain "turns.py: $(tail -n 3 found/trial)"
+    python3 "$top/tests/trials/turns.py" pair.o "$program" > found/trial 2>&1 || complain "turns.py: $(tail -n 3 found/trial)"
     count=$((count + $(sed -n 's/^\([0-9]*\) held$/\1/p' found/trial; echo + 0)))
 done

@@ -1,6 +1,7 @@
 -- Bytes of an object are put together piece by piece.
 use native.Mathlib.Numerals.{unary_clauses}
-use Rattle.std.proofs.Common.{◌≡◌, ◌+◌, ℕ, List, ◌++◌, ap, ◌∙◌}
+use Rattle.std.proofs.Common.{◌≡◌, ◌≤◌, ◌<◌, ◌+◌, ◌*◌, ◌/◌, ℕ, suc, List, ◌++◌, ap, ◌∙◌, arith}
+use Rattle.std.proofs.Math.Nat.{mul-div-le, mul-le-mul_left}
 use Rattle.std.proofs.lemmas.List.{append_assoc}
 use Rattle.bpf_join.specs.Gathered.{gathered}
 use Rattle.bpf_turns.specs.Calls.{calls_of}
@@ -24,9 +25,19 @@ three_pieces start a b c one two three first second third =
 pub two_pieces : (start a b one all : List ℕ) → one ≡ start ++ a → all ≡ one ++ b → all ≡ start ++ (a ++ b)
 two_pieces start a b one all first last = last ∙ (ap (λ o. o ++ b) first ∙ append_assoc start a b)
 
+-- One more piece of all.
+pub gathered_suc : (f : ℕ → List ℕ) (i : ℕ) (old piece new : List ℕ) → new ≡ old ++ piece → piece ≡ f i → old ≡ gathered f i → new ≡ gathered f (suc i)
+gathered_suc f i old piece new told same before = told ∙ (ap (λ p. old ++ p) same ∙ ap (λ o. o ++ f i) before)
+
+-- Of pieces of a size one behind another, each lies within all.
+pub piece_inside : (size j len : ℕ) → j < len / size → size * j + size ≤ len
+piece_inside size j len h =
+    let whole : size * (j + 1) ≤ size * (len / size) = mul-le-mul_left size (omega (arith, h)) in
+    omega (arith, whole, mul-div-le len size)
+
 -- A file whose parts and table are put together.
-pub tabled_is : (source : Source) (seats : List Seat) (calls : List Call) (body : List ℕ) (at : Lies) (all : List ℕ) → all ≡ tabled source calls body at
-    → calls ≡ calls_of source.plan.object seats → body ≡ turned_body source seats → at ≡ lies source seats → all ≡ turned_bytes source seats
-tabled_is source seats calls body at all told called made laid =
+pub tabled_is : (source : Source) (seats : List Seat) (ext : List ℕ) (calls : List Call) (body : List ℕ) (at : Lies) (all : List ℕ) → all ≡ tabled source calls body at
+    → calls ≡ calls_of source.plan.object seats → body ≡ turned_body source seats ext → at ≡ lies source seats ext → all ≡ turned_bytes source seats ext
+tabled_is source seats ext calls body at all told called made laid =
     told ∙ (ap (λ c. tabled source c body at) called ∙ (ap (λ b. tabled source (calls_of source.plan.object seats) b at) made
-    ∙ ap (tabled source (calls_of source.plan.object seats) (turned_body source seats)) laid))
+    ∙ ap (tabled source (calls_of source.plan.object seats) (turned_body source seats ext)) laid))

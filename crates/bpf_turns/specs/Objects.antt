@@ -8,7 +8,7 @@ use Rattle.bpf_link.specs.Images.{with_u64}
 use Rattle.bpf_link.specs.Layout.{symbol_entry}
 use Rattle.bpf_link.specs.MapTypes.{section_bytes}
 use Rattle.bpf_link.specs.Objects.{Elf, no_section, section_at}
-use Rattle.bpf_link.specs.Sections.{is_code, name_at, section_place}
+use Rattle.bpf_link.specs.Sections.{is_code, is_named}
 use Rattle.bpf_link.specs.Tables.{relocation_at, relocations_in}
 use Rattle.bpf_link.specs.declared.layout.RelocationEntry.{RelocationEntry}
 use Rattle.bpf_link.specs.declared.layout.SectionHeader.{SectionHeader}
@@ -60,7 +60,8 @@ turned_symbols calls table = gathered (λ i. turned_symbol calls (raw_at table i
 abbrev pub table_of : Source → List ℕ
 table_of source = slots_of source.plan.object source.table
 
--- A relocation of one of these sections stands where its slot is now; one that lies outside of the section has no place, and is refused as one at no slot.
+-- What stands at a place in one of these sections stands where its slot is now; what lies outside of the section has no place. (A relocation there is refused
+-- as one at no slot.)
 abbrev pub turned_place : Elf → Call → ℕ → ℕ
 turned_place object call offset =
     if nat_lt offset (length (slots_of object call.section)) then on_by call.start offset else 18446744073709551615
@@ -87,7 +88,7 @@ relocations_at source calls i =
 abbrev pub turned_relocations : Source → List Call → List ℕ
 turned_relocations source calls = gathered (relocations_at source calls) (length source.plan.object.sections)
 
--- The file: that of the object, and behind it the code, the symbols and the relocations, and then the table of sections.
+-- The file: that of the object, and behind it the code, the symbols, the relocations and what `.BTF.ext` tells of these, and then the table of sections.
 abbrev pub with_turned_code : Source → List Seat → List ℕ
 with_turned_code source seats = source.plan.object.bytes ++ turned_code source.plan.object seats
 
@@ -95,31 +96,39 @@ abbrev pub with_turned_symbols : Source → List Seat → List ℕ
 with_turned_symbols source seats =
     with_turned_code source seats ++ turned_symbols (calls_of source.plan.object seats) (table_of source)
 
-abbrev pub turned_body : Source → List Seat → List ℕ
-turned_body source seats =
+abbrev pub with_turned_relocations : Source → List Seat → List ℕ
+with_turned_relocations source seats =
     with_turned_symbols source seats ++ turned_relocations source (calls_of source.plan.object seats)
 
-abbrev pub lies : Source → List Seat → Lies
-lies source seats = record {
+abbrev pub turned_body : Source → List Seat → List ℕ → List ℕ
+turned_body source seats ext = with_turned_relocations source seats ++ ext
+
+abbrev pub lies : Source → List Seat → List ℕ → Lies
+lies source seats ext = record {
   code = length source.plan.object.bytes;
   symbols = length (with_turned_code source seats);
   relocations = length (with_turned_symbols source seats);
-  end = length (turned_body source seats);
+  ext = length (with_turned_relocations source seats);
+  end = length (turned_body source seats ext);
 }
 
 abbrev pub lies_at : SectionHeader → ℕ → ℕ → SectionHeader
 lies_at it from to = record it { offset = from; size = to - from }
 
--- Gone are the sections of code, but for `.text` where none of its programs is called; the relocations of those that are called; and `.BTF.ext`, which
--- tells places of instructions.
-abbrev pub is_called : Elf → SectionHeader → List ℕ → Bool
-is_called object it name = name_at object.bytes (section_place object it) name
+-- `.BTF.ext` tells places of instructions; what has relocations of it says no more than its numbers do.
+abbrev pub is_ext : Elf → SectionHeader → Bool
+is_ext object it = is_named object it (codes ".BTF.ext")
 
+abbrev pub relocates_ext : Elf → SectionHeader → Bool
+relocates_ext object it =
+    ((it.kind == 9) || (it.kind == 4)) && (nat_lt it.info (length object.sections) && is_ext object (section_at object it.info))
+
+-- Gone are the sections of code, but for `.text` where none of its programs is called; the relocations of those that are called; and those of `.BTF.ext`.
 abbrev pub is_gone : Source → List Call → ℕ → SectionHeader → Bool
 is_gone source calls i it =
     is_some (call_index calls i)
-    || ((is_code it && not (is_called source.plan.object it (codes ".text")))
-    || ((relocates source it && is_some (call_index calls it.info)) || is_called source.plan.object it (codes ".BTF.ext")))
+    || ((is_code it && not (is_named source.plan.object it (codes ".text")))
+    || ((relocates source it && is_some (call_index calls it.info)) || relocates_ext source.plan.object it))
 
 -- What else has relocations of these sections has those of the one section, and is refused with that.
 abbrev pub refers : List Call → SectionHeader → Bool
@@ -133,7 +142,8 @@ turned_header source calls at i =
     let it = section_at source.plan.object i in
     if i == into calls then lies_at it at.code at.symbols
     else (if i == source.table then lies_at it at.symbols at.relocations
-    else (if is_gone source calls i it then no_section else kept_header calls it))
+    else (if is_ext source.plan.object it then lies_at it at.ext at.end
+    else (if is_gone source calls i it then no_section else kept_header calls it)))
 
 abbrev pub last_header : Source → List Call → Lies → SectionHeader
 last_header source calls at = record {
@@ -141,7 +151,7 @@ last_header source calls at = record {
   kind = 9;
   flags = 0;
   offset = at.relocations;
-  size = at.end - at.relocations;
+  size = at.ext - at.relocations;
   link = source.table;
   info = into calls;
 }
@@ -156,5 +166,6 @@ abbrev pub tabled : Source → List Call → List ℕ → Lies → List ℕ
 tabled source calls body at =
     with_u16 (with_u64 (body ++ turned_headers source calls at) 40 at.end) 60 (length source.plan.object.sections + 1)
 
-abbrev pub turned_bytes : Source → List Seat → List ℕ
-turned_bytes source seats = tabled source (calls_of source.plan.object seats) (turned_body source seats) (lies source seats)
+abbrev pub turned_bytes : Source → List Seat → List ℕ → List ℕ
+turned_bytes source seats ext =
+    tabled source (calls_of source.plan.object seats) (turned_body source seats ext) (lies source seats ext)

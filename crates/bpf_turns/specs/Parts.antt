@@ -1,5 +1,5 @@
 -- Scaffolding: the parts of an object whose programs are called in turn. No public contract cites this.
-use Rattle.std.specs.Prelude.{◌≡◌, ◌≤◌, ◌<◌, List, length}
+use Rattle.std.specs.Prelude.{◌≡◌, ◌≤◌, ◌<◌, ℕ, List, length}
 use Rattle.bpf_turns.specs.Objects.{lies, turned_body}
 use Rattle.bpf_turns.specs.declared.seats.Seat.{Seat}
 use Rattle.bpf_turns.specs.declared.headers.Lies.{Lies}
@@ -16,11 +16,12 @@ pub record HasRoom (source : Source) : Type 0 where
 pub record AreLaid (at : Lies) : Type 0 where
   pub code : at.code ≤ at.symbols
   pub symbols : at.symbols ≤ at.relocations
-  pub relocations : at.relocations ≤ at.end
+  pub relocations : at.relocations ≤ at.ext
+  pub ext : at.ext ≤ at.end
 
 -- They are put together.
-pub record AreParts (source : Source) (seats : List Seat) (it : Parts) : Type 0 where
-  pub bytes : it.bytes.items ≡ turned_body source seats
-  pub at_is : it.at ≡ lies source seats
+pub record AreParts (source : Source) (seats : List Seat) (ext : List ℕ) (it : Parts) : Type 0 where
+  pub bytes : it.bytes.items ≡ turned_body source seats ext
+  pub at_is : it.at ≡ lies source seats ext
   pub laid : AreLaid it.at
   pub header : length source.plan.object.bytes ≤ length it.bytes.items

@@ -1,21 +1,20 @@
 -- Programs of an object in turn: when there is an object that calls them, and why there is none.
-use Rattle.std.specs.Prelude.{◌≡◌, ◌⊎◌, ℕ, zero, suc, ◌+◌, ◌*◌, nat_le, nat_lt, Bool, false, ◌&&◌, if◌then◌else◌, List, [], Result, Ok, Err, get_or, length}
+use Rattle.std.specs.Prelude.{◌≡◌, ◌⊎◌, ℕ, ◌+◌, ◌*◌, ◌==◌, nat_le, nat_lt, Bool, true, false, not, ◌&&◌, List, Result, Ok, Err, length}
 use Rattle.bpf_isa.specs.Checker.{most_slots}
-use Rattle.bpf_link.specs.FieldRelocations.{AreLeft, IsFieldsFault}
 use Rattle.bpf_link.specs.Links.{planned}
-use Rattle.bpf_link.specs.MapTypes.{name_from}
-use Rattle.bpf_link.specs.Objects.{provided, section_at}
+use Rattle.bpf_link.specs.Objects.{provided}
 use Rattle.bpf_link.specs.Plans.{after}
-use Rattle.bpf_link.specs.Sections.{section_place}
 use Rattle.bpf_link.specs.declared.fault.LinkFault.{LinkFault}
 use Rattle.bpf_link.specs.declared.fault.LinkFault.TheVariants.{Memory, NoEntry, SectionTable, SymbolTable, TooLong}
 use Rattle.bpf_link.specs.declared.plan.Plan.{Plan}
 use Rattle.bpf_link.specs.declared.sections.Found.{Found}
 use Rattle.bpf_link.specs.declared.sections.Found.TheVariants.{Only}
-use Rattle.bpf_turns.specs.Calls.{no_seat, slots_before}
+use Rattle.bpf_turns.specs.Calls.{calls_of, slots_before}
+use Rattle.bpf_turns.specs.Ext.{HasMovedExt, IsUnmoved}
 use Rattle.bpf_turns.specs.Objects.{turned_bytes}
-use Rattle.bpf_turns.specs.Seats.{seats_of}
+use Rattle.bpf_turns.specs.Seats.{IsSeatFault, seats_of}
 use Rattle.bpf_turns.specs.declared.seats.Seat.{Seat}
+use Rattle.bpf_turns.specs.declared.seats.TurnFault.{TurnFault}
 use Rattle.bpf_turns.specs.declared.source.Source.{Source}
 
 -- There is room for another section, the symbols are one, and the file has a header.
@@ -27,13 +26,23 @@ has_room source =
 abbrev pub source_at : Source → Result Source LinkFault
 source_at source = provided (has_room source) SectionTable (Ok source)
 
-abbrev pub source_in : Plan → Found → Result Source LinkFault
-source_in plan (Only table) = source_at (record { plan = plan; table = table })
-source_in plan _ = Err SymbolTable
+abbrev pub source_in : Plan → Bool → Found → Result Source LinkFault
+source_in plan only (Only table) = source_at (record { plan = plan; only = only; table = table })
+source_in plan only _ = Err SymbolTable
 
 -- The object with its symbols, by the plan of one of its sections of code; those of the others have the same ones.
-abbrev pub source_of : List ℕ → List ℕ → Result Source LinkFault
-source_of bytes section = after (planned bytes section) (λ plan. source_in plan plan.table)
+abbrev pub source_of : List ℕ → List ℕ → Bool → Result Source LinkFault
+source_of bytes section only = after (planned bytes section) (λ plan. source_in plan only plan.table)
+
+-- That is the section that is asked for, to which all programs belong then; or any one, where none is.
+abbrev pub Opens : Bool → List ℕ → List ℕ → Type 0
+Opens true section opened = Unit {0}
+Opens false section opened = opened ≡ section
+
+pub record IsSource (bytes section : List ℕ) (answer : Result Source LinkFault) : Type 0 where
+  pub opened : List ℕ
+  pub opens : Opens (length section == 0) section opened
+  pub source : source_of bytes opened (not (length section == 0)) ≡ answer
 
 -- There are programs, and the code isn't longer than a program may be.
 abbrev pub fits : Source → List Seat → Bool
@@ -41,46 +50,34 @@ fits source seats =
     nat_le (length seats) most_slots
     && nat_le (5 * length seats + 3 + slots_before source.plan.object seats (length source.plan.object.sections)) most_slots
 
-abbrev pub fitted : Source → List Seat → Result (List ℕ) LinkFault
-fitted source seats =
-    provided (nat_lt 0 (length seats)) NoEntry (provided (fits source seats) TooLong (Ok (turned_bytes source seats)))
+abbrev pub fitted : Source → List Seat → Result (List Seat) LinkFault
+fitted source seats = provided (nat_lt 0 (length seats)) NoEntry (provided (fits source seats) TooLong (Ok seats))
 
--- The name of the section in which a program lies.
-abbrev pub section_name : Plan → ℕ → List ℕ
-section_name plan section =
-    if nat_lt section (length plan.object.sections)
-    then name_from plan.object.bytes (section_place plan.object (section_at plan.object section)) else []
-
--- The sections of the first n programs have no relocations of fields, with those of `.text` that they call.
-abbrev pub HaveNoFields : Plan → List Seat → ℕ → Type 0
-HaveNoFields plan seats zero = Unit {0}
-HaveNoFields plan seats (suc n) = HaveNoFields plan seats n
-    × ((left : ℕ) × AreLeft plan.object.bytes (section_name plan (get_or seats n no_seat).section) false left)
-
--- The object of the programs that some texts name.
+-- The programs that some texts name, and their object, with what `.BTF.ext` tells of it.
 pub record IsTurnedFrom (source : Source) (texts : List (List ℕ)) (all : List ℕ) : Type 0 where
   pub seats : List Seat
-  pub are_seats : seats_of source.plan texts ≡ Ok seats
-  pub no_fields : HaveNoFields source.plan seats (length seats)
-  pub made : fitted source seats ≡ Ok all
+  pub are_seats : seats_of source.plan source.only texts ≡ Ok seats
+  pub fit : fitted source seats ≡ Ok seats
+  pub ext : List ℕ
+  pub moved : HasMovedExt source.plan (calls_of source.plan.object seats) ext
+  pub made : all ≡ turned_bytes source seats ext
 
-pub record IsTurned (bytes : List ℕ) (texts : List (List ℕ)) (all : List ℕ) : Type 0 where
-  pub section : List ℕ
+pub record IsTurned (bytes section : List ℕ) (texts : List (List ℕ)) (all : List ℕ) : Type 0 where
   pub source : Source
-  pub is_source : source_of bytes section ≡ Ok source
+  pub is_source : IsSource bytes section (Ok source)
   pub turned : IsTurnedFrom source texts all
 
--- Why there is none: the programs aren't there, one of their sections has relocations of fields, or all of it is too much.
-abbrev pub HasFields : Plan → LinkFault → Type 0
-HasFields plan fault = (section : ℕ) × IsFieldsFault plan.object.bytes (section_name plan section) false fault
+-- Why there is none: one of the programs isn't there, all of it is too much, or `.BTF.ext` is malformed; or memory ran out.
+abbrev pub IsObjectFault : Source → List Seat → LinkFault → Type 0
+IsObjectFault source seats fault =
+    (fitted source seats ≡ Err fault) ⊎ ((fault ≡ Memory) ⊎ IsUnmoved source.plan (calls_of source.plan.object seats) fault)
 
-abbrev pub IsSourceFault : Source → List (List ℕ) → LinkFault → Type 0
-IsSourceFault source texts fault =
-    (seats_of source.plan texts ≡ Err fault)
-    ⊎ (HasFields source.plan fault ⊎ ((seats : List Seat) × (seats_of source.plan texts ≡ Ok seats) × (fitted source seats ≡ Err fault)))
+abbrev pub IsSourceFault : Source → List (List ℕ) → TurnFault → Type 0
+IsSourceFault source texts told =
+    IsSeatFault source.plan source.only texts told
+    ⊎ ((seats : List Seat) × (seats_of source.plan source.only texts ≡ Ok seats) × IsObjectFault source seats told.fault × (told.which ≡ length texts))
 
-abbrev pub IsTurnFault : List ℕ → List (List ℕ) → LinkFault → Type 0
-IsTurnFault bytes texts fault =
-    (fault ≡ Memory)
-    ⊎ ((section : List ℕ) × ((source_of bytes section ≡ Err fault)
-    ⊎ ((source : Source) × (source_of bytes section ≡ Ok source) × IsSourceFault source texts fault)))
+abbrev pub IsTurnFault : List ℕ → List ℕ → List (List ℕ) → TurnFault → Type 0
+IsTurnFault bytes section texts told =
+    (IsSource bytes section (Err told.fault) × (told.which ≡ length texts))
+    ⊎ ((source : Source) × IsSource bytes section (Ok source) × IsSourceFault source texts told)

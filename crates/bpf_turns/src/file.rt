@@ -1,15 +1,16 @@
 //! The file of a turned object.
-ghost use Rattle.std.specs.Prelude.{◌≡◌, ◌≤◌, IfErr, IfOk, IsTrue, Ok, length};
+ghost use Rattle.std.specs.Prelude.{◌≡◌, ◌≤◌, ◌⊎◌, Err, IfErr, IfOk, IsTrue, List, Ok, OnOk, length, ℕ};
 ghost use Rattle.bpf_isa.specs.Checker.{most_slots};
-ghost use Rattle.bpf_link.specs.Links.{MemoryOr};
 ghost use Rattle.bpf_link.specs.declared.fault.LinkFault.TheVariants.{Memory};
 ghost use Rattle.bpf_turns.specs.Calls.{calls_of as calls_for};
+ghost use Rattle.bpf_turns.specs.Ext.{HasMovedExt, IsUnmoved};
 ghost use Rattle.bpf_turns.specs.Objects.{tabled, turned_bytes, with_turned_code};
 ghost use Rattle.bpf_turns.specs.Parts.{AreLaid, AreParts, HasRoom};
 ghost use Rattle.bpf_turns.specs.Turned.{fits, fitted};
 
 use crate::calls::{Call, calls_of, slots_before};
 use crate::code::turned_code;
+use crate::ext::moved_ext;
 use crate::headers::{Lies, with_headers};
 use crate::parts::{with, with_u16, with_u64};
 use crate::relocations::with_relocations;
@@ -55,10 +56,11 @@ fn put_parts(
     source: &Source<'_>,
     seats: &[Seat],
     calls: &[Call],
+    ext: &[u8],
 ) -> Result<Parts, LinkFault>
     requires calls { calls.now ≡ calls_for source.now.plan.object seats.now }
     requires few { length calls.now ≤ most_slots }
-    ensures ok { IfOk result (AreParts source.now seats.now) }
+    ensures ok { IfOk result (AreParts source.now seats.now ext.now) }
     ensures err { IfErr result (λ fault. fault ≡ Memory) }
 {
     let coded = match with_code(alloc, source, seats, calls) {
@@ -71,7 +73,12 @@ fn put_parts(
         Err(fault) => return Err(fault),
     };
     let relocations = marked.len();
-    let bytes = match with_relocations(source, calls, marked) {
+    let related = match with_relocations(source, calls, marked) {
+        Ok(related) => related,
+        Err(fault) => return Err(fault),
+    };
+    let told = related.len();
+    let bytes = match with(related, ext) {
         Ok(bytes) => bytes,
         Err(fault) => return Err(fault),
     };
@@ -79,6 +86,7 @@ fn put_parts(
         code: source.plan.object.bytes().len(),
         symbols,
         relocations,
+        ext: told,
         end: bytes.len(),
     };
     Ok(Parts { bytes, at })
@@ -100,22 +108,49 @@ fn with_table(source: &Source<'_>, calls: &[Call], parts: Parts) -> Result<Vec<u
     }
 }
 
-/// The new file.
-fn turned_bytes(alloc: Global, source: &Source<'_>, seats: &[Seat]) -> Result<Vec<u8>, LinkFault>
+/// The new file, with what `.BTF.ext` tells of it.
+fn turned_bytes(
+    alloc: Global,
+    source: &Source<'_>,
+    seats: &[Seat],
+    calls: &[Call],
+    ext: &[u8],
+) -> Result<Vec<u8>, LinkFault>
+    requires calls { calls.now ≡ calls_for source.now.plan.object seats.now }
+    requires few { length calls.now ≤ most_slots }
+    requires room { HasRoom source.now }
+    ensures ok { IfOk result (λ bytes. bytes.items ≡ turned_bytes source.now seats.now ext.now) }
+    ensures err { IfErr result (λ fault. fault ≡ Memory) }
+{
+    let parts = match put_parts(alloc, source, seats, calls, ext) {
+        Ok(parts) => parts,
+        Err(fault) => return Err(fault),
+    };
+    match with_table(source, calls, parts) {
+        Ok(all) => Ok(all),
+        Err(fault) => Err(fault),
+    }
+}
+
+/// The new file of programs.
+pub fn turned_file(alloc: Global, source: &Source<'_>, seats: &[Seat]) -> Result<Vec<u8>, LinkFault>
     requires few { length seats.now ≤ most_slots }
     requires room { HasRoom source.now }
-    ensures ok { IfOk result (λ bytes. bytes.items ≡ turned_bytes source.now seats.now) }
-    ensures err { IfErr result (λ fault. fault ≡ Memory) }
+    ensures ok { IfOk result (λ all. (ext : List ℕ)
+        × HasMovedExt source.now.plan (calls_for source.now.plan.object seats.now) ext
+        × (all.items ≡ turned_bytes source.now seats.now ext)) }
+    ensures err { IfErr result (λ fault. (fault ≡ Memory)
+        ⊎ IsUnmoved source.now.plan (calls_for source.now.plan.object seats.now) fault) }
 {
     let calls = match calls_of(alloc, &source.plan.object, seats) {
         Ok(calls) => calls,
         Err(fault) => return Err(fault),
     };
-    let parts = match put_parts(alloc, source, seats, calls.as_slice()) {
-        Ok(parts) => parts,
+    let ext = match moved_ext(alloc, &source.plan, calls.as_slice()) {
+        Ok(ext) => ext,
         Err(fault) => return Err(fault),
     };
-    match with_table(source, calls.as_slice(), parts) {
+    match turned_bytes(alloc, source, seats, calls.as_slice(), ext.as_slice()) {
         Ok(all) => Ok(all),
         Err(fault) => Err(fault),
     }
@@ -133,11 +168,11 @@ fn fits(source: &Source<'_>, seats: &[Seat]) -> bool
     5 * seats.len() + 3 + behind as usize <= MOST_SLOTS
 }
 
-/// The new file, if there are programs and room for them.
-pub fn fitted(alloc: Global, source: &Source<'_>, seats: &[Seat]) -> Result<Vec<u8>, LinkFault>
-    requires { HasRoom source.now }
-    ensures ok { IfOk result (λ bytes. fitted source.now seats.now ≡ Ok bytes.items) }
-    ensures err { IfErr result (MemoryOr (fitted source.now seats.now)) }
+/// Refuses where there are no programs, or no room for them.
+pub fn fitted(source: &Source<'_>, seats: &[Seat]) -> Result<(), LinkFault>
+    ensures ok { OnOk result (fitted source.now seats.now ≡ Ok seats.now) }
+    ensures few { OnOk result (length seats.now ≤ most_slots) }
+    ensures err { IfErr result (λ fault. fitted source.now seats.now ≡ Err fault) }
 {
     if seats.is_empty() {
         return Err(LinkFault::NoEntry);
@@ -145,8 +180,5 @@ pub fn fitted(alloc: Global, source: &Source<'_>, seats: &[Seat]) -> Result<Vec<
     if !fits(source, seats) {
         return Err(LinkFault::TooLong);
     }
-    match turned_bytes(alloc, source, seats) {
-        Ok(bytes) => Ok(bytes),
-        Err(fault) => Err(fault),
-    }
+    Ok(())
 }

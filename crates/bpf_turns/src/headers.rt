@@ -2,18 +2,18 @@
 ghost use Rattle.std.specs.Prelude.{◌≡◌, ◌≤◌, ◌<◌, ◌++◌, IfErr, IfOk, length};
 ghost use Rattle.bpf_join.specs.Gathered.{gathered};
 ghost use Rattle.bpf_join.specs.Tables.{header_bytes};
-ghost use Rattle.bpf_link.specs.Sections.{section_place};
 ghost use Rattle.bpf_link.specs.declared.fault.LinkFault.TheVariants.{Memory};
-ghost use Rattle.bpf_turns.specs.Objects.{is_called, is_gone, kept_header, last_header, lies_at, refers, turned_header, turned_headers};
+ghost use Rattle.bpf_turns.specs.Objects.{is_ext, is_gone, kept_header, last_header, lies_at, refers, relocates_ext, turned_header, turned_headers};
 ghost use Rattle.bpf_turns.specs.Parts.{AreLaid, HasRoom};
 
 use crate::calls::Call;
 use crate::code::{call_index, into};
+use crate::names::is_named;
 use crate::parts::with_header;
 use crate::relocations::relocates;
 use crate::seats::is_code;
 use crate::source::Source;
-use bpf_link::{LinkFault, Object, SectionHeader, name_at};
+use bpf_link::{LinkFault, Object, SectionHeader};
 
 /// A section that isn't there.
 const NO_SECTION: SectionHeader = SectionHeader {
@@ -35,28 +35,31 @@ pub struct Lies {
     pub symbols: usize,
     /// The relocations of the code.
     pub relocations: usize,
+    /// What `.BTF.ext` tells.
+    pub ext: usize,
     /// The table of sections.
     pub end: usize,
 }
 
-/// Where the name of a section stands in the file, or the file's end.
-pub fn section_place(object: &Object<'_>, section: &SectionHeader) -> usize
-    ensures value { result ≡ section_place object.now section.now }
-    ensures inside { result ≤ length object.now.bytes }
+/// Whether a section tells places of instructions.
+fn is_ext(object: &Object<'_>, it: &SectionHeader) -> bool
+    ensures { result ≡ is_ext object.now it.now }
 {
-    let len = object.bytes().len();
-    let offset = section.name as usize;
-    if offset > len - object.names() {
-        return len;
-    }
-    object.names() + offset
+    is_named(object, it, b".BTF.ext")
 }
 
-/// Whether a section has a name.
-fn is_called(object: &Object<'_>, it: &SectionHeader, name: &[u8]) -> bool
-    ensures { result ≡ is_called object.now it.now name.now }
+/// Whether a section has relocations of one that does.
+fn relocates_ext(object: &Object<'_>, it: &SectionHeader) -> bool
+    ensures { result ≡ relocates_ext object.now it.now }
 {
-    name_at(object.bytes(), section_place(object, it), name)
+    if it.kind != 9 && it.kind != 4 {
+        return false;
+    }
+    let of = it.info as usize;
+    if of >= object.len() {
+        return false;
+    }
+    is_ext(object, &object.section(of))
 }
 
 /// Whether a section is there no longer.
@@ -66,13 +69,13 @@ fn is_gone(source: &Source<'_>, calls: &[Call], i: usize, it: &SectionHeader) ->
     if call_index(calls, i).is_some() {
         return true;
     }
-    if is_code(it) && !is_called(&source.plan.object, it, b".text") {
+    if is_code(it) && !is_named(&source.plan.object, it, b".text") {
         return true;
     }
     if relocates(source, it) && call_index(calls, it.info as usize).is_some() {
         return true;
     }
-    is_called(&source.plan.object, it, b".BTF.ext")
+    relocates_ext(&source.plan.object, it)
 }
 
 /// Whether a section has relocations of code that is called.
@@ -120,6 +123,9 @@ fn turned_header(source: &Source<'_>, calls: &[Call], at: &Lies, i: usize) -> Se
     if i == source.table {
         return lies_at(&it, at.symbols, at.relocations);
     }
+    if is_ext(&source.plan.object, &it) {
+        return lies_at(&it, at.ext, at.end);
+    }
     if is_gone(source, calls, i, &it) {
         return NO_SECTION;
     }
@@ -160,7 +166,7 @@ fn last_header(source: &Source<'_>, calls: &[Call], at: &Lies) -> SectionHeader
         kind: 9,
         flags: 0,
         offset: at.relocations as u64,
-        size: (at.end - at.relocations) as u64,
+        size: (at.ext - at.relocations) as u64,
         link: source.table as u32,
         info: u32::from(into(calls)),
     }

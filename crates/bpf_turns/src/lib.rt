@@ -1,10 +1,13 @@
 //! An object whose one program calls programs of another object in turn.
 #![tactic(auto)]
 
+mod blocks;
 mod calls;
 mod code;
+mod ext;
 mod file;
 mod headers;
+mod names;
 mod object;
 mod parts;
 mod relocations;
@@ -13,3 +16,4 @@ mod source;
 mod symbols;
 
 pub use object::turned;
+pub use seats::TurnFault;

@@ -5,6 +5,8 @@ ghost use Rattle.bpf_join.specs.Symbols.{raw_at, with_u16};
 ghost use Rattle.bpf_join.specs.Tables.{entry_size, header_bytes};
 ghost use Rattle.bpf_link.specs.Images.{with_u64};
 ghost use Rattle.bpf_link.specs.declared.fault.LinkFault.TheVariants.{Memory};
+ghost use Rattle.byteorder.specs.Endian.{little_bytes};
+ghost use Rattle.bpf_turns.specs.Blocks.{number};
 ghost use Rattle.bpf_turns.specs.Objects.{symbol_bytes};
 
 use bpf_link::{LinkFault, SectionHeader};
@@ -30,6 +32,23 @@ pub fn with(mut bytes: Vec<u8>, more: &[u8]) -> Result<Vec<u8>, LinkFault>
         Ok(()) => Ok(bytes),
         Err(_) => Err(LinkFault::Memory),
     }
+}
+
+/// The bytes of a number.
+fn word_bytes(word: u32) -> [u8; 4]
+    ensures { result ≡ little_bytes 4 word }
+{
+    let mut bytes = [0; 4];
+    LittleEndian::write_u32(&mut bytes, word);
+    bytes
+}
+
+/// Bytes with a number of 32 bits, the greatest one in place of a greater one.
+pub fn with_number(bytes: Vec<u8>, n: u64) -> Result<Vec<u8>, LinkFault>
+    ensures ok { IfOk result (λ new. new.items ≡ bytes.items ++ number n) }
+    ensures err { IfErr result (λ fault. fault ≡ Memory) }
+{
+    with(bytes, &word_bytes(n.min(4_294_967_295) as u32))
 }
 
 /// The bytes of a symbol of a table.

@@ -11,8 +11,8 @@ use crate::source::Source;
 use crate::symbols::on_by;
 use bpf_link::{LinkFault, Object, RelocationEntry, Relocations, SectionHeader, section_bytes};
 
-/// Where a relocation stands.
-fn turned_place(object: &Object<'_>, call: &Call, offset: u64) -> u64
+/// Where a place in the section of a call is now; one that lies outside of it has none.
+pub fn turned_place(object: &Object<'_>, call: &Call, offset: u64) -> u64
     ensures { result ≡ turned_place object.now call.now offset }
 {
     if offset < slots_of(object, usize::from(call.section)).len() as u64 {

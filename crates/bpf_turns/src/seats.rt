@@ -2,13 +2,13 @@
 ghost use Rattle.std.specs.Prelude.{◌≡◌, IfErr, IfOk, Ok, length, map};
 ghost use Rattle.bpf_link.specs.Links.{MemoryOr};
 ghost use Rattle.bpf_link.specs.Sections.{FoundBelow, found, is_code};
-ghost use Rattle.bpf_turns.specs.Seats.{is_code_at, is_turn, seat_at, seat_in, seat_of, seats_of, slots_of, with_named};
+ghost use Rattle.bpf_turns.specs.Seats.{IsSeatFault, is_code_at, is_turn, seat_at, seat_in, seat_of, seats_of, slots_of, with_named};
 ghost use Rattle.turn_texts.specs.Texts.{name_in, offset_in};
 
 use bpf_isa::MOST_SLOTS;
 use bpf_link::{
-    Found, LinkFault, Object, Plan, SectionHeader, SymbolEntry, is_closed, name_at, section_bytes,
-    symbol_place,
+    Found, LinkFault, Object, Plan, SectionHeader, Side, SymbolEntry, is_closed, name_at,
+    section_bytes, symbol_place,
 };
 use std::alloc::Global;
 use turn_texts::{name_in, offset_in};
@@ -22,6 +22,14 @@ pub struct Seat {
     pub slot: u16,
     /// The place of the context at which it finds its own one, in bytes.
     pub offset: u16,
+}
+
+/// Why programs aren't called in turn.
+#[derive(Clone, Copy)]
+pub struct TurnFault {
+    /// Which one of them it is, or how many there are where it is none of them.
+    pub which: usize,
+    pub fault: LinkFault,
 }
 
 /// Whether a section holds instructions.
@@ -41,26 +49,30 @@ fn is_code_at(object: &Object<'_>, section: usize) -> bool
     is_code(&object.section(section))
 }
 
-/// Whether a symbol is the function of a name.
-fn is_turn(plan: &Plan<'_>, name: &[u8], symbol: &SymbolEntry) -> bool
-    ensures { result ≡ is_turn plan.now name.now symbol.now }
+/// Whether a symbol is the function of a name, in the section of the plan, if only that counts.
+fn is_turn(plan: &Plan<'_>, only: bool, name: &[u8], symbol: &SymbolEntry) -> bool
+    ensures { result ≡ is_turn plan.now only name.now symbol.now }
 {
+    let section = usize::from(symbol.section);
     if symbol.kind != 2 {
         return false;
     }
-    is_code_at(&plan.object, usize::from(symbol.section))
+    if only && section != plan.parts.part(Side::Code).section {
+        return false;
+    }
+    is_code_at(&plan.object, section)
         && name_at(plan.object.bytes(), symbol_place(plan, symbol), name)
 }
 
 /// The symbols that are the function of a name.
-fn turn_found(plan: &Plan<'_>, name: &[u8]) -> Found
-    ensures value { result ≡ found (is_turn plan.now name.now) plan.now.symbols }
+fn turn_found(plan: &Plan<'_>, only: bool, name: &[u8]) -> Found
+    ensures value { result ≡ found (is_turn plan.now only name.now) plan.now.symbols }
     ensures within { FoundBelow (length plan.now.symbols) result }
 {
     let mut found = Found::Nothing;
     for i in 0..plan.symbols.len() {
         let symbol = plan.symbols.at(i);
-        found = found.with(is_turn(plan, name, &symbol), i);
+        found = found.with(is_turn(plan, only, name, &symbol), i);
     }
     found
 }
@@ -115,21 +127,26 @@ fn seat_at(plan: &Plan<'_>, offset: u16, found: Found) -> Result<Seat, LinkFault
 }
 
 /// Where the program lies that a text names.
-fn seat_of(plan: &Plan<'_>, text: &[u8]) -> Result<Seat, LinkFault>
-    ensures { result ≡ seat_of plan.now (name_in text.now) (offset_in text.now) }
+fn seat_of(plan: &Plan<'_>, only: bool, text: &[u8]) -> Result<Seat, LinkFault>
+    ensures { result ≡ seat_of plan.now only (name_in text.now) (offset_in text.now) }
 {
     match offset_in(text) {
         None => Err(LinkFault::NoEntry),
-        Some(offset) => seat_at(plan, offset, turn_found(plan, name_in(text))),
+        Some(offset) => seat_at(plan, offset, turn_found(plan, only, name_in(text))),
     }
 }
 
 /// Places of programs with that of one more.
-fn with_named(plan: &Plan<'_>, text: &[u8], mut seats: Vec<Seat>) -> Result<Vec<Seat>, LinkFault>
-    ensures ok { IfOk result (λ new. with_named plan.now text.now seats.items ≡ Ok new.items) }
-    ensures err { IfErr result (MemoryOr (with_named plan.now text.now seats.items)) }
+fn with_named(
+    plan: &Plan<'_>,
+    only: bool,
+    text: &[u8],
+    mut seats: Vec<Seat>,
+) -> Result<Vec<Seat>, LinkFault>
+    ensures ok { IfOk result (λ new. with_named plan.now only text.now seats.items ≡ Ok new.items) }
+    ensures err { IfErr result (MemoryOr (with_named plan.now only text.now seats.items)) }
 {
-    let seat = match seat_of(plan, text) {
+    let seat = match seat_of(plan, only, text) {
         Ok(seat) => seat,
         Err(fault) => return Err(fault),
     };
@@ -139,18 +156,23 @@ fn with_named(plan: &Plan<'_>, text: &[u8], mut seats: Vec<Seat>) -> Result<Vec<
     }
 }
 
-/// Where the programs lie that texts name, in their order.
-pub fn seats_of(alloc: Global, plan: &Plan<'_>, texts: &[&str]) -> Result<Vec<Seat>, LinkFault>
+/// Where the programs lie that texts name, in their order: in any section of code, or in that of
+/// the plan alone.
+pub fn seats_of(
+    alloc: Global,
+    plan: &Plan<'_>,
+    only: bool,
+    texts: &[&str],
+) -> Result<Vec<Seat>, TurnFault>
     ensures ok { IfOk result (λ seats.
-        seats_of plan.now (map (λ text. text.now) texts.now) ≡ Ok seats.items) }
-    ensures err { IfErr result (MemoryOr
-        (seats_of plan.now (map (λ text. text.now) texts.now))) }
+        seats_of plan.now only (map (λ text. text.now) texts.now) ≡ Ok seats.items) }
+    ensures err { IfErr result (IsSeatFault plan.now only (map (λ text. text.now) texts.now)) }
 {
     let mut seats = Vec::new(alloc);
     for k in 0..texts.len() {
-        match with_named(plan, texts[k].as_bytes(), seats) {
+        match with_named(plan, only, texts[k].as_bytes(), seats) {
             Ok(new) => seats = new,
-            Err(fault) => return Err(fault),
+            Err(fault) => return Err(TurnFault { which: k, fault }),
         }
     }
     Ok(seats)

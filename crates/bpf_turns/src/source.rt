@@ -10,6 +10,8 @@ use bpf_link::{Found, LinkFault, Plan, planned};
 pub struct Source<'a> {
     /// The plan of one of its sections of code.
     pub plan: Plan<'a>,
+    /// Whether its programs are those of that section alone.
+    pub only: bool,
     /// The section of symbols.
     pub table: usize,
 }
@@ -34,24 +36,24 @@ fn source_at<'a>(source: Source<'a>) -> Result<Source<'a>, LinkFault>
 }
 
 /// The object of a plan, with its symbols.
-fn source_in<'a>(plan: Plan<'a>) -> Result<Source<'a>, LinkFault>
-    ensures value { result ≡ source_in plan.entry plan.entry.table }
+fn source_in<'a>(plan: Plan<'a>, only: bool) -> Result<Source<'a>, LinkFault>
+    ensures value { result ≡ source_in plan.entry only plan.entry.table }
     ensures room { IfOk result HasRoom }
 {
     match plan.table {
-        Found::Only(table) => source_at(Source { plan, table }),
+        Found::Only(table) => source_at(Source { plan, only, table }),
         Found::Nothing => Err(LinkFault::SymbolTable),
         Found::Several => Err(LinkFault::SymbolTable),
     }
 }
 
-/// The object in a file, by the plan of a section of code.
-pub fn source_of<'a>(bytes: &'a [u8], section: &[u8]) -> Result<Source<'a>, LinkFault>
-    ensures value { result ≡ source_of bytes.now section.now }
+/// The object in a file, by the plan of a section of code, whose programs may be all that count.
+pub fn source_of<'a>(bytes: &'a [u8], section: &[u8], only: bool) -> Result<Source<'a>, LinkFault>
+    ensures value { result ≡ source_of bytes.now section.now only }
     ensures room { IfOk result HasRoom }
 {
     match planned(bytes, section) {
-        Ok(plan) => source_in(plan),
+        Ok(plan) => source_in(plan, only),
         Err(fault) => Err(fault),
     }
 }

@@ -158,7 +158,7 @@ fn do_over_file<R: Read, W: Write, E: Write>(
     }
     let bytes = match turned_file(alloc, plan, loaded.file) {
         Ok(bytes) => bytes,
-        Err(fault) => return refuse_turns(loaded.file, fault, errors),
+        Err(fault) => return refuse_turns(plan, loaded.file, fault, errors),
     };
     let turned = Loaded {
         file: bytes.as_slice(),

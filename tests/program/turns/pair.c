@@ -1,4 +1,4 @@
-/* Programs in sections of their own, for bpfdb-turns: what one of them stores another finds. */
+/* Programs in sections of their own: what one of them stores another finds. */
 typedef unsigned long long u64;
 
 #define SECTION(name) __attribute__((section("prog/" name), used))

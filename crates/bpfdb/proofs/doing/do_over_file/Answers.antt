@@ -14,13 +14,13 @@ returns-then-not-is_turned-clause-does g c =
 pub returns-in-Err-clause-does : goal.returns-in-Err-clause-does
 returns-in-Err-clause-does g c =
     let told = c.refuse_turns.ensures.told in
-    Unturned (Refused (Object c.in-Err.fault told.0))
+    Unturned (Refused (Object c.in-Err.fault.fault told.0))
     (record {
       turns = sym c.if-not-is_turned.ensures;
       why = c.in-Err.fault;
       is_why = c.in-Err.ensures.err;
-      names = told.0;
-      are_names = told.1;
+      name = told.0;
+      is_name = told.1;
       told = refl;
     }) refl refl told.2 c.refuse_turns.ensures.value
 
