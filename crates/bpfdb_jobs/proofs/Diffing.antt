@@ -1,5 +1,5 @@
 -- How a job of `diff` ends.
-use Rattle.std.proofs.Common.{ℕ, ◌≡◌, Bool, true, false, List, Option, Some, None, Result, Ok, Err, ap, ap₂, subst, sym, ◌∙◌}
+use Rattle.std.proofs.Common.{ℕ, ◌≡◌, Bool, true, false, List, Some, None, Result, Ok, Err, ap, ap₂, subst, sym, ◌∙◌}
 use Rattle.std.specs.Prelude.{OnErr, OnOk}
 use Rattle.bpf_against.specs.Against.{against_text, tells_run}
 use Rattle.bpf_diff.specs.Differences.{diff_text, end_alike}

@@ -1,6 +1,20 @@
-use Rattle.std.proofs.Common.{◌∙◌, inr, refl, sym}
+use Rattle.std.proofs.Common.{◌≡◌, ◌∙◌, ℕ, Bool, List, Some, inr, refl, subst, sym}
 use Rattle.bpfdb_jobs.specs.Done.{Over, Unlinked}
+use Rattle.bpf_places.specs.Lookups.{AreObjectSlots}
+use Rattle.bpfdb_jobs.specs.Jobs.{asked_of, section_of}
+use Rattle.bpfdb_jobs.specs.Objects.{HasPlace}
 use Rattle.bpfdb_jobs.proofs.linked.do_linked.Goals as goal
+
+pub do_over-requires-in-Ok-clause-goals : goal.do_over-requires-in-Ok-clause-goals
+do_over-requires-in-Ok-clause-goals g c =
+    let asks = sym (sym c.asks_place.ensures ∙ c.if-not-asks_place.false) in
+    let job = c.args.job.now in
+    let words = c.as_slice-words.result.now in
+    let what : c.as_bytes-what.result.now ≡ asked_of job = c.as_bytes-what.ensures.value ∙ c.asked.ensures in
+    subst (λ (b : Bool). HasPlace b job words (Some c.as_slice.result)) asks
+    (rw c.as_slice.ensures.value
+    (subst (λ (text : List ℕ). AreObjectSlots job.file.now (section_of job) words text c.in-Ok.slots.items) what
+    (rw c.section_of.ensures at c.in-Ok.ensures.ok)))
 
 pub returns-then-not-asks_place-clause-does : goal.returns-then-not-asks_place-clause-does
 returns-then-not-asks_place-clause-does g c =

@@ -33,8 +33,8 @@ returns-in-Ok-written-clause-does g c =
     (origin-prints job at.timeline at.moves a q parts.0 c.in-Ok.parts.items (c.question_of-question.ensures h a.held) parts.1 parts.2 tail c.requires.is)
     (w.ok, w.same) refl (c.status_of.ensures ∙ ap status_of_extent (c.both_of.ensures ∙ ap (λ (e : Extent). both_extents e c.args.tail_extent) extent))
 
-pub returns-in-Err-written-clause-does : goal.returns-in-Err-written-clause-does
-returns-in-Err-written-clause-does g c =
+pub returns-clause-does : goal.returns-clause-does
+returns-clause-does g c =
     let job = c.args.job.now in
     let at = c.args.arrived in
     let x = at.timeline.state in

@@ -7,5 +7,5 @@ use Rattle.bpfdb_jobs.proofs.origin.origin_job.Goals as goal
 pub returns-in-Err-clause-does : goal.returns-in-Err-clause-does
 returns-in-Err-clause-does g c = Refused c.in-Err.refusal (arrival-origin c.args.job.now c.in-Err.refusal c.in-Err.ensures.err) refl c.give_up.ensures.told c.give_up.ensures.value
 
-pub ask-else-job-requires : goal.ask-else-job-requires
-ask-else-job-requires g c = nothing-behind c.args.job.now c.in-Ok.arrived.timeline c.in-Ok.arrived.moves c.in-Ok.ensures.ok c.if-job.false
+pub ask-requires : goal.ask-requires
+ask-requires g c = nothing-behind c.args.job.now c.in-Ok.arrived.timeline c.in-Ok.arrived.moves c.in-Ok.ensures.ok c.if-job.false

@@ -14,7 +14,7 @@ use Rattle.bpfdb_jobs.specs.Suites.{AreAsked, fault_of_file}
 use Rattle.bpfdb_faults.specs.declared.fault.JobFault.TheVariants as fault
 use Rattle.bpfdb_jobs.specs.declared.job.Job.{Job}
 use Rattle.bpfdb_faults.specs.declared.refusal.JobRefusal.{JobRefusal}
-use Rattle.bpfdb_faults.specs.declared.refusal.JobRefusal.TheVariants.{Maps, Listing, Load, Open, Journal, OtherRun, TraceLine, Script, What, Goal, Object, Functions, Tests, NoTest, ManyTests}
+use Rattle.bpfdb_faults.specs.declared.refusal.JobRefusal.TheVariants.{Maps, Listing, Load, Open, Journal, OtherRun, TraceLine, Script, What, Goal, Object, Functions, Tests, NoTest, ManyTests, NoPlace}
 use Rattle.bpfdb_options.specs.declared.test_part.TestPart.{TestPart}
 use Rattle.bpfdb_jobs.proofs.show.show_job.Goals as goal
 
@@ -44,6 +44,7 @@ no-test part job (TraceLine fault line) status same sound lacks told two = absur
 no-test part job (Script refusal) status same sound lacks told two = absurd lacks
 no-test part job (What fault) status same sound lacks told two = absurd lacks
 no-test part job (Goal fault) status same sound lacks told two = absurd lacks
+no-test part job (NoPlace name) status same sound lacks told two = absurd lacks
 no-test part job (Object fault name) status same sound lacks told two = absurd lacks
 no-test part job (Functions fault index name) status same sound lacks told two = absurd lacks
 no-test part job (Tests fault line) status same sound lacks told two = absurd lacks

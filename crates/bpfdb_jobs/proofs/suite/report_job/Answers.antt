@@ -10,7 +10,7 @@ use Rattle.bpfdb_jobs.specs.declared.job.Job.{Job}
 use Rattle.bpfdb_jobs.specs.Refusals.{LacksName}
 use Rattle.bpfdb_faults.specs.declared.fault.JobFault.TheVariants as fault
 use Rattle.bpfdb_faults.specs.declared.refusal.JobRefusal.{JobRefusal}
-use Rattle.bpfdb_faults.specs.declared.refusal.JobRefusal.TheVariants.{Maps, Listing, Load, Open, Journal, OtherRun, TraceLine, Script, What, Goal, Object, Functions, Tests, NoTest, ManyTests}
+use Rattle.bpfdb_faults.specs.declared.refusal.JobRefusal.TheVariants.{Maps, Listing, Load, Open, Journal, OtherRun, TraceLine, Script, What, Goal, Object, Functions, Tests, NoTest, ManyTests, NoPlace}
 use Rattle.bpfdb_jobs.proofs.suite.report_job.Goals as goal
 
 -- a file of which no test is run
@@ -38,6 +38,7 @@ no-test job (TraceLine fault line) status same sound lacks told two = absurd lac
 no-test job (Script refusal) status same sound lacks told two = absurd lacks
 no-test job (What fault) status same sound lacks told two = absurd lacks
 no-test job (Goal fault) status same sound lacks told two = absurd lacks
+no-test job (NoPlace name) status same sound lacks told two = absurd lacks
 no-test job (Object fault name) status same sound lacks told two = absurd lacks
 no-test job (Functions fault index name) status same sound lacks told two = absurd lacks
 no-test job (Tests fault line) status same sound lacks told two = absurd lacks
