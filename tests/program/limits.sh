@@ -269,7 +269,7 @@ squeezed() {
 printf 'loop: add r0, 1\njlt r0, 3, loop\nexit\n' > count.s
 printf 'continue\n' > path
 little=$(seq 3000 25 4000)
-# (the stack of gdb grows by more than the others', and what is left of 4,000 kB or so hasn't room for that)
+# (the stacks of gdb and of origin behind a script grow by more than the others', and what is left of 4,000 kB or so hasn't room for that)
 grown=$(seq 4100 25 4225)
 more='6000 8000 10000 12000 14000 16000 18000 20000 25000 30000 40000 50000'
 # (the words of a row are without blanks; gdb is asked to continue, for the line `origin r9`, and to detach)
@@ -296,7 +296,7 @@ little|path|run --object calls.o
 little|path|link overrun.o
 little|path|link --joined --with calls.o overrun.o
 little|path|origin --journal 1024 --listing count.s
-little|path|origin --journal 1024 --script path --listing count.s
+grown|path|origin --journal 1024 --script path --listing count.s
 grown|asked|gdb --journal 1024 --listing count.s
 more|path|run -m context --maps $sixteen longest
 more|path|debug -m context --maps $sixteen --journal 16777216 longest

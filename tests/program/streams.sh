@@ -7,6 +7,7 @@ bytes endless 05 00 ff ff 00 00 00 00
 bytes faulting 71 10 00 00 00 00 00 00 EXIT
 printf 'mov r0, 42\nexit\n' > program.s
 : > empty
+"$program" trace program > there
 cp "$top/crates/bpfdb/stdin" script
 
 # found NAME STATUS OUTPUT ERRORS: holds the status that the last command left against what was wanted.
