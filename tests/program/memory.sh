@@ -44,7 +44,7 @@ lacks() {
     case $line in
         'out of memory' | 'refused A7: out of memory' | 'refused C13: out of memory' | 'refused O2: out of memory' | \
             'refused J2: out of memory' | 'refused E26: out of memory' | 'refused E26: out of memory (--with)' | \
-            'refused E26: out of memory (--with, object 2)' | 'refused E26: out of memory (the object in line 1)' | 'refused E26: out of memory: store' | \
+            'refused E26: out of memory (--with, object 2)' | 'refused E26: out of memory (the object in line 1)' | \
             'refused A7: out of memory (the other run)' | 'refused C13: out of memory (the other run)' | 'refused O2: out of memory (the other run)')
             echo "$line" >> met ;;
         *) line='out of memory' more=none ;;
@@ -194,8 +194,7 @@ fi
 if has_clang 'link --entry where memory is refused'; then
     clang -g -O2 -target bpf -c "$parts/turns/pair.c" -o pair.o 2> found/err || complain "pair.c: $(cat found/err)"
     "$program" link --entry store --entry take@8 pair.o > linked 2> told || complain "store and take: $(cat told)"
-    # (where the seat of a program is kept, its name is told as of any fault of one)
-    wants "$plain${e26}refused E26: out of memory: store\n" 0 "$(od -An -v -b linked | tr -d '\n' | sed 's/ /\\0/g')" "$(cat told)\n" link --entry store --entry take@8 pair.o
+    wants "$plain$e26" 0 "$(od -An -v -b linked | tr -d '\n' | sed 's/ /\\0/g')" "$(cat told)\n" link --entry store --entry take@8 pair.o
 fi
 # Entries of maps.
 if has_clang 'link --entries where memory is refused'; then

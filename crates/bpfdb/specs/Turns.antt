@@ -3,6 +3,8 @@ use Rattle.std.specs.Prelude.{◌≡◌, ◌||◌, ℕ, nat_lt, Bool, true, fals
 use Rattle.std.specs.Borrow.{Bor}
 use Rattle.std.specs.Option.{option_map_or}
 use Rattle.bpf_link.specs.Names.{fault_names}
+use Rattle.bpf_link.specs.declared.fault.LinkFault.{LinkFault}
+use Rattle.bpf_link.specs.declared.fault.LinkFault.TheVariants as link
 use Rattle.bpfdb_cli.specs.declared.plans.Plan.{Plan}
 use Rattle.bpfdb_faults.specs.declared.fault.JobFault.{JobFault}
 use Rattle.bpfdb_faults.specs.declared.fault.JobFault.TheVariants.{Refused}
@@ -37,9 +39,14 @@ FileIn false plan of_file bytes = bytes ≡ of_file
 abbrev pub IsFileFor : Plan → List ℕ → List ℕ → Type 0
 IsFileFor plan of_file bytes = FileIn (is_turned plan) plan of_file bytes
 
--- The name that is told of a fault: of one of the programs the one that the command line has, of others those that `link` tells.
-abbrev pub told_name : List (List ℕ) → ℕ → List ℕ → List ℕ
-told_name texts which names = if nat_lt which (length texts) then name_in (get_or texts which []) else names
+-- The name that is told of a fault: of one of the programs the one that the command line has, of others those that `link` tells; that memory ran out
+-- is no fault of a program.
+abbrev pub name_of : List (List ℕ) → ℕ → List ℕ → List ℕ
+name_of texts which names = if nat_lt which (length texts) then name_in (get_or texts which []) else names
+
+abbrev pub told_name : LinkFault → List (List ℕ) → ℕ → List ℕ → List ℕ
+told_name link.Memory texts which names = names
+told_name fault texts which names = name_of texts which names
 
 -- Why there is no such object, as `link` tells faults of one.
 pub record IsUnturned (plan : Plan) (of_file : List ℕ) (fault : JobFault) : Type 0 where
@@ -47,5 +54,5 @@ pub record IsUnturned (plan : Plan) (of_file : List ℕ) (fault : JobFault) : Ty
   pub why : TurnFault
   pub is_why : IsTurnFault of_file (section_of plan) (turns_of plan) why
   pub name : Bor (List ℕ)
-  pub is_name : name.now ≡ told_name (turns_of plan) why.which (fault_names of_file (section_of plan) why.fault)
+  pub is_name : name.now ≡ told_name why.fault (turns_of plan) why.which (fault_names of_file (section_of plan) why.fault)
   pub told : fault ≡ Refused (Object why.fault name)
