@@ -85,11 +85,11 @@ suite() {
 }
 
 # shown PAGE SECTION: each command after '$ ' in a section of a page (in all of it, where the section is empty) prints the lines that follow it
-# there, and 'cat FILE' shows a file that the commands after it take. They are run in one folder, in order, which has that of the example firewall.
+# there, and 'cat FILE' shows a file that the commands after it take. They are run in one folder, in order, which has those of the examples firewall and xdp.
 shown() {
     rm -rf "$work/shown"
     mkdir "$work/shown" "$work/shown/files" || exit 1
-    cp -R "$top/examples/firewall" "$work/shown/files" || exit 1
+    cp -R "$top/examples/firewall" "$top/examples/xdp" "$work/shown/files" || exit 1
     awk -v section="## $2" -v work="$work/shown" '
         BEGIN { inside = section == "## " }
         /^## / { inside = section == "## " || $0 == section }
@@ -101,7 +101,7 @@ shown() {
     while [ -f "$work/shown/command-$n" ]; do
         command=$(cat "$work/shown/command-$n")
         case $command in
-        'cat '*.c | 'cat '*.s | 'cat '*.test | 'cat '*.data | 'cat '*.awk | 'cat '*.py) cp "$work/shown/text-$n" "$work/shown/files/${command#cat }" ;;
+        'cat '*.c | 'cat '*.s | 'cat '*.test | 'cat '*.data | 'cat '*.awk | 'cat '*.py | 'cat '*.sh) cp "$work/shown/text-$n" "$work/shown/files/${command#cat }" ;;
         esac
         (cd "$work/shown/files" && PATH=$work/bin:$PATH && export PATH && unset BPFDB && sh "$work/shown/command-$n") > "$work/out" 2>&1
         cmp -s "$work/shown/text-$n" "$work/out" || fault "$1, '$2': '$command': $(first_difference "$work/shown/text-$n" "$work/out")"
@@ -146,9 +146,11 @@ origins() {
 pages() {
     mkdir "$work/bin" || exit 1
     ln -s "$BPFDB" "$work/bin/bpfdb" || exit 1
-    ln -s "$top/share/bpfdb-conformance" "$top/share/bpfdb-convert" "$top/share/bpfdb-show" "$work/bin" || exit 1
+    for name in conformance context convert show; do
+        ln -s "$top/share/bpfdb-$name" "$work/bin" || exit 1
+    done
     shown docs/COMMANDS.md EXAMPLES
-    if has python3 'the recipes'; then shown examples/RECIPES.md ''; fi
+    if has python3 'the recipes' && has xxd 'the recipes' && has prove 'the recipes' && has_libpcap 'the recipes'; then shown examples/RECIPES.md ''; fi
     if has python3 'the examples of docs/TESTS.md'; then shown docs/TESTS.md ''; fi
     origins README.md - overrun
     origins README.md 'A packet that should have been dropped' firewall

@@ -71,6 +71,15 @@ has_clang() {
     return 1
 }
 
+# has_libpcap WHAT: whether python3 finds the library that reads captures; without it WHAT is left out.
+has_libpcap() {
+    for name in libpcap.so.0.8 libpcap.so.1; do
+        python3 -c "import ctypes; ctypes.CDLL('$name')" 2> /dev/null && return
+    done
+    left_out "$1" 'there is no libpcap'
+    return 1
+}
+
 # tell_left_out FILE: what was left out, where it was kept in this file.
 tell_left_out() {
     [ "$LEFT_OUT" != "$1" ] || [ ! -e "$1" ] || sort "$1"

@@ -200,7 +200,7 @@ if has python3 "$tool"; then
         cat long.head
         head -c 65537 /dev/zero
     } > long.pcap
-    if python3 -c 'import ctypes; ctypes.CDLL("libpcap.so.0.8")' 2> /dev/null || python3 -c 'import ctypes; ctypes.CDLL("libpcap.so.1")' 2> /dev/null; then
+    if has_libpcap 'packets of captures'; then
         context 0 'packet 1 at 0: 0x100000000, 4 bytes, Ethernet\n' '' -o made/context packet two.pcap 1
         holds two.pcap 0a 0b 0c 0d
         context 0 'packet 2 at 0: 0x100000000, 3 of 9 bytes, Ethernet\n' '' -o made/context packet two.pcap 02
@@ -259,8 +259,6 @@ if has python3 "$tool"; then
         python3 "$top/tests/trials/contexts.py" captures "$top/share" new.pcapng two.pcap > found/damaged 2>&1
         echo '500 trials and more' > wanted/damaged
         same 'damaged captures' wanted/damaged found/damaged
-    else
-        left_out 'packets of captures' 'there is no libpcap'
     fi
     mkdir without
     printf 'import ctypes\ndef absent(name, *words, **more):\n    raise OSError(name)\nctypes.CDLL = absent\n' > without/sitecustomize.py
