@@ -383,8 +383,8 @@ class PastAsker(Asker):
 
 
 class Origin(PastAsker):
-    """bpf-origin [EXPRESSION]: tells where a value came from, move by move: of a register ($r3), of the bytes of a variable (note.packet), or of
-    ADDRESS:COUNT; left out, of the address of an access that failed, or of r0. It is 'monitor origin', over the moves that are kept."""
+    """bpf-origin [EXPRESSION]: tells where a value came from, move by move: of a register ($r3), of a variable (note.packet), or of ADDRESS:COUNT;
+    left out, of the address of an access that failed, or of r0. It is 'monitor origin', over the moves that are kept."""
 
     def __init__(self):
         super().__init__("bpf-origin", gdb.COMPLETE_EXPRESSION)
@@ -400,20 +400,21 @@ class Origin(PastAsker):
             return ["origin"]
         value = gdb.parse_and_eval(text)
         if value.address is None:
-            raise gdb.GdbError(self.no_place(text))
+            return ["origin", self.register(text)]
         return ["origin", "0x%x:%d" % (int(value.address) % 2**64, value.type.sizeof)]
 
-    def no_place(self, text):
-        """Why there is no answer of a value that isn't in memory."""
+    def register(self, text):
+        """The register of a variable that isn't in memory. That it lies there is told first."""
         if text.startswith("$"):
-            return "bpf-origin tells of r0 to r9, in the innermost frame"
+            raise gdb.GdbError("bpf-origin tells of r0 to r9, in the innermost frame")
         frame = gdb.selected_frame()
         register = register_of(text, frame)
         if not register:
-            return "%s has no place here: ask for a register, as $r3, or for ADDRESS:COUNT" % text
+            raise gdb.GdbError("%s has no place here: ask for a register, as $r3, or for ADDRESS:COUNT" % text)
         if frame != gdb.newest_frame():
-            return "%s lies in %s: that is told of in the innermost frame alone" % (text, register)
-        return "%s lies in %s: ask for $%s" % (text, register, register)
+            raise gdb.GdbError("%s lies in %s: that is told of in the innermost frame alone" % (text, register))
+        print("%s lies in %s" % (text, register))
+        return register
 
 
 def register_of(name, frame):
