@@ -1,5 +1,5 @@
 -- What `.BTF.ext` of a turned object tells of its instructions: functions, lines, and relocations of fields.
-use Rattle.std.specs.Prelude.{◌≡◌, ◌⊎◌, ℕ, ◌+◌, ◌*◌, nat_le, nat_lt, Bool, true, false, if◌then◌else◌, List, [], ◌∷◌, ◌++◌, Option, Some, None, Result, Ok, Err, length, slice_index, slice_range}
+use Rattle.std.specs.Prelude.{◌≡◌, ◌<◌, ◌⊎◌, ℕ, ◌+◌, ◌*◌, nat_le, nat_lt, Bool, true, false, if◌then◌else◌, List, [], ◌∷◌, ◌++◌, Option, Some, None, Result, Ok, Err, length, slice_index, slice_range}
 use Rattle.bpf_isa.specs.Words.{u32_at}
 use Rattle.bpf_btf.specs.CoreRelocations.{begins}
 use Rattle.bpf_btf.specs.Layout.{ext_header, is_called}
@@ -91,7 +91,7 @@ IsPartFault ext k fault =
     ⊎ ((listed : List ℕ) × (list_in ext k ≡ Ok listed) × IsListFault listed fault)
 
 abbrev pub IsListsFault : Plan → LinkFault → Type 0
-IsListsFault plan fault = (fault ≡ Memory) ⊎ ((k : ℕ) × IsPartFault (ext_bytes plan) k fault)
+IsListsFault plan fault = (fault ≡ Memory) ⊎ ((k : ℕ) × (k < 3) × IsPartFault (ext_bytes plan) k fault)
 
 pub record IsUnmoved (plan : Plan) (calls : List Call) (fault : LinkFault) : Type 0 where
   pub some : is_something (ext_found plan) ≡ true

@@ -1,6 +1,10 @@
 -- Scaffolding: the parts of an object whose programs are called in turn. No public contract cites this.
-use Rattle.std.specs.Prelude.{◌≡◌, ◌≤◌, ◌<◌, ℕ, List, length}
+use Rattle.std.specs.Prelude.{◌≡◌, ◌≤◌, ◌<◌, ℕ, IfSome, List, Option, length}
+use Rattle.bpf_isa.specs.Checker.{most_slots}
+use Rattle.bpf_link.specs.Objects.{Elf}
+use Rattle.bpf_turns.specs.Calls.{calls_of}
 use Rattle.bpf_turns.specs.Objects.{lies, turned_body}
+use Rattle.bpf_turns.specs.declared.calls.Call.{Call}
 use Rattle.bpf_turns.specs.declared.seats.Seat.{Seat}
 use Rattle.bpf_turns.specs.declared.headers.Lies.{Lies}
 use Rattle.bpf_turns.specs.declared.file.Parts.{Parts}
@@ -25,3 +29,18 @@ pub record AreParts (source : Source) (seats : List Seat) (ext : List ℕ) (it :
   pub at_is : it.at ≡ lies source seats ext
   pub laid : AreLaid it.at
   pub header : length source.plan.object.bytes ≤ length it.bytes.items
+
+-- The calls of programs, no more than there may be.
+pub record AreCalls (object : Elf) (seats : List Seat) (calls : List Call) : Type 0 where
+  pub are : calls ≡ calls_of object seats
+  pub few : length calls ≤ most_slots
+
+-- A file without its table of sections: its parts are laid out, and it has its header.
+pub record IsBody (it : Parts) : Type 0 where
+  pub laid : AreLaid it.at
+  pub header : 64 ≤ length it.bytes.items
+
+-- A block of a list has a header of eight bytes, and the call of it is one of these.
+pub record IsBlockOf (calls : List Call) (block : List ℕ) (call : Option ℕ) : Type 0 where
+  pub header : 8 ≤ length block
+  pub one : IfSome call (λ k. k < length calls)

@@ -1,14 +1,16 @@
 -- Programs of an object in turn: when there is an object that calls them, and why there is none.
-use Rattle.std.specs.Prelude.{◌≡◌, ◌⊎◌, ℕ, ◌+◌, ◌*◌, ◌==◌, nat_le, nat_lt, Bool, true, false, not, ◌&&◌, List, Result, Ok, Err, length}
+use Rattle.std.specs.Prelude.{◌≡◌, ◌⊎◌, ℕ, ◌+◌, ◌*◌, nat_le, nat_lt, Bool, true, false, ◌&&◌, List, [], ◌∷◌, Result, Ok, Err, length}
 use Rattle.bpf_isa.specs.Checker.{most_slots}
 use Rattle.bpf_link.specs.Links.{planned}
+use Rattle.bpf_link.specs.Names.{fault_names}
 use Rattle.bpf_link.specs.Objects.{provided}
 use Rattle.bpf_link.specs.Plans.{after}
 use Rattle.bpf_link.specs.declared.fault.LinkFault.{LinkFault}
-use Rattle.bpf_link.specs.declared.fault.LinkFault.TheVariants.{Memory, NoEntry, SectionTable, SymbolTable, TooLong}
+use Rattle.bpf_link.specs.declared.fault.LinkFault.TheVariants.{Memory, NoEntry, NoSection, SectionTable, SymbolTable, TooLong}
 use Rattle.bpf_link.specs.declared.plan.Plan.{Plan}
 use Rattle.bpf_link.specs.declared.sections.Found.{Found}
 use Rattle.bpf_link.specs.declared.sections.Found.TheVariants.{Only}
+use Rattle.counted_io.specs.Cuts.{before}
 use Rattle.bpf_turns.specs.Calls.{calls_of, slots_before}
 use Rattle.bpf_turns.specs.Ext.{HasMovedExt, IsUnmoved}
 use Rattle.bpf_turns.specs.Objects.{turned_bytes}
@@ -34,15 +36,14 @@ source_in plan only _ = Err SymbolTable
 abbrev pub source_of : List ℕ → List ℕ → Bool → Result Source LinkFault
 source_of bytes section only = after (planned bytes section) (λ plan. source_in plan only plan.table)
 
--- That is the section that is asked for, to which all programs belong then; or any one, where none is.
-abbrev pub Opens : Bool → List ℕ → List ℕ → Type 0
-Opens true section opened = Unit {0}
-Opens false section opened = opened ≡ section
+-- That is the section that is asked for, to which all programs belong then; or, where none is, the first of those with code, by the names that `link`
+-- tells of them, with commas (44) between.
+abbrev pub first_section : List ℕ → List ℕ
+first_section bytes = before 44 (fault_names bytes [] NoSection)
 
-pub record IsSource (bytes section : List ℕ) (answer : Result Source LinkFault) : Type 0 where
-  pub opened : List ℕ
-  pub opens : Opens (length section == 0) section opened
-  pub source : source_of bytes opened (not (length section == 0)) ≡ answer
+abbrev pub source_for : List ℕ → List ℕ → Result Source LinkFault
+source_for bytes [] = source_of bytes (first_section bytes) false
+source_for bytes (b ∷ section) = source_of bytes (b ∷ section) true
 
 -- There are programs, and the code isn't longer than a program may be.
 abbrev pub fits : Source → List Seat → Bool
@@ -64,7 +65,7 @@ pub record IsTurnedFrom (source : Source) (texts : List (List ℕ)) (all : List 
 
 pub record IsTurned (bytes section : List ℕ) (texts : List (List ℕ)) (all : List ℕ) : Type 0 where
   pub source : Source
-  pub is_source : IsSource bytes section (Ok source)
+  pub is_source : source_for bytes section ≡ Ok source
   pub turned : IsTurnedFrom source texts all
 
 -- Why there is none: one of the programs isn't there, all of it is too much, or `.BTF.ext` is malformed; or memory ran out.
@@ -79,5 +80,5 @@ IsSourceFault source texts told =
 
 abbrev pub IsTurnFault : List ℕ → List ℕ → List (List ℕ) → TurnFault → Type 0
 IsTurnFault bytes section texts told =
-    (IsSource bytes section (Err told.fault) × (told.which ≡ length texts))
-    ⊎ ((source : Source) × IsSource bytes section (Ok source) × IsSourceFault source texts told)
+    ((source_for bytes section ≡ Err told.fault) × (told.which ≡ length texts))
+    ⊎ ((source : Source) × (source_for bytes section ≡ Ok source) × IsSourceFault source texts told)

@@ -6,6 +6,7 @@ ghost use Rattle.bpf_isa.specs.Words.{u32_at};
 ghost use Rattle.bpf_join.specs.Gathered.{gathered};
 ghost use Rattle.bpf_link.specs.declared.fault.LinkFault.TheVariants.{Memory};
 ghost use Rattle.bpf_turns.specs.Blocks.{AreBlocks, IsListFault, IsMovedList, block_call, code_name, is_sized, moved_record, moved_records, one_block, records_at, records_of, rest_at, rest_of};
+ghost use Rattle.bpf_turns.specs.Parts.{IsBlockOf};
 
 use crate::calls::Call;
 use crate::names::{code_name, is_called};
@@ -104,8 +105,7 @@ fn with_called(
     bytes: Vec<u8>,
 ) -> Result<Vec<u8>, LinkFault>
     requires size { 4 ≤ size }
-    requires block { 8 ≤ length block.now }
-    requires call { IfSome call (λ k. k < length calls.now) }
+    requires block { IsBlockOf calls.now block.now call }
     ensures ok { IfOk result (λ new. new.items
         ≡ bytes.items ++ records_of object.now calls.now size block.now call) }
     ensures err { IfErr result (λ fault. fault ≡ Memory) }
@@ -149,8 +149,8 @@ fn size_of(listed: &[u8]) -> usize
 fn block_end(listed: &[u8], at: usize) -> Option<usize>
     requires sized { 4 ≤ length listed.now }
     requires inside { at < length listed.now }
-    ensures found { IfSome result (λ end. end ≡ block_end listed.now at) }
-    ensures within { IfSome result (λ end. (at + 8 ≤ end) × (end ≤ length listed.now)) }
+    ensures found { IfSome result (λ end. (end ≡ block_end listed.now at) × (at + 8 ≤ end)
+        × (end ≤ length listed.now)) }
     ensures none { IfNone result (length listed.now < block_end listed.now at) }
 {
     let rest = listed.len() - at;

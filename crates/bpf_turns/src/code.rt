@@ -1,10 +1,9 @@
 //! The code of a turned object: the calls, and behind them the sections that are called.
 ghost use Rattle.std.specs.Prelude.{◌≡◌, ◌≤◌, ◌<◌, ◌++◌, IfErr, IfOk, IfSome, length};
-ghost use Rattle.bpf_isa.specs.Checker.{most_slots};
 ghost use Rattle.bpf_join.specs.Gathered.{gathered};
 ghost use Rattle.bpf_link.specs.declared.fault.LinkFault.TheVariants.{Memory};
-ghost use Rattle.bpf_turns.specs.Calls.{calls_of as calls_for};
 ghost use Rattle.bpf_turns.specs.Objects.{call_index, into, taken_at, turned_code};
+ghost use Rattle.bpf_turns.specs.Parts.{AreCalls};
 
 use crate::calls::{Call, calling_words, seat_index};
 use crate::parts::with;
@@ -65,8 +64,7 @@ pub fn turned_code(
     seats: &[Seat],
     calls: &[Call],
 ) -> Result<Vec<u8>, LinkFault>
-    requires calls { calls.now ≡ calls_for object.now seats.now }
-    requires few { length calls.now ≤ most_slots }
+    requires { AreCalls object.now seats.now calls.now }
     ensures ok { IfOk result (λ code. code.items ≡ turned_code object.now seats.now) }
     ensures err { IfErr result (λ fault. fault ≡ Memory) }
 {

@@ -1,5 +1,5 @@
 //! What `.BTF.ext` tells of the instructions of a turned object.
-ghost use Rattle.std.specs.Prelude.{◌≡◌, ◌≤◌, ◌<◌, ◌++◌, Err, IfErr, IfOk, Ok, Some, length};
+ghost use Rattle.std.specs.Prelude.{◌≡◌, ◌≤◌, ◌<◌, ◌+◌, ◌^◌, ◌++◌, Err, IfErr, IfOk, Ok, Some, length};
 ghost use Rattle.bpf_btf.specs.CoreRelocations.{begins};
 ghost use Rattle.bpf_btf.specs.Layout.{ext_header};
 ghost use Rattle.bpf_btf.specs.declared.fault.BtfFault.TheVariants.{Ext};
@@ -123,8 +123,7 @@ fn head_of(
     fields: usize,
 ) -> Result<Vec<u8>, LinkFault>
     requires ext { 4 ≤ length ext.now }
-    requires functions { functions < 9223372036854775808 }
-    requires lines { lines < 9223372036854775808 }
+    requires short { functions + lines < 2 ^ 64 }
     ensures ok { IfOk result (λ head. head.items ≡ head_of ext.now functions lines fields) }
     ensures err { IfErr result (λ fault. fault ≡ Memory) }
 {

@@ -5,7 +5,7 @@ ghost use Rattle.bpf_link.specs.declared.fault.LinkFault.TheVariants.{Memory};
 ghost use Rattle.bpf_turns.specs.Calls.{calls_of as calls_for};
 ghost use Rattle.bpf_turns.specs.Ext.{HasMovedExt, IsUnmoved};
 ghost use Rattle.bpf_turns.specs.Objects.{tabled, turned_bytes, with_turned_code};
-ghost use Rattle.bpf_turns.specs.Parts.{AreLaid, AreParts, HasRoom};
+ghost use Rattle.bpf_turns.specs.Parts.{AreCalls, AreParts, HasRoom, IsBody};
 ghost use Rattle.bpf_turns.specs.Turned.{fits, fitted};
 
 use crate::calls::{Call, calls_of, slots_before};
@@ -35,8 +35,7 @@ fn with_code(
     seats: &[Seat],
     calls: &[Call],
 ) -> Result<Vec<u8>, LinkFault>
-    requires calls { calls.now ≡ calls_for source.now.plan.object seats.now }
-    requires few { length calls.now ≤ most_slots }
+    requires calls { AreCalls source.now.plan.object seats.now calls.now }
     ensures ok { IfOk result (λ coded. coded.items ≡ with_turned_code source.now seats.now) }
     ensures err { IfErr result (λ fault. fault ≡ Memory) }
 {
@@ -58,8 +57,7 @@ fn put_parts(
     calls: &[Call],
     ext: &[u8],
 ) -> Result<Parts, LinkFault>
-    requires calls { calls.now ≡ calls_for source.now.plan.object seats.now }
-    requires few { length calls.now ≤ most_slots }
+    requires calls { AreCalls source.now.plan.object seats.now calls.now }
     ensures ok { IfOk result (AreParts source.now seats.now ext.now) }
     ensures err { IfErr result (λ fault. fault ≡ Memory) }
 {
@@ -95,8 +93,7 @@ fn put_parts(
 /// The new file of these calls.
 fn with_table(source: &Source<'_>, calls: &[Call], parts: Parts) -> Result<Vec<u8>, LinkFault>
     requires room { HasRoom source.now }
-    requires laid { AreLaid parts.at }
-    requires header { 64 ≤ length parts.bytes.items }
+    requires body { IsBody parts }
     ensures ok { IfOk result (λ all. all.items ≡ tabled source.now calls.now parts.bytes.items parts.at) }
     ensures err { IfErr result (λ fault. fault ≡ Memory) }
 {
@@ -116,8 +113,7 @@ fn turned_bytes(
     calls: &[Call],
     ext: &[u8],
 ) -> Result<Vec<u8>, LinkFault>
-    requires calls { calls.now ≡ calls_for source.now.plan.object seats.now }
-    requires few { length calls.now ≤ most_slots }
+    requires calls { AreCalls source.now.plan.object seats.now calls.now }
     requires room { HasRoom source.now }
     ensures ok { IfOk result (λ bytes. bytes.items ≡ turned_bytes source.now seats.now ext.now) }
     ensures err { IfErr result (λ fault. fault ≡ Memory) }

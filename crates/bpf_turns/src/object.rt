@@ -4,12 +4,13 @@ ghost use Rattle.bpf_turns.specs.Calls.{calls_of};
 ghost use Rattle.bpf_turns.specs.Ext.{HasMovedExt};
 ghost use Rattle.bpf_turns.specs.Objects.{turned_bytes};
 ghost use Rattle.bpf_turns.specs.Parts.{HasRoom};
-ghost use Rattle.bpf_turns.specs.Turned.{IsObjectFault, IsSource, IsSourceFault, IsTurnFault, IsTurned, IsTurnedFrom, fitted};
+ghost use Rattle.bpf_turns.specs.Turned.{IsObjectFault, IsSourceFault, IsTurnFault, IsTurned, IsTurnedFrom, fitted, source_for};
 
 use crate::file::{fitted, turned_file};
 use crate::seats::{Seat, TurnFault, seats_of};
 use crate::source::{Source, source_of};
 use bpf_link::{LinkFault, fault_names};
+use counted_io::sides;
 use std::alloc::Global;
 
 /// The new file of programs.
@@ -51,25 +52,20 @@ fn turned_from(alloc: Global, source: &Source<'_>, texts: &[&str]) -> Result<Vec
     }
 }
 
-/// The first of some names with commas between.
-fn first_name(names: &[u8]) -> &[u8] {
-    match names.iter().position(|byte| *byte == b',') {
-        Some(at) => &names[..at],
-        None => names,
-    }
-}
-
-/// The object in a file, by the section that is asked for, or by any one of code.
+/// The object in a file, by the section that is asked for, or by the first one of code.
 fn source_for<'a>(object: &'a [u8], section: &[u8]) -> Result<Source<'a>, LinkFault>
-    ensures value { IsSource object.now section.now result }
+    ensures value { result ≡ source_for object.now section.now }
     ensures room { IfOk result HasRoom }
 {
-    if section.is_empty() {
-        // (the names of all sections of code)
-        let names = fault_names(object, b"", &LinkFault::NoSection);
-        return source_of(object, first_name(names.as_slice()), false);
+    match section {
+        [] => {
+            // (the names of the sections of code, with commas between)
+            let names = fault_names(object, b"", &LinkFault::NoSection);
+            let (first, _others) = sides(names.as_slice(), b',');
+            source_of(object, first, false)
+        }
+        [_, ..] => source_of(object, section, true),
     }
-    source_of(object, section, true)
 }
 
 /// The object that calls programs of another one in turn.

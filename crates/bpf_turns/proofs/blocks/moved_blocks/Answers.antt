@@ -13,11 +13,11 @@ loop-at-preserved c =
     let listed = c.args.listed.now in
     let n = c.loop-at.invariant.0 in
     let begins = c.loop-at.invariant.1 in
-    let ends = c.in-Some.ensures.found in
+    let ends = c.in-Some.ensures.found.0 in
     let called = c.block_call-call.ensures.value in (
       suc n,
       ends ∙ ap (block_end listed) begins,
-      c.in-Some.ensures.within.1,
+      c.in-Some.ensures.found.2,
       gathered_suc (records_at object strings calls listed) n c.loop-at.records.items _ c.in-Ok.new.items c.in-Ok.ensures.ok
           (records_are object strings calls listed n c.loop-at.at c.in-Some.end c.size_of-size.result c.block_call-call.result begins ends c.size_of-size.ensures called)
           c.loop-at.invariant.3,
