@@ -65,6 +65,7 @@ files:
 
 # Makes the tables of the pages and what is made of them anew, and holds the pages against the repository.
 pages:
+	@! command -v python3 > /dev/null || python3 docs/flats.py
 	@sh docs/tables.sh
 	@sh docs/editors.sh
 	@sh docs/man.sh

@@ -1,5 +1,5 @@
 #!/bin/sh
-# What README.md and docs/ say of the repository, held against it: the tables made from the files, the files, headings, functions,
+# What README.md and docs/ say of the repository, held against it: the tables and the tags of flat codes made from the files, the files, headings, functions,
 # clauses and definitions that a page names, the sessions that README and examples/README.md show, the C of docs/GDB.md, the commands and refusals of
 # the manual and its man page, the man pages of all programs, the commands, options and widths of help, the wrong bodies of must-fail/, and the toolchain
 # that README and `bpfdb --version` name.
@@ -368,6 +368,7 @@ edits() {
 }
 
 sh docs/tables.sh --check || fault 'tables of files'
+! command -v python3 > /dev/null || python3 docs/flats.py --check || fault 'tags of flat codes'
 names_of_files
 links
 contracts
