@@ -6,3 +6,6 @@ pub mod Accepted
 pub mod MapLists
 pub mod SplitTurns
 pub mod Pieces
+pub mod MapDemands
+pub mod OtherMaps
+pub mod Lengths

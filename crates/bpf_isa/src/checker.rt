@@ -2,6 +2,7 @@
 ghost use Rattle.std.specs.Prelude.{◌≡◌, ◌≤◌, ◌<◌, ◌⊎◌, ◌+◌, ◌*◌, ◌↔◌, IsTrue, IfSome, IfNone, IfOk, OnOk, IfErr, List, ℕ, length, slice_index};
 ghost use Rattle.bpf_isa.specs.Checker.{IsStartIn, AreSlots, piece_at, HasFault, HasNoFault, IsFirstFault, IsAccepted, IsRefused};
 ghost use Rattle.bpf_isa.specs.Scaffolding.Checking.{AreStarts, AreInsns, Breaks, IsPiece, IsSound, IsStartOf};
+ghost use Rattle.bpf_isa.specs.Scaffolding.Codec.{IsRead};
 ghost use Rattle.bpf_isa.specs.Faults.{IsLeast, piece_fault};
 ghost use Rattle.bpf_isa.specs.Insns.{slots_of};
 ghost use Rattle.bpf_isa.specs.WideLoads.{wide_opcode};
@@ -78,10 +79,11 @@ fn broken_rule(draft: &Draft<'_>, slot: usize, insn: &Insn) -> Option<PieceFault
 }
 
 /// The instruction at a start, or its fault with the least number.
-fn piece(draft: &Draft<'_>, slot: usize) -> Result<Insn, PieceFault>
+pub fn piece(draft: &Draft<'_>, slot: usize) -> Result<Insn, PieceFault>
     requires { IsStartOf draft.now.bytes.now draft.now.starts.now slot }
     ensures ok { IfOk result (IsPiece draft.now.bytes.now draft.now.maps.now slot) }
     ensures clear { OnOk result (HasNoFault draft.now.bytes.now draft.now.maps.now slot) }
+    ensures read { IfOk result (IsRead (piece_at draft.now.bytes.now slot)) }
     ensures fault { IfErr result
         (IsLeast piece_fault (HasFault draft.now.bytes.now draft.now.maps.now slot)) }
 {

@@ -4,6 +4,7 @@
 
 mod checker;
 mod decoder;
+mod demands;
 mod encoder;
 mod fault;
 mod fields;
@@ -20,6 +21,7 @@ mod rules;
 mod words;
 
 pub use decoder::decode;
+pub use demands::Demands;
 pub use encoder::encode;
 pub use fault::{LoadFault, MapFault, PieceFault, WordFault};
 pub use helpers::Helper;

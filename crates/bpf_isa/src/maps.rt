@@ -3,6 +3,7 @@ ghost use Rattle.std.specs.Prelude.{◌≡◌, ◌↔◌, [], ◌∷◌, ◌++�
 ghost use Rattle.std.specs.Str.Parse.{IsNumeral, digits_value};
 ghost use Rattle.bpf_isa.specs.Faults.{IsLeast, map_fault};
 ghost use Rattle.bpf_isa.specs.Maps.{AreMaps, HasMapFault, is_x, IsItem, shape_of, items_of, IsMapList, IsListFault};
+ghost use Rattle.bpf_isa.specs.Scaffolding.Demands.{bytes_in, largest_maps};
 
 use crate::fault::MapFault;
 use arrayvec::ArrayVec;
@@ -72,8 +73,31 @@ impl MapTable {
         self.shapes.get(map).copied()
     }
 
+    /// How many bytes a map has, by its index; none past the last.
+    pub(crate) fn bytes_in(&self, map: usize) -> u64
+        ensures { result ≡ bytes_in self.now map }
+    {
+        match self.shapes.get(map) {
+            Some(shape) => u64::from(shape.value_size) * u64::from(shape.entries),
+            None => 0,
+        }
+    }
+
+    /// The largest table: each of its maps has as many bytes as a map may have.
+    pub(crate) fn largest() -> MapTable
+        ensures { result ≡ largest_maps }
+    {
+        let shape = MapShape {
+            value_size: LONGEST_VALUE,
+            entries: MOST_MAP_BYTES / LONGEST_VALUE,
+        };
+        MapTable {
+            shapes: ArrayVec::from([shape; MOST_MAPS]),
+        }
+    }
+
     /// A table with the same maps, which shares nothing with this one.
-    pub(crate) fn copied(&self) -> MapTable
+    pub fn copied(&self) -> MapTable
         ensures value { result ≡ self.now }
         ensures fits { AreMaps self.now }
     {

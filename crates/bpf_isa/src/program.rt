@@ -1,6 +1,7 @@
 //! Programs that the checker accepted.
 ghost use Rattle.std.specs.Prelude.{◌≡◌, ◌↔◌, IsTrue, OnOk, IfOk, IfErr, IfSome, IfNone, List, length};
 ghost use Rattle.bpf_isa.specs.Checker.{AreSlots, IsAccepted, IsRefused};
+ghost use Rattle.bpf_isa.specs.declared.fault.LoadFault.TheVariants.{Memory};
 ghost use Rattle.bpf_isa.specs.declared.maps.MapShape.{MapShape};
 
 use crate::checker::{Draft, insns_of, starts_of};
@@ -69,6 +70,15 @@ impl Program {
         &self.maps
     }
 
+    /// Gives it other maps, with which the checker accepts its words. Takes no time in its length.
+    pub fn set_maps(&mut self, maps: MapTable)
+        requires { IsAccepted self.old.bytes maps }
+        ensures { self.new ≡ record self.old { maps = maps } }
+    {
+        let _few = maps.len();
+        self.maps = maps;
+    }
+
     /// Brings what holds of every checked program into a proof.
     pub fn invariant(&self)
         ensures { IsProgram self.now }
@@ -78,9 +88,10 @@ impl Program {
 }
 
 /// The fault of a length that no program has.
-fn length_fault(bytes: &[u8]) -> Option<LoadFault>
+pub fn length_fault(bytes: &[u8]) -> Option<LoadFault>
     ensures found { IfSome result (λ fault. (maps : List MapShape) →
         IsRefused bytes.now maps fault) }
+    ensures known { IfSome result (λ fault. fault ≡ Memory → ⊥) }
     ensures none { IfNone result (AreSlots bytes.now) }
 {
     if bytes.is_empty() {

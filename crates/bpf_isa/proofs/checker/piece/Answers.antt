@@ -27,3 +27,6 @@ returns-in-None-clause-ok c =
     let read : IsRead (piece_at c.args.draft.now.bytes.now c.args.slot) c.in-Ok.insn = subst (λ text. IsRead text c.in-Ok.insn) c.piece_of-piece.ensures.value c.in-Ok.ensures.ok in
     let size = subst (λ text. (length text ≡ 8) ⊎ ((length text ≡ 16) × (slice_index text 0 ≡ 24))) c.piece_of-piece.ensures.value c.piece_of-piece.ensures.fits in
     record { whole = whole_word (piece_at c.args.draft.now.bytes.now c.args.slot) c.in-Ok.insn read size c.in-None.ensures.none.whole; sound = c.in-None.ensures.none }
+
+pub returns-in-None-clause-read : goal.returns-in-None-clause-read
+returns-in-None-clause-read c = subst (λ text. IsRead text c.in-Ok.insn) c.piece_of-piece.ensures.value c.in-Ok.ensures.ok
