@@ -1,6 +1,6 @@
 -- What lengths of maps say of the slots of a program.
-use Rattle.std.proofs.Common.{◌≡◌, ◌<◌, ◌≤◌, ◌⊎◌, inl, inr, ℕ, ◌+◌, ◌*◌, Bool, true, false, List, [], ◌∷◌, ◌++◌, Option, Some, None, length, get_or, sym, ap, ◌∙◌, subst, arith, lit≤, mul-le-mul_left}
-use Rattle.std.specs.Prelude.{◌↔◌, IfNone, IfSome, IsTrue, MatchOption, replicate, slice_get}
+use Rattle.std.proofs.Common.{◌≡◌, ◌<◌, ◌≤◌, ◌⊎◌, inl, inr, ℕ, ◌+◌, ◌*◌, Bool, false, List, [], ◌∷◌, ◌++◌, Option, Some, None, length, get_or, sym, ap, ◌∙◌, subst, arith, lit≤, mul-le-mul_left}
+use Rattle.std.specs.Prelude.{◌↔◌, IfNone, IfSome, IsTrue, MatchOption, slice_get}
 use Rattle.std.specs.Option.{option_map_or}
 use Rattle.std.proofs.lemmas.Bool.{cases_lt}
 use Rattle.std.proofs.lemmas.List.{get_or-replicate, get_or_append_left, get_or_push}
@@ -15,14 +15,13 @@ use Rattle.bpf_isa.specs.declared.demands.Lengths.{Lengths}
 use Rattle.bpf_isa.specs.declared.maps.MapShape.{MapShape}
 use Rattle.bpf_isa.specs.declared.fault.LoadFault.{LoadFault}
 use Rattle.bpf_isa.specs.declared.fault.LoadFault.TheVariants.{At, Memory}
-use Rattle.bpf_isa.specs.declared.fault.WordFault.{WordFault}
 use Rattle.bpf_isa.specs.declared.fault.WordFault.TheVariants.{UnknownInstruction, RegisterAboveTen, UnusedField, CutOff}
 use Rattle.bpf_isa.specs.declared.fault.PieceFault.{PieceFault}
 use Rattle.bpf_isa.specs.declared.fault.PieceFault.TheVariants.{Word, WritesFramePointer, NoTarget, RunsOff, UnknownHelper, NoMap}
 use Rattle.bpf_isa.specs.Checker.{AreSlots, is_start, piece_at, IsStartIn, MapExists, HasFault, HasNoFault, IsFirstFault, IsAccepted, IsRefused}
 use Rattle.bpf_isa.specs.Faults.{IsLeast, piece_fault}
 use Rattle.bpf_isa.specs.Maps.{IsShape, AreMaps}
-use Rattle.bpf_isa.specs.Scaffolding.Checking.{IsSound, IsPiece}
+use Rattle.bpf_isa.specs.Scaffolding.Checking.{IsSound}
 use Rattle.bpf_isa.specs.Scaffolding.Codec.{IsRead}
 use Rattle.bpf_isa.specs.Scaffolding.Demands.{largest_maps, bytes_in, Meet, AreClear, AreWanted, AreWantedAt, AreDemands, Says}
 use Rattle.bpf_isa.proofs.BrokenRules.{no_fault}

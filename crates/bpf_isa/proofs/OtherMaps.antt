@@ -7,7 +7,7 @@ use Rattle.bpf_isa.specs.declared.fault.PieceFault.TheVariants.{NoMap}
 use Rattle.bpf_isa.specs.Checker.{piece_at, HasNoFault, IsAccepted, MapExists}
 use Rattle.bpf_isa.specs.Maps.{AreMaps}
 use Rattle.bpf_isa.specs.Words.{IsWord}
-use Rattle.bpf_isa.specs.Programs.{Checked, insn_at, IsProgram}
+use Rattle.bpf_isa.specs.Programs.{Checked, IsProgram}
 use Rattle.bpf_isa.proofs.MapDemands.{decided}
 
 some_of : {o : Option Insn} {i : Insn} → o ≡ Some i → IsSome o

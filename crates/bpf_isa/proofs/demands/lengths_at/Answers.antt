@@ -1,4 +1,4 @@
-use Rattle.std.proofs.Common.{◌≡◌, ◌<◌, ◌*◌, true, false, length, subst, sym, ◌∙◌, arith}
+use Rattle.std.proofs.Common.{◌≡◌, ◌<◌, ◌*◌, true, false, length, subst, arith}
 use Rattle.std.proofs.lemmas.Option.{get_or_from_slice_get}
 use Rattle.bpf_isa.specs.Checker.{is_start, HasFault, HasNoFault}
 use Rattle.bpf_isa.specs.Faults.{IsLeast, piece_fault}
