@@ -150,3 +150,18 @@ shape_by types definition =
 -- The shape of the map of a name. That has at most 255 bytes: it is compared with the name of each variable.
 abbrev pub map_shape : Types → List ℕ → Result MapShape BtfFault
 map_shape types name = provided (nat_le (length name) 255) LongName (after (definition_of types name) (shape_by types))
+
+-- The type of the values of the map of a name: what the member `value` of its definition points to, where there is one.
+abbrev pub pointed_by : Types → ℕ → Option ℕ → Option ℕ
+pointed_by types definition None = None
+pointed_by types definition (Some i) = pointed types (member_at types definition i).of
+
+abbrev pub value_of : Types → ℕ → Option ℕ
+value_of types definition = pointed_by types definition (member_of types definition (codes "value"))
+
+abbrev pub value_by : Types → Result ℕ BtfFault → Option ℕ
+value_by types (Ok definition) = value_of types definition
+value_by types (Err fault) = None
+
+abbrev pub value_type : Types → List ℕ → Option ℕ
+value_type types name = if nat_le (length name) 255 then value_by types (definition_of types name) else None

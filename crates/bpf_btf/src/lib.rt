@@ -16,5 +16,8 @@ mod types;
 
 pub use core_relocations::CoreRelocations;
 pub use fault::BtfFault;
+pub use layout::{ArrayEntry, MemberEntry, TypeEntry};
 pub use maps::MapDescription;
+pub use members::latest;
 pub use section::Btf;
+pub use sizes::is_modifier;

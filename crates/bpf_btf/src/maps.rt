@@ -2,10 +2,10 @@
 ghost use Rattle.std.specs.Prelude.{◌≡◌, ◌≤◌, ◌<◌, ◌+◌, ◌*◌, Some, None, IfSome, Ok, Err, IfOk, if◌then◌else◌};
 ghost use Rattle.bpf_isa.specs.Maps.{IsShape};
 ghost use Rattle.bpf_btf.specs.Types.{start_of, type_of};
-ghost use Rattle.bpf_btf.specs.Maps.{is_maps, maps_section, variable_at, is_variable, is_variable_at, variable_of, struct_of, definition_of, described_by, is_array, limited, map_description, sizes_of, shape_by, map_shape};
+ghost use Rattle.bpf_btf.specs.Maps.{is_maps, maps_section, variable_at, is_variable, is_variable_at, variable_of, struct_of, definition_of, described_by, is_array, limited, map_description, sizes_of, shape_by, map_shape, value_of, value_type};
 
 use crate::fault::BtfFault;
-use crate::members::{latest, number_of, size_by};
+use crate::members::{latest, member_of, number_of, pointed, size_by};
 use crate::section::Btf;
 use crate::sizes::resolved;
 use bpf_isa::{LONGEST_VALUE, MOST_ENTRIES, MOST_MAP_BYTES, MapFault, MapShape};
@@ -64,7 +64,7 @@ fn is_variable_at(btf: &Btf<'_>, name: &[u8], section: usize, i: usize) -> bool
 }
 
 /// The index of the last variable of a name in a section.
-fn variable_of(btf: &Btf<'_>, name: &[u8], section: usize) -> Option<usize>
+pub fn variable_of(btf: &Btf<'_>, name: &[u8], section: usize) -> Option<usize>
     ensures value { result ≡ variable_of btf.now name.now section }
     ensures below { IfSome result (λ i. i < 65536) }
 {
@@ -219,5 +219,30 @@ pub fn map_shape(btf: &Btf<'_>, name: &[u8]) -> Result<MapShape, BtfFault>
     match definition_of(btf, name) {
         Ok(definition) => shape_by(btf, definition),
         Err(fault) => Err(fault),
+    }
+}
+
+/// The type of the values that a struct defines.
+fn value_of(btf: &Btf<'_>, definition: usize) -> Option<usize>
+    ensures { result ≡ value_of btf.now definition }
+{
+    match member_of(btf, definition, b"value") {
+        Some(i) => pointed(btf, btf.member_at(definition, i).of as usize),
+        None => None,
+    }
+}
+
+/// The type of the values of the map of a name of at most 255 bytes.
+///
+/// Takes time in proportion to the length of the section.
+pub fn value_type(btf: &Btf<'_>, name: &[u8]) -> Option<usize>
+    ensures { result ≡ value_type btf.now name.now }
+{
+    if name.len() > LONGEST_NAME {
+        return None;
+    }
+    match definition_of(btf, name) {
+        Ok(definition) => value_of(btf, definition),
+        Err(_) => None,
     }
 }

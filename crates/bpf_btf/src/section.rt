@@ -1,9 +1,10 @@
 //! A section `.BTF` that was read.
-ghost use Rattle.std.specs.Prelude.{◌≡◌, ◌≤◌, ◌<◌, ◌+◌, IfOk, IfErr, length, Ok, Err, slice_index_or};
+ghost use Rattle.std.specs.Prelude.{◌≡◌, ◌≤◌, ◌<◌, ◌+◌, IfOk, IfErr, IfSome, length, Ok, Err, slice_index_or};
 ghost use Rattle.bpf_btf.specs.Layout.{array_entry, btf_header, is_called, member_entry};
 ghost use Rattle.bpf_btf.specs.Contexts.{takes_kernels};
 ghost use Rattle.bpf_btf.specs.CoreRelocations.{AreRelocations, IsExtFault};
-ghost use Rattle.bpf_btf.specs.Maps.{map_description, map_shape, member_at, variable_at};
+ghost use Rattle.bpf_btf.specs.Maps.{map_description, map_shape, member_at, value_type, variable_at, variable_of};
+ghost use Rattle.bpf_btf.specs.Sizes.{size_of};
 ghost use Rattle.bpf_isa.specs.Maps.{IsShape};
 ghost use Rattle.bpf_isa.specs.Words.{u32_at};
 ghost use Rattle.bpf_btf.specs.Sections.{header_of, types_in, strings_in, IsRead, IsReadFault};
@@ -18,7 +19,8 @@ use crate::layout::{
     ArrayEntry, BtfHeader, MemberEntry, TypeEntry, array_entry, btf_header, member_entry,
     type_entry,
 };
-use crate::maps::{MapDescription, map_description, map_shape};
+use crate::maps::{MapDescription, map_description, map_shape, value_type, variable_of};
+use crate::sizes::size_of;
 use crate::types::starts_of;
 use bpf_isa::MapShape;
 use std::alloc::Global;
@@ -164,8 +166,40 @@ impl<'a> Btf<'a> {
         takes_kernels(self, name)
     }
 
+    /// The type of the values of the map of a name: what the member `value` of its definition points
+    /// to. None where it has no such member, and of a name of more than 255 bytes. Takes time in
+    /// proportion to the length of the section.
+    pub fn value_type(&self, name: &[u8]) -> Option<usize>
+        ensures { result ≡ value_type self.now name.now }
+    {
+        value_type(self, name)
+    }
+
+    /// The index of the last variable of a name in a section of variables.
+    pub fn variable_of(&self, name: &[u8], section: usize) -> Option<usize>
+        ensures value { result ≡ variable_of self.now name.now section }
+        ensures below { IfSome result (λ i. i < 65536) }
+    {
+        variable_of(self, name, section)
+    }
+
+    /// How many bytes a type has, behind at most 32 names, qualifiers and arrays. None where it has
+    /// no size.
+    pub fn size_of(&self, id: usize) -> Option<u32>
+        ensures { result ≡ size_of self.now id }
+    {
+        size_of(self, id)
+    }
+
+    /// The names of types and members, each with a zero behind it.
+    pub fn strings(&self) -> &'a [u8]
+        ensures { result.now ≡ self.now.strings }
+    {
+        self.strings
+    }
+
     /// How many types there are.
-    pub(crate) fn len(&self) -> usize
+    pub fn len(&self) -> usize
         ensures { result ≡ length self.now.starts }
     {
         self.starts.len()
@@ -186,7 +220,7 @@ impl<'a> Btf<'a> {
     }
 
     /// How the type of a number begins.
-    pub(crate) fn type_of(&self, id: usize) -> TypeEntry
+    pub fn type_of(&self, id: usize) -> TypeEntry
         ensures value { result ≡ type_of self.now id }
         ensures few { result.count < 65536 }
     {
@@ -194,14 +228,14 @@ impl<'a> Btf<'a> {
     }
 
     /// What the array of a number is of.
-    pub(crate) fn array_of(&self, id: usize) -> ArrayEntry
+    pub fn array_of(&self, id: usize) -> ArrayEntry
         ensures { result ≡ array_entry self.now.bytes (start_of self.now id + 12) }
     {
         array_entry(self.types, self.start_of(id) + 12)
     }
 
     /// The member of a struct by its index.
-    pub(crate) fn member_at(&self, definition: usize, i: usize) -> MemberEntry
+    pub fn member_at(&self, definition: usize, i: usize) -> MemberEntry
         requires { i < 65536 }
         ensures { result ≡ member_at self.now definition i }
     {
@@ -209,11 +243,19 @@ impl<'a> Btf<'a> {
     }
 
     /// The number of the type that is the variable of a section by its index.
-    pub(crate) fn variable_at(&self, section: usize, i: usize) -> usize
+    pub fn variable_at(&self, section: usize, i: usize) -> usize
         requires { i < 65536 }
         ensures { result ≡ variable_at self.now section i }
     {
         u32_at(self.types, self.start_of(section) + 12 + 12 * i) as usize
+    }
+
+    /// The number in the four bytes that stand so far behind the beginning of a type.
+    pub fn number_at(&self, id: usize, behind: usize) -> u32
+        requires { behind < 4294967296 }
+        ensures { result ≡ u32_at self.now.bytes (start_of self.now id + behind) }
+    {
+        u32_at(self.types, self.start_of(id) + behind)
     }
 
     /// The type of the first parameter of functions of a type.
@@ -224,7 +266,7 @@ impl<'a> Btf<'a> {
     }
 
     /// Whether a name stands at a place among the strings.
-    pub(crate) fn is_called(&self, offset: u32, name: &[u8]) -> bool
+    pub fn is_called(&self, offset: u32, name: &[u8]) -> bool
         ensures { result ≡ is_called self.now.strings offset name.now }
     {
         is_called(self.strings, offset, name)

@@ -25,7 +25,7 @@ fn most_links() -> u32
 }
 
 /// Whether a type is a name or a qualifier of another.
-fn is_modifier(entry: &TypeEntry) -> bool
+pub fn is_modifier(entry: &TypeEntry) -> bool
     ensures { result ≡ is_modifier entry.now }
 {
     matches!(entry.kind, 8 | 9 | 10 | 11 | 18)
