@@ -34,7 +34,7 @@ mod tables;
 mod undefined;
 mod words;
 
-pub use data_sections::is_among;
+pub use data_sections::{data_of, is_among};
 pub use entry::is_program;
 pub use fault::{LinkFault, RelocationFault};
 pub use field_relocations::fields_as_compiled;
