@@ -63,7 +63,6 @@ module _ {K : Type 0} (holds : K → List Kept → Type 0) where
   WalksBack place keeper at result =
       (newer front : List Kept) → holds keeper (newer ++ front) → place keeper front ≡ at → result ≡ walked (place keeper) front
 
-  -- A byte and the depth are told of each front at the place.
   -- So many of the newest entries of the front at a place are of moves that left the byte at an address as it was, before them the depth of calls
   -- is this one, and that is the place of the others.
   pub record IsPassed (place : List Kept → ℕ) (address byte depth : ℕ) (front : List Kept) (passed : PassedOver) : Type 0 where
@@ -74,6 +73,7 @@ module _ {K : Type 0} (holds : K → List Kept → Type 0) where
   Passes place keeper at address byte depth passed =
       (newer front : List Kept) → holds keeper (newer ++ front) → place keeper front ≡ at → IsPassed (place keeper) address byte depth front passed
 
+  -- A byte and the depth are told of each front at the place.
   abbrev pub TellsByteBefore : (K → List Kept → ℕ) → K → ℕ → ℕ → ℕ → ℕ → Option (ℕ × ℕ × ℕ) → Type 0
   TellsByteBefore place keeper at depth address after result =
       (newer front : List Kept) → holds keeper (newer ++ front) → place keeper front ≡ at →
