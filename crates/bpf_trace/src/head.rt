@@ -7,6 +7,7 @@ use counted_io::{Counted, WriteFault, put};
 use std::io::Write;
 
 /// Begins a line with the number of a step and the text of its instruction.
+#[inline(always)]
 pub fn put_head<W: Write>(
     line: &mut Line,
     number: u64,
@@ -26,6 +27,7 @@ pub fn put_head<W: Write>(
 
 /// Adds a text of any length to a line. One that would leave no room for more is written, and before
 /// it what the line has.
+#[inline(always)]
 fn put_long<W: Write>(
     line: &mut Line,
     text: &[u8],

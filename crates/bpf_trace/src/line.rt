@@ -1,6 +1,6 @@
 //! A line that is put together in memory, so that it is written at once.
 ghost use Rattle.std.specs.Prelude.{◌≡◌, ◌≤◌, ◌+◌, ◌++◌, ◌<◌, [], decimal, drop, false, length};
-ghost use Rattle.std.specs.Fmt.{digits};
+ghost use Rattle.std.specs.Fmt.{digit_glyph, digits};
 ghost use Rattle.counted_io.specs.Writing.{hexadecimal};
 ghost use Rattle.bpf_trace.specs.Lines.{line_room};
 
@@ -79,6 +79,7 @@ impl Line {
     }
 
     /// Adds a number in decimal, which has at most 20 digits.
+    #[inline(always)]
     pub fn add_decimal(&mut self, value: u64)
         requires { length self.old + 20 ≤ line_room }
         ensures text { self.new ≡ self.old ++ decimal value }
@@ -87,9 +88,18 @@ impl Line {
         if value < 10 {
             self.add(&[b'0' + value as u8]);
         } else {
-            let mut digits = Buffer::new();
-            self.add(digits.format(value).as_bytes());
+            self.add_digits(value);
         }
+    }
+
+    /// Adds the digits of a number.
+    fn add_digits(&mut self, value: u64)
+        requires { length self.old + 20 ≤ line_room }
+        ensures text { self.new ≡ self.old ++ decimal value }
+        ensures short { length self.new ≤ length self.old + 20 }
+    {
+        let mut digits = Buffer::new();
+        self.add(digits.format(value).as_bytes());
     }
 
     /// Adds a number as 0x and lower-case hexadecimal digits, without leading zeros.
@@ -114,10 +124,38 @@ fn write_digits(value: u64, buffer: &mut [u8; MOST_DIGITS]) -> usize
     let mut rest = value;
     while rest >= 16 {
         start -= 1;
-        buffer[start] = hex_digit((rest % 16) as u8);
+        buffer[start] = digit((rest % 16) as u8);
         rest /= 16;
     }
     start -= 1;
-    buffer[start] = hex_digit(rest as u8);
+    buffer[start] = digit(rest as u8);
     start
+}
+
+/// The lower-case digit of a value below 16. The compiler makes a table of the arms: `hex_digit`
+/// compares and chooses, at six instructions more a digit.
+#[inline(always)]
+fn digit(value: u8) -> u8
+    requires { value < 16 }
+    ensures { result ≡ digit_glyph false value }
+{
+    match value {
+        0 => b'0',
+        1 => b'1',
+        2 => b'2',
+        3 => b'3',
+        4 => b'4',
+        5 => b'5',
+        6 => b'6',
+        7 => b'7',
+        8 => b'8',
+        9 => b'9',
+        10 => b'a',
+        11 => b'b',
+        12 => b'c',
+        13 => b'd',
+        14 => b'e',
+        15 => b'f',
+        _ => hex_digit(value),
+    }
 }

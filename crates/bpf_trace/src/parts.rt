@@ -15,6 +15,7 @@ use bpfdb_replies::number_in;
 use byteorder::{ByteOrder, LittleEndian};
 
 /// Adds each part that the step with this change wrote, in the machine after it.
+#[inline(always)]
 pub fn add_parts(line: &mut Line, cpu: &Cpu, change: &Change)
     requires { length line.old ≤ 300 }
     ensures text { line.new ≡ line.old ++ flat_map (written_text cpu.now)

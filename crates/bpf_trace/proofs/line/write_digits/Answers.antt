@@ -22,10 +22,10 @@ loop-rest-preserved c =
       sized = grind (arith, common_steps);
       some = omega arith;
       small = div-lt-pow _ _ c.loop-rest-test.true known.small;
-      rest_of = digits_left-write _ _ _ _ _ known.some (omega arith) c.loop-rest-test.true c.hex_digit.ensures known.rest_of;
+      rest_of = digits_left-write _ _ _ _ _ known.some (omega arith) c.loop-rest-test.true c.digit.ensures known.rest_of;
     }
 
 pub returns-clause-value : goal.returns-clause-value
 returns-clause-value c =
     let known = c.loop-rest.invariant in
-    digits_left-first _ _ _ _ _ known.some (omega arith) c.loop-rest-test.false c.hex_digit-2.ensures known.rest_of
+    digits_left-first _ _ _ _ _ known.some (omega arith) c.loop-rest-test.false c.digit-2.ensures known.rest_of
