@@ -1,9 +1,7 @@
 use Rattle.std.proofs.Common.{◌≡◌, ◌-◌, ◌++◌, ◌∙◌, length, take, drop, refl, sym, ap, arith}
 use Rattle.std.proofs.lemmas.List.{length-append, length-take, take-append-drop, take_at}
-use Rattle.bpf_entries.specs.Keeping.{kept_weight}
 use Rattle.bpf_entries.specs.Rings.{ring}
 use Rattle.bpf_ring.proofs.Held.{fit_front, length-ring, ring-append}
-use Rattle.bpf_ring.specs.Ways.{HasText}
 use Rattle.bpf_ring.proofs.keeper.RingKeeper.pass_over.Goals as goal
 
 pub returns-then-place-len : goal.returns-then-place-len
