@@ -11,3 +11,4 @@ pub mod Writing
 pub mod EntryParts
 pub mod Turning
 pub mod TurnTexts
+pub mod Zeros
