@@ -1,41 +1,26 @@
--- Why nothing stands in place of a piece.
-use Rattle.std.proofs.Common.{◌≡◌, ◌<◌, ℕ, List, [], Result, Ok, Err, inl, inr, length, subst, sym}
-use Rattle.std.specs.Prelude.{IfErr, IfOk, get_or}
-use Rattle.suite_files.specs.Asks.{Asks}
-use Rattle.suite_files.specs.Replaced.{IsCopyFault, IsLineFault, IsOthersFault, IsPieceFault, IsPutFault}
-use Rattle.suite_files.specs.declared.asked.Asked.{Asked}
+-- Why no file of tests comes of a piece.
+use Rattle.std.proofs.Common.{◌≡◌, ◌++◌, ℕ, List, Result, Ok, Err, inr, subst}
+use Rattle.std.specs.Prelude.{IfErr, IfOk, Option}
+use Rattle.suite_files.specs.Refused.{IsPieceFault, IsTooLong}
+use Rattle.suite_files.specs.Replaced.{IsPut}
 use Rattle.suite_files.specs.declared.fault.FilesFault.{FilesFault}
-use Rattle.suite_files.specs.declared.fault.NamedFault.TheVariants.{Malformed, Outside, Unread, NoPacket, TooMuch}
 use Rattle.suite_files.specs.declared.place.Place.{Place}
-use Rattle.suite_files.specs.declared.put.PutFault.{PutFault}
-use Rattle.suite_files.specs.declared.put.PutFault.TheVariants.{Named, Link, Memory}
 use Rattle.suite_texts.specs.declared.piece.Piece.{Piece}
 
--- one of the objects that are joined isn't there
-one-fault : (place : Place) (piece : List ℕ) (asked : Asked) (n : ℕ) (fault : PutFault) → Asks piece asked → n < length asked.with.items
-    → IsCopyFault place (get_or asked.with.items n []) fault → IsPutFault place piece fault
-one-fault place piece asked n (Named Malformed) asks inside why = inr (inr (inr (inr (inr (asked, asks, n, inside, why)))))
-one-fault place piece asked n (Named Outside) asks inside why = inr (inr (asked, asks, n, inside, why))
-one-fault place piece asked n (Named Unread) asks inside why = tt
-one-fault place piece asked n (Named NoPacket) asks inside why = absurd why
-one-fault place piece asked n (Named TooMuch) asks inside why = tt
-one-fault place piece asked n (Link told) asks inside why = absurd why
-one-fault place piece asked n Memory asks inside why = tt
+-- with what stands in its place the text is too long
+pub long-piece : (bytes_at : List ℕ → Option (List ℕ)) (place : Place) (before : List ℕ) (piece : Piece) (put : List ℕ) → IsPut bytes_at place piece.text put
+    → (line : ℕ) (bytes : List ℕ) (fault : FilesFault) → line ≡ piece.line → bytes ≡ put → IsTooLong line (before ++ bytes) fault
+    → IsPieceFault bytes_at place before piece fault
+long-piece bytes_at place before piece put is line bytes fault same alike why =
+    let told = subst (λ (n : ℕ). IsTooLong n (before ++ bytes) fault) same why in
+    inr (put, is, subst (λ (b : List ℕ). IsTooLong piece.line (before ++ b) fault) alike told)
 
-pub others-fault : (place : Place) (piece : List ℕ) (asked : Asked) (fault : PutFault) → Asks piece asked → IsOthersFault place asked fault
-    → IsPutFault place piece fault
-others-fault place piece asked fault asks (inl one) = one-fault place piece asked one.0 fault asks one.1 one.2
-others-fault place piece asked fault asks (inr none) = subst (λ (f : PutFault). IsPutFault place piece f) (sym none) tt
-
--- with its files a piece is too long
-pub line-fault : (place : Place) (piece : Piece) (fault : FilesFault) → IsLineFault piece.line fault → IsPieceFault place piece fault
-line-fault place piece fault (inl long) = (Named TooMuch, tt, long)
-line-fault place piece fault (inr none) = (Memory, tt, none)
-
-pub line-faults : {A : Type 0} (place : Place) (piece : Piece) (line : ℕ) (r : Result A FilesFault) → line ≡ piece.line → IfErr r (IsLineFault line)
-    → IfErr r (IsPieceFault place piece)
-line-faults place piece line (Ok a) same why = tt
-line-faults place piece line (Err fault) same why = line-fault place piece fault (subst (λ (l : ℕ). IsLineFault l fault) same why)
+pub long-pieces : {A : Type 0} (bytes_at : List ℕ → Option (List ℕ)) (place : Place) (before : List ℕ) (piece : Piece) (put : List ℕ)
+    → IsPut bytes_at place piece.text put → (line : ℕ) (bytes : List ℕ) (r : Result A FilesFault) → line ≡ piece.line → bytes ≡ put
+    → IfErr r (IsTooLong line (before ++ bytes)) → IfErr r (IsPieceFault bytes_at place before piece)
+long-pieces bytes_at place before piece put is line bytes (Ok a) same alike why = tt
+long-pieces bytes_at place before piece put is line bytes (Err fault) same alike why =
+    long-piece bytes_at place before piece put is line bytes fault same alike why
 
 -- what is known of a result that is known
 pub of-ok : {A E : Type 0} (P : A → Type 0) (r : Result A E) (a : A) → r ≡ Ok a → IfOk r P → P a

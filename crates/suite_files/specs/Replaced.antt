@@ -1,24 +1,16 @@
 -- A file of tests in which sections that name files are replaced by sections of what these hold.
-use Rattle.std.specs.Prelude.{ℕ, zero, suc, ◌≡◌, ◌⊎◌, ◌<◌, true, false, List, [], ◌∷◌, ◌++◌, Option, Some, None, drop, get_or, length, take, ⊤}
-use Rattle.std.specs.List.{All, position_or_len}
+use Rattle.std.specs.Prelude.{ℕ, zero, suc, ◌≡◌, true, List, [], ◌∷◌, ◌++◌, Option, Some, drop, get_or, length, take}
+use Rattle.std.specs.List.{position_or_len}
 use Rattle.std.specs.Option.{option_and_then}
 use Rattle.bpf_link.specs.declared.linker.Linked.{Linked}
 use Rattle.counted_io.specs.Lines.{is_blank, trim_start}
 use Rattle.counted_io.specs.Numerals.{as_u64, natural}
-use Rattle.suite_files.specs.Asks.{Asks, AsksNothing}
-use Rattle.suite_files.specs.Links.{IsProgramOf, IsUnlinked}
+use Rattle.suite_files.specs.Asks.{Asks}
+use Rattle.suite_files.specs.Links.{IsProgramOf}
 use Rattle.suite_files.specs.Maps.{maps_text}
-use Rattle.suite_files.specs.Shelves.{IsFile, IsNameFault, is_allowed}
+use Rattle.suite_files.specs.Shelves.{IsFile}
 use Rattle.suite_files.specs.declared.asked.Asked.{Asked}
-use Rattle.suite_files.specs.declared.fault.FilesFault.{FilesFault}
-use Rattle.suite_files.specs.declared.fault.FilesFault.TheVariants as whole
-use Rattle.suite_files.specs.declared.fault.NamedFault.TheVariants.{Malformed, Outside, NoPacket, TooMuch}
 use Rattle.suite_files.specs.declared.place.Place.{Place}
-use Rattle.suite_files.specs.declared.put.PutFault.{PutFault}
-use Rattle.suite_files.specs.declared.put.PutFault.TheVariants.{Named, Link, Memory}
-use Rattle.suite_files.specs.declared.file.Done.{Done}
-use Rattle.suite_files.specs.declared.shelf.NameFault.{NameFault}
-use Rattle.suite_files.specs.declared.shelf.NameFault.TheVariants as name
 use Rattle.suite_texts.specs.Captures.{packet_in}
 use Rattle.suite_texts.specs.Heads.{head_of}
 use Rattle.suite_texts.specs.Options.{is_empty}
@@ -63,15 +55,18 @@ ReadFirst bytes_at place names (suc n) all = (before : List (List ℕ)) × ReadF
 abbrev pub program_text : Linked → List ℕ
 program_text program = words_text program.words.items (maps_text program.shapes.items)
 
-pub record IsProgramPut (bytes_at : List ℕ → Option (List ℕ)) (place : Place) (piece put : List ℕ) : Type 0 where
-  pub asked : Asked
-  pub asks : Asks piece asked
+pub record IsAskedProgram (bytes_at : List ℕ → Option (List ℕ)) (place : Place) (asked : Asked) (program : Linked) : Type 0 where
   pub object : List ℕ
   pub file : IsFile bytes_at place asked.object object
   pub with : List (List ℕ)
   pub others : ReadFirst bytes_at place asked.with.items (length asked.with.items) with
-  pub program : Linked
   pub is_program : IsProgramOf asked object with program
+
+pub record IsProgramPut (bytes_at : List ℕ → Option (List ℕ)) (place : Place) (piece put : List ℕ) : Type 0 where
+  pub asked : Asked
+  pub asks : Asks piece asked
+  pub program : Linked
+  pub is_program : IsAskedProgram bytes_at place asked program
   pub is_put : put ≡ program_text program ++ feeds piece
 
 -- What stands in place of a piece: itself where it names no file.
@@ -96,61 +91,3 @@ ReplacesFirst bytes_at place all begun (suc n) text = (before : List ℕ) × Rep
 -- Each piece of a file is replaced, and what stands in front of them stays.
 abbrev pub IsReplaced : (List ℕ → Option (List ℕ)) → Place → List ℕ → List ℕ → Type 0
 IsReplaced bytes_at place text all = ReplacesFirst bytes_at place (pieces text) (front text) (length (pieces text)) all
-
--- Pieces with what stands in their place.
-abbrev pub AreDone : (List ℕ → Option (List ℕ)) → Place → List Done → Type 0
-AreDone bytes_at place all = All (λ done. IsPut bytes_at place done.piece.now done.put.items) all
-
--- Why a file isn't there, of a name; and of one of several.
-abbrev pub put_fault : NameFault → PutFault
-put_fault (name.Named fault) = Named fault
-put_fault name.Memory = Memory
-
-abbrev pub IsCopyFault : Place → List ℕ → PutFault → Type 0
-IsCopyFault place named (Named fault) = IsNameFault place named (name.Named fault)
-IsCopyFault place named (Link told) = ⊥
-IsCopyFault place named Memory = ⊤
-
-abbrev pub IsOthersFault : Place → Asked → PutFault → Type 0
-IsOthersFault place asked fault = ((n : ℕ) × (n < length asked.with.items) × IsCopyFault place (get_or asked.with.items n []) fault)
-    ⊎ (fault ≡ Memory)
-
--- A section isn't what it takes: the lines behind its head, what it asks, a number, or a name that isn't there.
-abbrev pub IsMalformed : List ℕ → Type 0
-IsMalformed piece = (is_empty piece ≡ false) ⊎ ((packet_number (head_of piece).value ≡ None) ⊎ (AsksNothing piece
-    ⊎ (((head_of piece).value ≡ []) ⊎ ((capture_name (head_of piece).value ≡ [])
-    ⊎ ((asked : Asked) × Asks piece asked × (n : ℕ) × (n < length asked.with.items) × (get_or asked.with.items n [] ≡ []))))))
-
--- A section names a file that isn't allowed.
-abbrev pub NamesOutside : Place → List ℕ → Type 0
-NamesOutside place piece = (is_allowed place (head_of piece).value ≡ false) ⊎ ((is_allowed place (capture_name (head_of piece).value) ≡ false)
-    ⊎ ((asked : Asked) × Asks piece asked × (n : ℕ) × (n < length asked.with.items) × (is_allowed place (get_or asked.with.items n []) ≡ false)))
-
--- Why nothing stands in place of a piece.
-abbrev pub IsPutFault : Place → List ℕ → PutFault → Type 0
-IsPutFault place piece (Named Malformed) = IsMalformed piece
-IsPutFault place piece (Named Outside) = NamesOutside place piece
-IsPutFault place piece (Named NoPacket) = (capture : List ℕ) × (number : ℕ) × (packet_number (head_of piece).value ≡ Some number)
-    × (packet_in capture number ≡ None)
-IsPutFault place piece (Named fault) = ⊤
-IsPutFault place piece (Link told) = (asked : Asked) × Asks piece asked × (object : List ℕ) × (with : List (List ℕ)) × IsUnlinked asked object with told
-IsPutFault place piece Memory = ⊤
-
--- Why no file of tests comes of one: by a piece of it, and its line; or memory ran out.
-abbrev pub files_fault : ℕ → PutFault → FilesFault
-files_fault line (Named fault) = whole.Section fault line
-files_fault line (Link told) = whole.Link told line
-files_fault line Memory = whole.Memory
-
--- It is too long there.
-abbrev pub IsLineFault : ℕ → FilesFault → Type 0
-IsLineFault line fault = (fault ≡ whole.Section TooMuch line) ⊎ (fault ≡ whole.Memory)
-
-abbrev pub IsPieceFault : Place → Piece → FilesFault → Type 0
-IsPieceFault place piece fault = (why : PutFault) × IsPutFault place piece.text why × (fault ≡ files_fault piece.line why)
-
-abbrev pub AreFaulty : Place → List Piece → FilesFault → Type 0
-AreFaulty place all fault = (n : ℕ) × (n < length all) × IsPieceFault place (get_or all n no_piece) fault
-
-abbrev pub IsFilesFault : Place → List ℕ → FilesFault → Type 0
-IsFilesFault place text fault = (fault ≡ whole.Memory) ⊎ AreFaulty place (pieces text) fault

@@ -33,7 +33,8 @@ IsReadFault Memory = ⊤
 abbrev pub IsNameFault : Place → List ℕ → NameFault → Type 0
 IsNameFault place name (Named Malformed) = name ≡ []
 IsNameFault place name (Named Outside) = is_allowed place name ≡ false
-IsNameFault place name fault = IsReadFault fault
+IsNameFault place name (Named fault) = IsReadFault (Named fault) × (is_allowed place name ≡ true)
+IsNameFault place name Memory = ⊤
 
 -- A file that was read, with its path, and where its packets begin.
 pub record IsRead (bytes_at : List ℕ → Option (List ℕ)) (file : Shelved) : Type 0 where

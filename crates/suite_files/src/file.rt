@@ -1,8 +1,9 @@
 //! A file of tests whose sections name files, as one that names none.
 ghost use Rattle.std.specs.Prelude.{◌≡◌, ◌++◌, ◌<◌, ℕ, List, IfOk, IfErr, IfSome, OnOk, get_or, length};
-ghost use Rattle.suite_files.specs.Replaced.{AreDone, AreFaulty, IsFilesFault, IsLineFault, IsPieceFault, IsPut, IsReplaced, ReplacesFirst, files_fault};
+ghost use Rattle.suite_files.specs.Desks.{IsDesk};
+ghost use Rattle.suite_files.specs.Refused.{AreFaulty, IsFilesFault, IsPieceFault, IsTooLong, files_fault};
+ghost use Rattle.suite_files.specs.Replaced.{IsPut, IsReplaced, ReplacesFirst};
 ghost use Rattle.suite_files.specs.declared.file.Done.{Done};
-ghost use Rattle.suite_files.specs.Shelves.{AreRead};
 ghost use Rattle.suite_texts.specs.Pieces.{front, pieces};
 
 use crate::fault::{FilesFault, NamedFault};
@@ -50,6 +51,13 @@ fn line_of(piece: &Piece<'_>) -> usize
     piece.line
 }
 
+/// The bytes of a piece.
+fn text_of<'a>(piece: &Piece<'a>) -> &'a [u8]
+    ensures { result.now ≡ piece.now.text }
+{
+    piece.text.bytes
+}
+
 /// What is told of a fault of a piece.
 fn in_line(fault: PutFault, line: usize) -> FilesFault
     ensures { result ≡ files_fault line fault }
@@ -64,7 +72,7 @@ fn in_line(fault: PutFault, line: usize) -> FilesFault
 /// A text with more behind it, which isn't longer than a file of tests may be.
 fn with_put(mut text: Vec<u8>, more: &[u8], line: usize) -> Result<Vec<u8>, FilesFault>
     ensures ok { IfOk result (λ all. all.items ≡ text.items ++ more.now) }
-    ensures err { IfErr result (IsLineFault line) }
+    ensures err { IfErr result (IsTooLong line (text.items ++ more.now)) }
 {
     if more.len() > MOST_BYTES - text.len().min(MOST_BYTES) {
         return Err(FilesFault::Section(NamedFault::TooMuch, line));
@@ -84,17 +92,16 @@ fn with_new<'a, F: Opener>(
     desk: &mut Desk<'a>,
     text: Vec<u8>,
 ) -> Result<Vec<u8>, FilesFault>
-    requires read { AreRead (F.bytes_at files.now) desk.old.shelf.items }
-    requires done { AreDone (F.bytes_at files.now) place.now desk.old.done.items }
+    requires { IsDesk (F.bytes_at files.now) place.now desk.old }
     ensures ok { IfOk result (λ all. (put : List ℕ)
         × IsPut (F.bytes_at files.now) place.now piece.now.text put
         × (all.items ≡ text.items ++ put)) }
-    ensures err { IfErr result (IsPieceFault place.now piece.now) }
-    ensures read { OnOk result (AreRead (F.bytes_at files.now) desk.new.shelf.items) }
-    ensures done { OnOk result (AreDone (F.bytes_at files.now) place.now desk.new.done.items) }
+    ensures err { IfErr result (IsPieceFault (F.bytes_at files.now) place.now text.items piece.now) }
+    ensures desk { OnOk result (IsDesk (F.bytes_at files.now) place.now desk.new) }
 {
     let line = line_of(piece);
-    let put = match put_piece(alloc, files, place, piece.text.bytes, &mut desk.shelf) {
+    let bytes = text_of(piece);
+    let put = match put_piece(alloc, files, place, bytes, &mut desk.shelf) {
         Ok(put) => put,
         Err(fault) => return Err(in_line(fault, line)),
     };
@@ -102,13 +109,10 @@ fn with_new<'a, F: Opener>(
         Ok(all) => all,
         Err(fault) => return Err(fault),
     };
-    if !head_of(piece.text.bytes).word.is(Word::Object) {
+    if !head_of(bytes).word.is(Word::Object) {
         return Ok(all);
     }
-    let done = Done {
-        piece: piece.text.bytes,
-        put,
-    };
+    let done = Done { piece: bytes, put };
     match desk.done.push(done) {
         Ok(()) => Ok(all),
         Err(_) => Err(FilesFault::Memory),
@@ -124,14 +128,12 @@ fn with_piece<'a, F: Opener>(
     desk: &mut Desk<'a>,
     text: Vec<u8>,
 ) -> Result<Vec<u8>, FilesFault>
-    requires read { AreRead (F.bytes_at files.now) desk.old.shelf.items }
-    requires done { AreDone (F.bytes_at files.now) place.now desk.old.done.items }
+    requires { IsDesk (F.bytes_at files.now) place.now desk.old }
     ensures ok { IfOk result (λ all. (put : List ℕ)
         × IsPut (F.bytes_at files.now) place.now piece.now.text put
         × (all.items ≡ text.items ++ put)) }
-    ensures err { IfErr result (IsPieceFault place.now piece.now) }
-    ensures read { OnOk result (AreRead (F.bytes_at files.now) desk.new.shelf.items) }
-    ensures done { OnOk result (AreDone (F.bytes_at files.now) place.now desk.new.done.items) }
+    ensures err { IfErr result (IsPieceFault (F.bytes_at files.now) place.now text.items piece.now) }
+    ensures desk { OnOk result (IsDesk (F.bytes_at files.now) place.now desk.new) }
 {
     match done_at(desk.done.as_slice(), piece.text.bytes) {
         Some(at) => {
@@ -152,7 +154,7 @@ fn with_pieces<'a, F: Opener>(
 ) -> Result<Vec<u8>, FilesFault>
     ensures ok { IfOk result (λ all. ReplacesFirst (F.bytes_at files.now) place.now pieces.now
         begun.items (length pieces.now) all.items) }
-    ensures err { IfErr result (AreFaulty place.now pieces.now) }
+    ensures err { IfErr result (AreFaulty (F.bytes_at files.now) place.now pieces.now begun.items) }
 {
     let mut desk = Desk {
         shelf: Vec::new(alloc),
@@ -181,7 +183,7 @@ pub fn replaced<F: Opener>(
     text: &[u8],
 ) -> Result<Vec<u8>, FilesFault>
     ensures ok { IfOk result (λ all. IsReplaced (F.bytes_at files.now) place.now text.now all.items) }
-    ensures err { IfErr result (IsFilesFault place.now text.now) }
+    ensures err { IfErr result (IsFilesFault (F.bytes_at files.now) place.now text.now) }
 {
     let Ok(found) = pieces(alloc, text) else {
         return Err(FilesFault::Memory);

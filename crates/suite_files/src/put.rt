@@ -2,9 +2,11 @@
 ghost use Rattle.std.specs.Prelude.{◌≡◌, ◌++◌, ◌<◌, [], IfOk, IfErr, get_or, length};
 ghost use Rattle.suite_files.specs.Asks.{Asks};
 ghost use Rattle.suite_files.specs.Links.{contents};
-ghost use Rattle.suite_files.specs.Replaced.{IsCopyFault, IsMemoryPut, IsOthersFault, IsPacketPut, IsProgramPut, IsPut, IsPutFault, ReadFirst, capture_name, packet_number, program_text, put_fault};
+ghost use Rattle.suite_files.specs.Refused.{IsAskedFault, IsCopyFault, IsMemoryFault, IsOthersFault, IsPacketFault, IsProgramFault, IsPutFault, put_fault};
+ghost use Rattle.suite_files.specs.Replaced.{IsAskedProgram, IsMemoryPut, IsPacketPut, IsProgramPut, IsPut, ReadFirst, capture_name, packet_number, program_text};
 ghost use Rattle.suite_files.specs.Shelves.{AreRead, IsFile};
 ghost use Rattle.suite_texts.specs.Heads.{head_of};
+ghost use Rattle.suite_texts.specs.Options.{is_empty};
 ghost use Rattle.suite_texts.specs.Puts.{feeds, memory_text};
 
 use crate::asked::{Asked, asked_of};
@@ -83,7 +85,7 @@ fn put_memory<F: Opener>(
 ) -> Result<Vec<u8>, PutFault>
     requires { AreRead (F.bytes_at files.now) shelf.old.items }
     ensures ok { IfOk result (λ put. IsMemoryPut (F.bytes_at files.now) place.now piece.now put.items) }
-    ensures err { IfErr result (IsPutFault place.now piece.now) }
+    ensures err { IfErr result (IsMemoryFault (is_empty piece.now) place.now (head_of piece.now).value) }
     ensures read { AreRead (F.bytes_at files.now) shelf.new.items }
 {
     if !is_empty(piece) {
@@ -123,7 +125,8 @@ fn put_packet<F: Opener>(
 ) -> Result<Vec<u8>, PutFault>
     requires { AreRead (F.bytes_at files.now) shelf.old.items }
     ensures ok { IfOk result (λ put. IsPacketPut (F.bytes_at files.now) place.now piece.now put.items) }
-    ensures err { IfErr result (IsPutFault place.now piece.now) }
+    ensures err { IfErr result (IsPacketFault (is_empty piece.now) (F.bytes_at files.now) place.now
+        (head_of piece.now).value) }
     ensures read { AreRead (F.bytes_at files.now) shelf.new.items }
 {
     if !is_empty(piece) {
@@ -194,7 +197,7 @@ fn others_of<F: Opener>(
     requires { AreRead (F.bytes_at files.now) shelf.old.items }
     ensures ok { IfOk result (λ all. ReadFirst (F.bytes_at files.now) place.now asked.now.with.items
         (length asked.now.with.items) (contents all.items)) }
-    ensures err { IfErr result (IsOthersFault place.now asked.now) }
+    ensures err { IfErr result (IsOthersFault (F.bytes_at files.now) place.now asked.now) }
     ensures read { AreRead (F.bytes_at files.now) shelf.new.items }
 {
     let mut all = Vec::new(alloc);
@@ -213,19 +216,17 @@ fn others_of<F: Opener>(
     Ok(all)
 }
 
-/// In place of a piece the program that is asked for.
-fn put_asked<F: Opener>(
+/// The program that is asked for.
+fn asked_program<F: Opener>(
     alloc: Global,
     files: &F,
     place: &Place<'_>,
-    piece: &[u8],
     asked: &Asked<'_>,
     shelf: &mut Vec<Shelved>,
-) -> Result<Vec<u8>, PutFault>
-    requires asked { Asks piece.now asked.now }
-    requires read { AreRead (F.bytes_at files.now) shelf.old.items }
-    ensures ok { IfOk result (λ put. IsProgramPut (F.bytes_at files.now) place.now piece.now put.items) }
-    ensures err { IfErr result (IsPutFault place.now piece.now) }
+) -> Result<Linked, PutFault>
+    requires { AreRead (F.bytes_at files.now) shelf.old.items }
+    ensures ok { IfOk result (IsAskedProgram (F.bytes_at files.now) place.now asked.now) }
+    ensures err { IfErr result (IsAskedFault (F.bytes_at files.now) place.now asked.now) }
     ensures read { AreRead (F.bytes_at files.now) shelf.new.items }
 {
     let others = match others_of(alloc, files, place, asked, shelf) {
@@ -238,12 +239,33 @@ fn put_asked<F: Opener>(
         Err(fault) => return Err(fault_of(fault)),
     };
     match program_of(alloc, asked, shelf[at].bytes.as_slice(), others.as_slice()) {
-        Ok(Ok(program)) => match program_put(alloc, piece, &program) {
+        Ok(Ok(program)) => Ok(program),
+        Ok(Err(told)) => Err(PutFault::Link(told)),
+        Err(_) => Err(PutFault::Memory),
+    }
+}
+
+/// In place of a piece the program that is asked for.
+fn put_asked<F: Opener>(
+    alloc: Global,
+    files: &F,
+    place: &Place<'_>,
+    piece: &[u8],
+    asked: &Asked<'_>,
+    shelf: &mut Vec<Shelved>,
+) -> Result<Vec<u8>, PutFault>
+    requires asked { Asks piece.now asked.now }
+    requires read { AreRead (F.bytes_at files.now) shelf.old.items }
+    ensures ok { IfOk result (λ put. IsProgramPut (F.bytes_at files.now) place.now piece.now put.items) }
+    ensures err { IfErr result (IsProgramFault (F.bytes_at files.now) place.now piece.now) }
+    ensures read { AreRead (F.bytes_at files.now) shelf.new.items }
+{
+    match asked_program(alloc, files, place, asked, shelf) {
+        Ok(program) => match program_put(alloc, piece, &program) {
             Ok(put) => Ok(put),
             Err(_) => Err(PutFault::Memory),
         },
-        Ok(Err(told)) => Err(PutFault::Link(told)),
-        Err(_) => Err(PutFault::Memory),
+        Err(fault) => Err(fault),
     }
 }
 
@@ -257,7 +279,7 @@ fn put_program<F: Opener>(
 ) -> Result<Vec<u8>, PutFault>
     requires { AreRead (F.bytes_at files.now) shelf.old.items }
     ensures ok { IfOk result (λ put. IsProgramPut (F.bytes_at files.now) place.now piece.now put.items) }
-    ensures err { IfErr result (IsPutFault place.now piece.now) }
+    ensures err { IfErr result (IsProgramFault (F.bytes_at files.now) place.now piece.now) }
     ensures read { AreRead (F.bytes_at files.now) shelf.new.items }
 {
     match asked_of(alloc, piece) {
@@ -277,7 +299,7 @@ pub fn put_piece<F: Opener>(
 ) -> Result<Vec<u8>, PutFault>
     requires { AreRead (F.bytes_at files.now) shelf.old.items }
     ensures ok { IfOk result (λ put. IsPut (F.bytes_at files.now) place.now piece.now put.items) }
-    ensures err { IfErr result (IsPutFault place.now piece.now) }
+    ensures err { IfErr result (IsPutFault (F.bytes_at files.now) place.now piece.now) }
     ensures read { AreRead (F.bytes_at files.now) shelf.new.items }
 {
     match head_of(piece).word {

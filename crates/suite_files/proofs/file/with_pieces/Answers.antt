@@ -1,7 +1,8 @@
 use Rattle.std.proofs.Common.{◌≡◌, ◌<◌, ◌+◌, ◌++◌, ◌∙◌, ℕ, List, add-one, length, subst, sym}
 use Rattle.std.proofs.lemmas.List.{get_or_default}
 use Rattle.std.specs.Prelude.{Option, get_or}
-use Rattle.suite_files.specs.Replaced.{IsPieceFault, IsPut, ReplacesFirst, no_piece}
+use Rattle.suite_files.specs.Refused.{IsPieceFault}
+use Rattle.suite_files.specs.Replaced.{IsPut, ReplacesFirst, no_piece}
 use Rattle.suite_files.specs.declared.place.Place.{Place}
 use Rattle.suite_texts.specs.declared.piece.Piece.{Piece}
 use Rattle.suite_files.proofs.file.with_pieces.Goals as goal
@@ -20,9 +21,16 @@ one_more bytes_at place all begun k one before after is first put =
 
 pub returns-in-Err-clause-err : goal.returns-in-Err-clause-err
 returns-in-Err-clause-err g c =
+    let bytes_at = g.F.Opener.bytes_at c.args.files.now in
     let all = c.args.pieces.now in
     let is = piece-at all c.loop-k.k c.index-pieces-k.result c.index-pieces-k.is c.loop-k-test.true in
-    (c.loop-k.k, c.loop-k-test.true, subst (λ (p : Piece). IsPieceFault c.args.place.now p c.in-Err.fault) is c.in-Err.ensures.err)
+    record {
+      n = c.loop-k.k;
+      inside = c.loop-k-test.true;
+      before = c.loop-k.text.items;
+      are_before = c.loop-k.invariant.first;
+      why = subst (λ (p : Piece). IsPieceFault bytes_at c.args.place.now c.loop-k.text.items p c.in-Err.fault) is c.in-Err.ensures.err;
+    }
 
 pub loop-k-preserved : goal.loop-k-preserved
 loop-k-preserved g c =
@@ -33,6 +41,5 @@ loop-k-preserved g c =
       first =
           one_more bytes_at c.args.place.now all c.args.begun.items c.loop-k.k c.index-pieces-k.result c.loop-k.text.items c.in-Ok.all.items is
           c.loop-k.invariant.first c.in-Ok.ensures.ok;
-      read = c.in-Ok.ensures.read;
-      done = c.in-Ok.ensures.done;
+      desk = c.in-Ok.ensures.desk;
     }

@@ -1,9 +1,10 @@
-use Rattle.std.proofs.Common.{◌≡◌, ◌<◌, ◌+◌, ◌∙◌, ℕ, List, [], ◌∷◌, ◌++◌, add-one, ap, inl, length, subst, sym}
+use Rattle.std.proofs.Common.{◌≡◌, ◌<◌, ◌+◌, ◌∙◌, ℕ, List, [], ◌∷◌, ◌++◌, add-one, ap, inr, length, subst, sym}
 use Rattle.std.proofs.lemmas.List.{map-append}
 use Rattle.std.specs.Prelude.{Option, Vec, get_or}
 use Rattle.std.specs.declared.alloc.Global.{Global}
 use Rattle.suite_files.specs.Links.{contents}
-use Rattle.suite_files.specs.Replaced.{IsCopyFault, ReadFirst}
+use Rattle.suite_files.specs.Refused.{IsCopyFault}
+use Rattle.suite_files.specs.Replaced.{ReadFirst}
 use Rattle.suite_files.specs.Shelves.{IsFile}
 use Rattle.suite_files.specs.declared.place.Place.{Place}
 use Rattle.suite_files.proofs.put.others_of.Goals as goal
@@ -27,5 +28,10 @@ loop-k-preserved g c = record {
 pub returns-in-Err-clause-err : goal.returns-in-Err-clause-err
 returns-in-Err-clause-err g c =
     let why = subst (λ (name : List ℕ). IsCopyFault c.args.place.now name c.in-Err.fault) c.with_at-name.ensures c.in-Err.ensures.err in
-    let inside = subst (λ (names : List (List ℕ)). c.loop-k.k < length names) c.as_slice-names.ensures.value c.loop-k-test.true in
-    inl (c.loop-k.k, inside, why)
+    inr (record {
+      n = c.loop-k.k;
+      inside = subst (λ (names : List (List ℕ)). c.loop-k.k < length names) c.as_slice-names.ensures.value c.loop-k-test.true;
+      before = contents c.loop-k.all.items;
+      read = c.loop-k.invariant.first;
+      why = why;
+    })
