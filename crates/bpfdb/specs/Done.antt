@@ -47,7 +47,7 @@ pub data DoesReplaced {R W E : Type 0} (bytes_at : List ℕ → Option (List ℕ
   Replaced : (bytes : List ℕ) → IsTestsFor bytes_at plan of.file bytes
       → DoesCounted at_terminal plan (record of { file = bytes }) reader writer errors status
       → DoesReplaced bytes_at at_terminal plan of reader writer errors status
-  Unreplaced : (fault : FilesFault) → IsUnreplaced plan of.file fault → reader.new ≡ reader.old → writer.new ≡ writer.old
+  Unreplaced : (fault : FilesFault) → IsUnreplaced bytes_at plan of.file fault → reader.new ≡ reader.old → writer.new ≡ writer.old
       → Told errors (files_line fault) → status ≡ 2
       → DoesReplaced bytes_at at_terminal plan of reader writer errors status
 

@@ -9,7 +9,8 @@ use Rattle.bpfdb_faults.specs.declared.fault.JobFault.TheVariants as job
 use Rattle.bpfdb_options.specs.declared.subcommand.Subcommand.{Subcommand}
 use Rattle.bpfdb_options.specs.declared.subcommand.Subcommand.TheVariants.{Test}
 use Rattle.suite_files.specs.Faults.{named_fault}
-use Rattle.suite_files.specs.Replaced.{IsFilesFault, IsReplaced}
+use Rattle.suite_files.specs.Refused.{IsFilesFault}
+use Rattle.suite_files.specs.Replaced.{IsReplaced}
 use Rattle.suite_files.specs.declared.fault.FilesFault.{FilesFault}
 use Rattle.suite_files.specs.declared.fault.FilesFault.TheVariants.{Section, Link, Memory}
 use Rattle.suite_files.specs.declared.place.Place.{Place}
@@ -33,11 +34,11 @@ abbrev pub IsTestsFor : (List ℕ → Option (List ℕ)) → Plan → List ℕ �
 IsTestsFor bytes_at plan of_file bytes = TestsIn (is_test plan.subcommand) bytes_at plan of_file bytes
 
 -- Why there is none.
-pub record IsUnreplaced (plan : Plan) (of_file : List ℕ) (fault : FilesFault) : Type 0 where
+pub record IsUnreplaced (bytes_at : List ℕ → Option (List ℕ)) (plan : Plan) (of_file : List ℕ) (fault : FilesFault) : Type 0 where
   pub test : is_test plan.subcommand ≡ true
   pub place : Place
   pub is_place : IsPlaceOf plan place
-  pub why : IsFilesFault place of_file fault
+  pub why : IsFilesFault bytes_at place of_file fault
 
 -- Which object it is, by the line of its section.
 abbrev pub object_end : JoinFault → ℕ → ℕ → List ℕ
