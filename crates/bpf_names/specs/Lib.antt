@@ -1,0 +1,4 @@
+pub mod Spots
+pub mod Globals
+pub mod Maps
+pub mod Texts
