@@ -38,7 +38,6 @@ pub fn job_of<'a>(plan: &Plan<'a>, loaded: &Loaded<'a>) -> Job<'a>
         further: loaded.further,
         shapes: None,
         goals: None,
-        names: None,
         options: options_of(plan),
     }
 }

@@ -7,15 +7,13 @@ use Rattle.bpf_link.specs.Programs.{IsLinkedAs}
 use Rattle.bpf_link.specs.declared.fault.LinkFault.{LinkFault}
 use Rattle.bpf_link.specs.declared.linker.Linked.{Linked}
 use Rattle.bpf_link.specs.declared.stubs.Stub.{Stub}
-use Rattle.bpf_names.specs.Maps.{AreNames, IsNamesRefusal}
-use Rattle.bpf_names.specs.declared.names.Names.{Names}
 use Rattle.bpf_places.specs.Lookups.{AreObjectSlots}
 use Rattle.bpf_places.specs.Places.{is_place}
 use Rattle.bpfdb_jobs.specs.Jobs.{asked_of, link_of, section_of, stubs_of}
 use Rattle.bpfdb_jobs.specs.Refusals.{RefusesLink, RefusesStubs}
 use Rattle.bpfdb_jobs.specs.declared.job.Job.{Job}
 use Rattle.bpfdb_options.specs.declared.subcommand.Subcommand.{Subcommand}
-use Rattle.bpfdb_options.specs.declared.subcommand.Subcommand.TheVariants.{Asm, Batch, Lines, Link, Origin, Test, Whynot}
+use Rattle.bpfdb_options.specs.declared.subcommand.Subcommand.TheVariants.{Asm, Batch, Lines, Link, Test, Whynot}
 
 -- Subcommands that check FILE as a program.
 abbrev pub is_check : Subcommand → Bool
@@ -48,17 +46,8 @@ asks_place job = is_whynot job.subcommand && is_place (asked_of job)
 abbrev pub RefusesPlace : Job → LinkFault → Type 0
 RefusesPlace job fault = (asks_place job ≡ true) × IsLinesRefusal job.file.now (section_of job) fault
 
--- `origin` tells the names of what lies in the object's maps; it is refused where nothing is known of them.
-abbrev pub is_origin : Subcommand → Bool
-is_origin Origin = true
-is_origin subcommand = false
-
-abbrev pub RefusesNames : Job → LinkFault → Type 0
-RefusesNames job fault = (is_origin job.subcommand ≡ true) × IsNamesRefusal job.file.now (section_of job) fault
-
 abbrev pub RefusesLinking : Job → LinkFault → Type 0
-RefusesLinking job fault =
-    RefusesStubs job fault ⊎ (RefusesLink job job.file.now fault ⊎ (RefusesPlace job fault ⊎ RefusesNames job fault))
+RefusesLinking job fault = RefusesStubs job fault ⊎ (RefusesLink job job.file.now fault ⊎ RefusesPlace job fault)
 
 -- The slots of that place, by the table of the program's words.
 abbrev pub HasPlace : Bool → Job → List ℕ → Option (Bor (List ℕ)) → Type 0
@@ -66,27 +55,14 @@ HasPlace false job words goals = goals ≡ None
 HasPlace true job words None = ⊥
 HasPlace true job words (Some goals) = AreObjectSlots job.file.now (section_of job) words (asked_of job) goals.now
 
--- The names in the maps of a program that the object was linked to.
-abbrev pub HasNames : Bool → Job → Linked → Option (Bor Names) → Type 0
-HasNames false job program names = names ≡ None
-HasNames true job program None = ⊥
-HasNames true job program (Some names) =
-    AreNames job.file.now (section_of job) program.maps program.shapes.items program.names.items names.now
-
--- What is known of the object: the slots that are asked about where that is a place, and the names in its maps.
-abbrev pub IsKnown : Job → Linked → Option (Bor (List ℕ)) → Option (Bor Names) → Type 0
-IsKnown job program goals names =
-    HasPlace (asks_place job) job program.words.items goals × HasNames (is_origin job.subcommand) job program names
-
--- The job over a program's words, with its maps, and with that.
-pub record IsOver (job : Job) (program : Linked) (over : Job) : Type 0 where
-  pub file : over.file.now ≡ program.words.items
-  pub maps : option_map (λ s. s.now) over.shapes ≡ Some program.shapes.items
-  pub known : IsKnown job program over.goals over.names
+-- The job over a program's words, with its maps, and the slots that are asked about where that is a place.
+pub record IsOver (job : Job) (words : List ℕ) (shapes : List MapShape) (over : Job) : Type 0 where
+  pub file : over.file.now ≡ words
+  pub maps : option_map (λ s. s.now) over.shapes ≡ Some shapes
+  pub goals : HasPlace (asks_place job) job words over.goals
   pub rest : over ≡ record job {
     file = over.file;
     shapes = over.shapes;
     goals = over.goals;
-    names = over.names;
     options = record job.options { is_object = false };
   }

@@ -13,8 +13,6 @@ use Rattle.bpf_origin.specs.declared.question.Extent.{Extent}
 use Rattle.bpf_origin.specs.declared.question.Extent.TheVariants.{Whole}
 use Rattle.bpf_origin.specs.declared.question.Question.{Question}
 use Rattle.bpf_origin.specs.declared.what.What.{What}
-use Rattle.bpf_names.specs.Texts.{named_text}
-use Rattle.bpf_names.specs.declared.names.Names.{Names}
 use Rattle.bpf_remote.specs.Moves.{moves_after}
 use Rattle.bpf_session.specs.Meaning.{does}
 use Rattle.bpf_session.specs.Outcomes.{Outcome}
@@ -108,11 +106,6 @@ followed_by first second = record { text = first.text ++ second.text; extent = b
 -- What is written of it: where the machine stands, and the answer.
 abbrev pub found_text : State → Answer → List ℕ
 found_text end answer = place end ++ codes "\n" ++ answer.text
-
--- Where the names in the program's maps are known, they stand in it.
-abbrev pub named_by : Option (Bor Names) → List ℕ → List ℕ
-named_by None text = text
-named_by (Some names) text = named_text names.now text
 
 -- The exit status: 1 where the answer is cut.
 abbrev pub status_of_extent : Extent → ℕ

@@ -1,6 +1,5 @@
 //! What `tool` is given to do.
 use bpf_isa::MapShape;
-use bpf_names::Names;
 use bpfdb_options::{Options, Subcommand};
 
 /// A subcommand, with the bytes of its files and its options.
@@ -26,8 +25,5 @@ pub struct Job<'a> {
     /// The slots of the place of that object which `whynot` asks about, where it is one: numbers with
     /// commas between. Without them what the options ask about counts.
     pub goals: Option<&'a [u8]>,
-    /// The names of what lies in the maps of that object, where `origin` asks; without them places
-    /// are told by their addresses alone.
-    pub names: Option<&'a Names<'a>>,
     pub options: Options<'a>,
 }

@@ -1,7 +1,7 @@
 //! Jobs over an object: it is linked, and the job is done over its words, with its maps.
 ghost use Rattle.std.specs.Prelude.{◌≡◌, ◌≤◌, IfErr, IfOk};
 ghost use Rattle.bpfdb_jobs.specs.Done.{DoesLinked, DoesPlain};
-ghost use Rattle.bpfdb_jobs.specs.Objects.{IsKnown, IsOver, LinksTo, RefusesLinking, asks_place, is_check, is_origin, is_whynot, links_first};
+ghost use Rattle.bpfdb_jobs.specs.Objects.{HasPlace, IsOver, LinksTo, RefusesLinking, asks_place, is_check, is_whynot, links_first};
 ghost use Rattle.bpfdb_jobs.specs.declared.job.Job.{Job as Over};
 ghost use Rattle.bpfdb_limits.specs.Limits.{IsLimit};
 ghost use Rattle.bpfdb_faults.specs.Streams.{stream};
@@ -10,22 +10,13 @@ use crate::dispatch::plain_tool;
 use crate::job::Job;
 use crate::object::{linked_from, refuse, section_of, stubs_of};
 use crate::whynot::asked;
+use bpf_isa::MapShape;
 use bpf_link::{LinkFault, Linked};
-use bpf_names::{Names, map_names};
 use bpf_places::{is_place, object_slots};
 use bpfdb_options::{Options, Subcommand};
 use counted_io::Counted;
 use std::alloc::Global;
 use std::io::{Read, Write};
-
-/// What a job is told of the object that its program was linked of.
-#[derive(Clone, Copy)]
-struct Known<'a> {
-    /// The slots of the place that is asked about, if one is.
-    goals: Option<&'a [u8]>,
-    /// The names in its maps, where these are told.
-    names: Option<&'a Names<'a>>,
-}
 
 /// Whether FILE is an object that is linked before the job is done.
 pub fn links_first(job: &Job<'_>) -> bool
@@ -78,16 +69,6 @@ fn asks_place(job: &Job<'_>) -> bool
     is_whynot(job.subcommand) && is_place(asked(job).as_bytes())
 }
 
-/// Whether a subcommand is `origin`.
-fn is_origin(subcommand: Subcommand) -> bool
-    ensures { result ≡ is_origin subcommand }
-{
-    match subcommand {
-        Subcommand::Origin => true,
-        _ => false,
-    }
-}
-
 /// Whether a subcommand is `whynot`.
 fn is_whynot(subcommand: Subcommand) -> bool
     ensures { result ≡ is_whynot subcommand }
@@ -98,8 +79,8 @@ fn is_whynot(subcommand: Subcommand) -> bool
     }
 }
 
-/// Does a job over the program to which its object is linked. First it is looked up what the job
-/// asks of the object: the slots of the place, or the names in its maps.
+/// Does a job over the program to which its object is linked. First the slots of the place are looked
+/// up that it asks about, if it does.
 fn do_linked<R: Read, W: Write, E: Write>(
     alloc: Global,
     job: &Job<'_>,
@@ -114,94 +95,40 @@ fn do_linked<R: Read, W: Write, E: Write>(
         (stream W.contents writer.old writer.new) (stream E.contents errors.old errors.new) result }
     ensures status { result ≤ 2 }
 {
-    if is_origin(job.subcommand) {
-        return do_named(alloc, job, linked, reader, writer, errors);
-    }
-    if !asks_place(job) {
-        let known = Known {
-            goals: None,
-            names: None,
-        };
-        return do_over(alloc, job, linked, known, reader, writer, errors);
-    }
     let words = linked.words.as_slice();
+    let shapes = linked.shapes.as_slice();
+    if !asks_place(job) {
+        return do_over(alloc, job, words, shapes, None, reader, writer, errors);
+    }
     let what = asked(job).as_bytes();
     match object_slots(alloc, job.file, section_of(job), words, what) {
         Ok(slots) => {
-            let known = Known {
-                goals: Some(slots.as_slice()),
-                names: None,
-            };
-            do_over(alloc, job, linked, known, reader, writer, errors)
+            let goals = Some(slots.as_slice());
+            do_over(alloc, job, words, shapes, goals, reader, writer, errors)
         }
         Err(why) => refuse(job, job.file, errors, why),
     }
 }
 
-/// Does a job of `origin` over the program to which its object is linked, with the names in its
-/// maps.
-fn do_named<R: Read, W: Write, E: Write>(
-    alloc: Global,
-    job: &Job<'_>,
-    linked: &Linked,
-    reader: &mut Counted<R>,
-    writer: &mut Counted<W>,
-    errors: &mut Counted<E>,
-) -> u8
-    requires limit { IsLimit job.now.options.limit }
-    requires linked { LinksTo job.now linked.now }
-    requires origin { is_origin job.now.subcommand ≡ true }
-    ensures does { DoesLinked job.now.subcommand job.now (stream R.remaining reader.old reader.new)
-        (stream W.contents writer.old writer.new) (stream E.contents errors.old errors.new) result }
-    ensures status { result ≤ 2 }
-{
-    match names_of(alloc, job, linked) {
-        Ok(names) => {
-            let known = Known {
-                goals: None,
-                names: Some(&names),
-            };
-            do_over(alloc, job, linked, known, reader, writer, errors)
-        }
-        Err(why) => refuse(job, job.file, errors, why),
-    }
-}
-
-/// What is known of the names in the maps of a program to which the job's object is linked.
-fn names_of<'a>(alloc: Global, job: &Job<'a>, linked: &Linked) -> Result<Names<'a>, LinkFault>
-    ensures ok { IfOk result (λ names. AreNames job.now.file.now (section_of job.now)
-        linked.now.maps linked.now.shapes.items linked.now.names.items names) }
-    ensures err { IfErr result (IsNamesRefusal job.now.file.now (section_of job.now)) }
-{
-    map_names(
-        alloc,
-        job.file,
-        section_of(job),
-        linked.maps,
-        linked.shapes.as_slice(),
-        linked.names.as_slice(),
-    )
-}
-
-/// Does a job over the program to which its object is linked, with the maps of that, and what is
-/// known of the object.
+/// Does a job over the words of its object, with the maps of that, and the slots of the place.
 fn do_over<R: Read, W: Write, E: Write>(
     alloc: Global,
     job: &Job<'_>,
-    linked: &Linked,
-    known: Known<'_>,
+    words: &[u8],
+    shapes: &[MapShape],
+    goals: Option<&[u8]>,
     reader: &mut Counted<R>,
     writer: &mut Counted<W>,
     errors: &mut Counted<E>,
 ) -> u8
     requires limit { IsLimit job.now.options.limit }
-    requires known { IsKnown job.now linked.now known.goals known.names }
-    ensures does { (over : Over) × IsOver job.now linked.now over
+    requires goals { HasPlace (asks_place job.now) job.now words.now goals }
+    ensures does { (over : Over) × IsOver job.now words.now shapes.now over
         × DoesPlain job.now.subcommand over (stream R.remaining reader.old reader.new)
         (stream W.contents writer.old writer.new) (stream E.contents errors.old errors.new) result }
     ensures status { result ≤ 2 }
 {
-    let over = job_over(job, linked, known);
+    let over = job_over(job, words, shapes, goals);
     plain_tool(alloc, &over, reader, writer, errors)
 }
 
@@ -217,16 +144,20 @@ fn linked_file(alloc: Global, job: &Job<'_>) -> Result<Linked, LinkFault>
     }
 }
 
-/// The job over the words of its object, with the maps of that, and what is known of the object.
-fn job_over<'a>(job: &Job<'a>, linked: &'a Linked, known: Known<'a>) -> Job<'a>
-    requires { IsKnown job.now linked.now known.goals known.names }
-    ensures { IsOver job.now linked.now result }
+/// The job over the words of an object, with its maps, and the slots of the place.
+fn job_over<'a>(
+    job: &Job<'a>,
+    words: &'a [u8],
+    shapes: &'a [MapShape],
+    goals: Option<&'a [u8]>,
+) -> Job<'a>
+    requires { HasPlace (asks_place job.now) job.now words.now goals }
+    ensures { IsOver job.now words.now shapes.now result }
 {
     Job {
-        file: linked.words.as_slice(),
-        shapes: Some(linked.shapes.as_slice()),
-        goals: known.goals,
-        names: known.names,
+        file: words,
+        shapes: Some(shapes),
+        goals,
         options: Options {
             is_object: false,
             ..job.options

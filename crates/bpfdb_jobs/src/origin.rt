@@ -1,5 +1,5 @@
 //! What a job of `origin` does.
-ghost use Rattle.std.specs.Prelude.{◌≡◌, ◌≤◌, ◌==◌, true, length, IfErr, IfOk, OnErr, OnOk, List, None, Option, Some};
+ghost use Rattle.std.specs.Prelude.{◌≡◌, ◌≤◌, ◌==◌, true, length, IfErr, IfOk, List, None, Option, Some};
 ghost use Rattle.bpf_journal.specs.Histories.{Record, StandsFor};
 ghost use Rattle.bpf_journal.specs.Tracks.{RingHolds};
 ghost use Rattle.bpf_origin.specs.Asked as spec;
@@ -12,9 +12,7 @@ ghost use Rattle.bpfdb_jobs.specs.Origins.{Asks, RefusesWhat, both_extents, foll
 ghost use Rattle.bpfdb_jobs.specs.Refusals.{RefusesArrival};
 ghost use Rattle.bpfdb_limits.specs.Limits.{IsLimit};
 ghost use Rattle.bpfdb_options.specs.declared.subcommand.Subcommand.TheVariants.{Origin};
-ghost use Rattle.bpfdb_faults.specs.Faults.{line_of};
-ghost use Rattle.bpfdb_faults.specs.Streams.{stream, Told as IsTold};
-ghost use Rattle.bpfdb_faults.specs.declared.fault.JobFault.TheVariants as fault;
+ghost use Rattle.bpfdb_faults.specs.Streams.{stream};
 
 use crate::job::Job;
 use crate::opening::{session_of, timeline_of, wanted_of};
@@ -22,7 +20,6 @@ use crate::script::obey_script;
 use bpf_branches::{Found, find_branches};
 use bpf_journal::{JournalFault, Keeper, RingKeeper, Timeline};
 use bpf_machine::Cpu;
-use bpf_names::put_named;
 use bpf_origin::{
     Extent, Part, Parts, Question, Told, Wanted, What, WhatFault, parts_asked, put_answer,
 };
@@ -30,7 +27,7 @@ use bpf_session::run_kept;
 use bpfdb_faults::{JobFault, JobRefusal, flush_after, give_up};
 use bpfdb_replies::write_place;
 use counted_io::{Counted, WriteFault, put};
-use std::alloc::{AllocError, Global};
+use std::alloc::Global;
 use std::io::Write;
 
 /// A machine with its journal, where it is asked.
@@ -41,13 +38,6 @@ pub(crate) struct Arrived {
     pub(crate) moves: u64,
     /// The memory for the answer.
     pub(crate) wanted: Wanted,
-}
-
-/// An answer in memory, and how far it goes.
-#[derive(Drop)]
-struct FoundText {
-    text: Vec<u8>,
-    extent: Extent,
 }
 
 /// Runs the program to its end or to the limit, or obeys the script where there is one, and writes
@@ -68,7 +58,7 @@ pub fn origin_job<W: Write, E: Write>(
             if job.options.only_branches {
                 ask_branches(alloc, job, arrived, writer, errors)
             } else {
-                ask(alloc, job, arrived, &[], Extent::Whole, writer, errors)
+                ask(job, arrived, &[], Extent::Whole, writer, errors)
             }
         }
         Err(refusal) => give_up(errors, &JobFault::Refused(refusal)),
@@ -107,7 +97,7 @@ fn ask_branches<W: Write, E: Write>(
                 moves,
                 wanted,
             };
-            ask(alloc, job, arrived, text.as_slice(), extent, writer, errors)
+            ask(job, arrived, text.as_slice(), extent, writer, errors)
         }
         Err(_) => give_up(
             errors,
@@ -196,9 +186,8 @@ fn arrive_at_end(alloc: Global, job: &Job<'_>) -> Result<Arrived, JobRefusal<'st
 }
 
 /// Writes where the machine stands, where the values came from that are asked about, and what else
-/// is asked; with the names in maps, where these are known.
+/// is asked.
 fn ask<W: Write, E: Write>(
-    alloc: Global,
     job: &Job<'_>,
     arrived: Arrived,
     tail: &[u8],
@@ -218,52 +207,16 @@ fn ask<W: Write, E: Write>(
     };
     let question = question_of(job, &arrived);
     let mut arrived = arrived;
-    let Some(names) = job.names else {
-        let told = put_found(
-            &mut arrived.timeline,
-            &mut arrived.wanted,
-            parts.as_slice(),
-            question,
-            tail,
-            writer,
-        );
-        return ended_as(told.written, both_of(told.extent, tail_extent), errors);
-    };
-    let found = match text_found(
-        alloc,
+    let told = put_found(
         &mut arrived.timeline,
         &mut arrived.wanted,
         parts.as_slice(),
         question,
         tail,
-    ) {
-        Ok(found) => found,
-        Err(AllocError) => {
-            return give_up(
-                errors,
-                &JobFault::Refused(JobRefusal::Journal(JournalFault::OutOfMemory)),
-            );
-        }
-    };
-    let named = put_named(writer, Ok(()), names, found.text.as_slice());
-    let flushed = flush_after(writer, named);
-    ended_as(flushed, both_of(found.extent, tail_extent), errors)
-}
-
-/// The exit status where an answer that goes so far was written, or 2 where it wasn't, which is told.
-fn ended_as<E: Write>(
-    written: Result<(), WriteFault>,
-    extent: Extent,
-    errors: &mut Counted<E>,
-) -> u8
-    ensures ok { OnOk written (result ≡ status_of_extent extent) }
-    ensures same { OnOk written (errors.new ≡ errors.old) }
-    ensures err { OnErr written (result ≡ 2) }
-    ensures told { OnErr written (IsTold (stream E.contents errors.old errors.new)
-        (line_of fault.Output)) }
-{
-    match written {
-        Ok(()) => status_of(extent),
+        writer,
+    );
+    match told.written {
+        Ok(()) => status_of(both_of(told.extent, tail_extent)),
         Err(WriteFault) => give_up(errors, &JobFault::Output),
     }
 }
@@ -310,36 +263,6 @@ fn put_found<K: Keeper, W: Write>(
         written: flush_after(writer, all),
         extent: told.extent,
         moves: told.moves,
-    }
-}
-
-/// Where a machine stands, and where the values of these parts came from, as a text in memory.
-fn text_found<K: Keeper>(
-    alloc: Global,
-    timeline: &mut Timeline<K>,
-    wanted: &mut Wanted,
-    parts: &[Part],
-    question: Question,
-    tail: &[u8],
-) -> Result<FoundText, AllocError>
-    ensures text { (h : List Record) →
-        StandsFor K.holds timeline.old.keeper timeline.old.state h →
-        IfOk result (λ found. found.text.items ≡ found_text timeline.old.state
-        (followed_by (spec.answer_about question parts.now h timeline.old.state)
-        (record { text = tail.now; extent = Whole }))) }
-    ensures extent { (h : List Record) →
-        StandsFor K.holds timeline.old.keeper timeline.old.state h →
-        IfOk result (λ found.
-        found.extent ≡ (spec.answer_about question parts.now h timeline.old.state).extent) }
-{
-    let mut found = Counted::new(Vec::new(alloc));
-    let told = put_found(timeline, wanted, parts, question, tail, &mut found);
-    match told.written {
-        Ok(()) => Ok(FoundText {
-            text: found.into_inner(),
-            extent: told.extent,
-        }),
-        Err(WriteFault) => Err(AllocError),
     }
 }
 
