@@ -12,6 +12,5 @@ pub mod Refusals
 pub mod Regs
 pub mod Reports
 pub mod Shown
-pub mod Stocks
 pub mod Tests
 pub mod Verdicts

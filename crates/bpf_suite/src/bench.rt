@@ -9,7 +9,6 @@ ghost use Rattle.bpf_suite.specs.Covers.{Finds, IsFound, Notes};
 ghost use Rattle.bpf_suite.specs.Images.{HasImage};
 ghost use Rattle.bpf_suite.specs.Outcomes.{Comes, Reads};
 ghost use Rattle.bpf_suite.specs.Reports.{AreTold};
-ghost use Rattle.bpf_suite.specs.Stocks.{StandsOn};
 ghost use Rattle.bpf_suite.specs.Tests.{body_for, cells as cells_of, has_listing, limit, limited, program as program_of, program_line, setting};
 ghost use Rattle.bpf_suite.specs.Verdicts.{wrong_cells};
 ghost use Rattle.bpf_suite.specs.declared.cells.Cell.{Cell};
@@ -26,7 +25,6 @@ use crate::outcome::{loaded, outcome_by_image, outcome_on};
 use crate::refusal::Refusal;
 use crate::section::{Section, Text, are_same};
 use crate::setting::{Setting, setting_of};
-use crate::stock::Stock;
 use crate::test::{Test, has_part, lines_in, maps_in};
 use crate::values::{WrongCells, wrong_cells};
 use crate::words::{Words, words_of};
@@ -44,8 +42,7 @@ pub struct Bench<'b, 'a> {
     shared: &'b [Section<'a>],
     /// A listing, or the bytes of words.
     program: Vec<u8>,
-    /// Its words.
-    stock: Stock,
+    words: Result<Words, AsmFault>,
     /// The cells that get values, and what is wanted of cells.
     cells: Vec<CellLine<'a>>,
     wanted: Wanted<'a>,
@@ -66,7 +63,7 @@ impl<'b, 'a> Model for Bench<'b, 'a> {
 
     ghost view = { λ b. record { sections = b.shared.now; machine = b.machine } };
 
-    ghost invariant = { λ b. IsBench b.shared.now b.program.items b.stock b.cells.items
+    ghost invariant = { λ b. IsBench b.shared.now b.program.items b.words b.cells.items
         b.wanted b.image b.maps b.machine };
 }
 
@@ -84,7 +81,7 @@ impl<'b, 'a> Bench<'b, 'a> {
         Ok(Bench {
             shared,
             program,
-            stock: Stock::of(words),
+            words,
             cells,
             wanted: Wanted::of(wanted),
             image: None,
@@ -242,7 +239,7 @@ impl<'b, 'a> Bench<'b, 'a> {
         );
         let maps = maps_in(own.sections);
         let stands = are_same(&self.maps, &maps);
-        bring(alloc, &mut self.machine, stands, &setting, &mut self.stock)?;
+        bring(alloc, &mut self.machine, stands, &setting, &self.words)?;
         self.maps = maps;
         let shares = gets_shared(has_own, self.cells.as_slice());
         run_on(alloc, &mut self.machine, &setting, shares, &mut self.image)
@@ -390,19 +387,17 @@ fn bring(
     machine: &mut Result<Cpu, Refusal>,
     stands: bool,
     setting: &Setting<'_, '_>,
-    stock: &mut Stock,
+    words: &Result<Words, AsmFault>,
 ) -> Result<(), AllocError>
-    requires words { Reads setting.now.is_listing setting.now.program stock.old }
-    requires machine { StandsOn setting.now machine.old }
+    requires words { Reads setting.now.is_listing setting.now.program words.now }
     requires stands { stands ≡ true → Loads setting.now machine.old }
     ensures ok { OnOk result (Loads setting.now machine.new) }
     ensures err { OnErr result (machine.new ≡ machine.old) }
-    ensures same { stock.new ≡ stock.old }
 {
-    if stands {
-        return Ok(());
+    if !stands {
+        *machine = loaded(alloc, setting, words)?;
     }
-    stock.bring(alloc, machine, setting)
+    Ok(())
 }
 
 /// What a program comes to on a machine of its own.

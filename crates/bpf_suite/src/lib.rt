@@ -17,7 +17,6 @@ mod report;
 mod section;
 mod setting;
 mod shown;
-mod stock;
 mod suite;
 mod test;
 mod values;

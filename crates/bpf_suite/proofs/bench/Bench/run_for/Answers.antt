@@ -7,7 +7,6 @@ use Rattle.bpf_suite.specs.Images.{HasImage}
 use Rattle.bpf_suite.specs.Tests.{body_for, cells, limited, maps, program, setting}
 use Rattle.bpf_suite.specs.declared.kind.Part.TheVariants as part
 use Rattle.bpf_suite.proofs.Shares.{bench-after, cells-shared, lines-chosen, loads-again, shared-program, words-again}
-use Rattle.bpf_suite.proofs.Stocks.{stands-again}
 use Rattle.bpf_suite.proofs.bench.Bench.run_for.Goals as goal
 
 pub setting_of-setting-requires-clause-program : goal.setting_of-setting-requires-clause-program
@@ -38,15 +37,6 @@ bring-requires-clause-words c =
     let test : c.test-test.result ≡ own ++ shared = c.test-test.ensures ∙ ap (λ s. own ++ s) (sym here) in
     let same = c.setting_of-setting.ensures ∙ ap (λ s. limited c.args.limit (setting s)) test in
     words-again own shared _ _ _ _ _ _ _ _ c.requires c.self.invariant same
-
-pub bring-requires-clause-machine : goal.bring-requires-clause-machine
-bring-requires-clause-machine c =
-    let own = c.args.own.now in
-    let shared = c.self.inside.shared.now in
-    let here : shared ≡ c.args.self.now.sections = ap (λ (b : Shared). b.sections) c.self.view_is in
-    let test : c.test-test.result ≡ own ++ shared = c.test-test.ensures ∙ ap (λ s. own ++ s) (sym here) in
-    let same = c.setting_of-setting.ensures ∙ ap (λ s. limited c.args.limit (setting s)) test in
-    stands-again own shared _ _ _ _ _ _ _ _ c.requires c.self.invariant same
 
 pub bring-requires-clause-stands : goal.bring-requires-clause-stands
 bring-requires-clause-stands c =
