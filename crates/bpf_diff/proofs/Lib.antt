@@ -3,3 +3,5 @@ pub mod Telling
 pub mod Comparing
 pub mod Longest
 pub mod Writes
+pub mod Leaving
+pub mod Outcomes

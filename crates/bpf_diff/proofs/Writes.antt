@@ -10,7 +10,7 @@ use Rattle.bpf_trace.specs.declared.taken.Taken.{Taken}
 use Rattle.bpf_trace.proofs.Steps.{step_wrote}
 use Rattle.bpf_diff.specs.Alike.{same_part, same_writes, wrote}
 
-wrote-is : (x a : State) (taken : Taken) → Took x a taken → parts_by a taken.change ≡ wrote x
+pub wrote-is : (x a : State) (taken : Taken) → Took x a taken → parts_by a taken.change ≡ wrote x
 wrote-is x a taken t =
     ap (parts_by a) t.change ∙ sym (step_wrote x a t.is) ∙ ap (λ (z : State). written z (step_entry x)) t.next
 

@@ -14,7 +14,7 @@ pub fn same_end(first: &Cpu, second: &Cpu) -> bool
 }
 
 /// Whether two statuses are one.
-fn same_status(one: Status, other: Status) -> bool
+pub fn same_status(one: Status, other: Status) -> bool
     ensures { result ≡ same_status_of one other }
 {
     match (one, other) {

@@ -80,7 +80,7 @@ fn put_parting_heading<W: Write>(
 }
 
 /// Writes the line of the next step of a run, if it takes one, and runs to its end or to the limit.
-fn put_rest<W: Write>(
+pub fn put_rest<W: Write>(
     writer: &mut Counted<W>,
     so_far: Result<(), WriteFault>,
     mark: &[u8],

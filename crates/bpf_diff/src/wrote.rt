@@ -125,7 +125,7 @@ fn same_register(first: &Cpu, second: &Cpu, one: u8, other: u8) -> bool
 }
 
 /// The depth that a register of the present function counts as.
-fn depth_in(cpu: &Cpu, number: u8) -> usize
+pub fn depth_in(cpu: &Cpu, number: u8) -> usize
     ensures { result ≡ depth_for (depth cpu.now) number }
 {
     if number < 6 { 0 } else { cpu.depth() }

@@ -1,0 +1,190 @@
+//! Two runs, compared by what they leave for one who looks from outside.
+ghost use Rattle.std.specs.Prelude.{◌≡◌, ◌≤◌, ◌&&◌, ◌++◌, IfErr, IfOk, codes, false};
+ghost use Rattle.bpf_entries.specs.Status.{has_ended};
+ghost use Rattle.bpf_session.specs.Plain.{plain_end};
+ghost use Rattle.bpf_steps.specs.State.{initial};
+ghost use Rattle.bpf_trace.specs.Runs.{steps_of};
+ghost use Rattle.bpf_trace.specs.Traces.{end_line};
+ghost use Rattle.bpf_diff.specs.Differences.{ends_text};
+ghost use Rattle.bpf_diff.specs.Ends.{same_status as same_status_of};
+ghost use Rattle.bpf_diff.specs.Outputs as spec;
+ghost use Rattle.bpf_diff.specs.Outputs.{write_alike, writer_line, writes_text};
+ghost use Rattle.counted_io.specs.Writing.{WritesAfter};
+
+use crate::diff::Compared;
+use crate::end::same_status;
+use crate::lines::put_ends;
+use crate::seen::{first_place, seen};
+use crate::writer::{find_writer, put_writer};
+use bpf_machine::Cpu;
+use bpf_origin::Place;
+use counted_io::{Counted, Piece, WriteFault, put, put_all, put_hexadecimal};
+use std::alloc::{AllocError, Global};
+use std::io::Write;
+
+/// A place at which two runs ended otherwise: what stands there in each, and the number of the step
+/// of each that wrote it last, 0 for none.
+#[derive(Clone, Copy)]
+struct Difference {
+    place: Place,
+    values: (Option<u64>, Option<u64>),
+    writers: (u64, u64),
+}
+
+/// Runs two machines, which were opened on these contexts, each to its end or to a limit of steps, and
+/// writes the first place that is seen from outside at which they ended otherwise, which step of each
+/// wrote it last, and how they ended. If memory runs out, nothing is written.
+///
+/// Nothing is kept of the steps: where they end otherwise, each machine is opened and run twice more.
+pub fn put_writes<W: Write>(
+    alloc: Global,
+    writer: &mut Counted<W>,
+    so_far: Result<(), WriteFault>,
+    first: &mut Cpu,
+    second: &mut Cpu,
+    context: &[u8],
+    other: &[u8],
+    limit: u64,
+) -> Result<Compared, AllocError>
+    requires first { first.old ≡ initial first.old.program context.now }
+    requires second { second.old ≡ initial second.old.program other.now }
+    ensures text { IfOk result (λ compared. WritesAfter W.contents writer.old so_far writer.new
+        compared.written
+        (writes_text limit context.now other.now first.old second.old)) }
+    ensures same { IfOk result (λ compared. compared.is_same
+        ≡ write_alike limit context.now other.now first.old second.old) }
+    ensures err { IfErr result (λ fault. writer.new ≡ writer.old) }
+{
+    let _one = first.run(limit);
+    let _another = second.run(limit);
+    let place = match first_place(first, second, context, other) {
+        Some(place) => place,
+        None => return Ok(put_same(writer, so_far, first, second, limit)),
+    };
+    let value = seen(first, place);
+    let other_value = seen(second, place);
+    let one = match find_writer(alloc, first, context, place, limit) {
+        Ok(number) => number,
+        Err(fault) => return Err(fault),
+    };
+    let another = match find_writer(alloc, second, other, place, limit) {
+        Ok(number) => number,
+        Err(why) => return Err(why),
+    };
+    let difference = Difference {
+        place,
+        values: (value, other_value),
+        writers: (one, another),
+    };
+    Ok(Compared {
+        written: put_difference(writer, so_far, first, second, &difference, limit),
+        is_same: false,
+    })
+}
+
+/// Writes that two machines, which ended, left the same, and how they ended.
+fn put_same<W: Write>(
+    writer: &mut Counted<W>,
+    so_far: Result<(), WriteFault>,
+    first: &Cpu,
+    second: &Cpu,
+    limit: u64,
+) -> Compared
+    ensures text { WritesAfter W.contents writer.old so_far writer.new result.written
+        (codes "same writes\n"
+        ++ ends_text false 0 (end_line limit first.now) (end_line limit second.now)) }
+    ensures same { result.is_same ≡ same_status_of first.now.status second.now.status
+        && has_ended first.now.status }
+{
+    let told = put(writer, so_far, b"same writes\n");
+    Compared {
+        written: put_ends(writer, told, false, 0, limit, first, second),
+        is_same: end_alike(first, second),
+    }
+}
+
+/// Whether two machines ended by one reason.
+fn end_alike(first: &Cpu, second: &Cpu) -> bool
+    ensures { result ≡ same_status_of first.now.status second.now.status
+        && has_ended first.now.status }
+{
+    same_status(first.status(), second.status()) && first.status().has_ended()
+}
+
+/// Writes the place at which two runs ended otherwise, the step of each that wrote it last, and how
+/// they ended. Both machines stand before their first step, and are run.
+fn put_difference<W: Write>(
+    writer: &mut Counted<W>,
+    so_far: Result<(), WriteFault>,
+    first: &mut Cpu,
+    second: &mut Cpu,
+    difference: &Difference,
+    limit: u64,
+) -> Result<(), WriteFault>
+    requires first { difference.now.writers.0 ≤ limit }
+    requires second { difference.now.writers.1 ≤ limit }
+    ensures { WritesAfter W.contents writer.old so_far writer.new result
+        ((spec.place_line difference.now.place difference.now.values.0 difference.now.values.1
+        ++ (writer_line (codes "< ") difference.now.writers.0 (steps_of limit first.old)
+        ++ writer_line (codes "> ") difference.now.writers.1 (steps_of limit second.old)))
+        ++ ends_text false 0 (end_line limit (plain_end limit first.old))
+        (end_line limit (plain_end limit second.old))) }
+{
+    let headed = put_place(writer, so_far, difference.place, difference.values);
+    let one = put_writer(writer, headed, b"< ", difference.writers.0, first, limit);
+    let both = put_writer(writer, one, b"> ", difference.writers.1, second, limit);
+    put_ends(writer, both, false, 0, limit, first, second)
+}
+
+/// Writes a place, and what stands there in each run.
+fn put_place<W: Write>(
+    writer: &mut Counted<W>,
+    so_far: Result<(), WriteFault>,
+    place: Place,
+    values: (Option<u64>, Option<u64>),
+) -> Result<(), WriteFault>
+    ensures { WritesAfter W.contents writer.old so_far writer.new result
+        (spec.place_line place values.0 values.1) }
+{
+    let named = put_name(writer, so_far, place);
+    let begun = put(writer, named, b" ends otherwise: ");
+    let one = put_value(writer, begun, values.0);
+    let half = put(writer, one, b", ");
+    let both = put_value(writer, half, values.1);
+    put(writer, both, b"\n")
+}
+
+/// Writes the name of a place.
+fn put_name<W: Write>(
+    writer: &mut Counted<W>,
+    so_far: Result<(), WriteFault>,
+    place: Place,
+) -> Result<(), WriteFault>
+    ensures { WritesAfter W.contents writer.old so_far writer.new result (spec.place_text place) }
+{
+    match place {
+        Place::Register { .. } => put(writer, so_far, b"r0"),
+        Place::Word { index } => {
+            let pieces = [Piece::Text(b"word "), Piece::Decimal(index as u64)];
+            put_all(writer, so_far, &pieces)
+        }
+        Place::Byte { address } => {
+            let pieces = [Piece::Hexadecimal(address), Piece::Text(b":1")];
+            put_all(writer, so_far, &pieces)
+        }
+    }
+}
+
+/// Writes what stands at a place.
+fn put_value<W: Write>(
+    writer: &mut Counted<W>,
+    so_far: Result<(), WriteFault>,
+    value: Option<u64>,
+) -> Result<(), WriteFault>
+    ensures { WritesAfter W.contents writer.old so_far writer.new result (spec.value_text value) }
+{
+    match value {
+        Some(number) => put_hexadecimal(writer, so_far, number),
+        None => put(writer, so_far, b"none"),
+    }
+}
