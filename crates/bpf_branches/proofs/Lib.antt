@@ -1,3 +1,4 @@
 pub mod Turning
 pub mod Going
 pub mod Finding
+pub mod Deciding

@@ -1,6 +1,6 @@
 -- One move of the pass: what the answer is by it.
 use Rattle.std.proofs.Common.{◌≡◌, ◌≢◌, ◌<◌, ◌⊎◌, inl, inr, ℕ, ◌+◌, ◌-◌, Bool, true, false, List, [], ◌∷◌, Option, Some, None, refl, sym, ap, subst, ◌∙◌, arith}
-use Rattle.std.specs.Prelude.{Result, ◌↔◌, ◌==◌, not, if◌then◌else◌, ℤ, pos}
+use Rattle.std.specs.Prelude.{Result, ◌↔◌, ◌==◌, not, if◌then◌else◌, ℤ, pos, take}
 use Rattle.std.proofs.lemmas.Bool.Decides.{nat_tests}
 use Rattle.counted_io.specs.Counted.{Tally}
 use Rattle.counted_io.specs.Writing.{WritesAfter}
@@ -15,7 +15,12 @@ use Rattle.bpf_isa.specs.declared.instruction.Width.{Width}
 use Rattle.bpf_journal.specs.Histories.{Record, is_step}
 use Rattle.bpf_machine.specs.declared.moves.Move.{Move}
 use Rattle.bpf_machine.specs.declared.moves.Move.TheVariants as move
-use Rattle.bpf_origin.specs.Answers.{Answer, with_line}
+use Rattle.bpf_machine.specs.Moves.{overwritten}
+use Rattle.bpf_origin.specs.Answers.{Answer, wanted_before, with_line}
+use Rattle.bpf_origin.specs.Reads.{followed}
+use Rattle.bpf_origin.specs.Wanted.{most_places, still_wanted}
+use Rattle.bpf_origin.specs.declared.place.Place.{Place}
+use Rattle.bpf_origin.specs.declared.question.Question.{Question}
 use Rattle.bpf_origin.specs.Texts.{lines_text}
 use Rattle.bpf_origin.specs.declared.question.Extent.TheVariants.{Lines}
 use Rattle.bpf_steps.specs.State.{State, depth}
@@ -24,9 +29,9 @@ use Rattle.bpf_whynot.specs.Flows.{target_slot}
 use Rattle.bpf_whynot.specs.Sures.{IsSure, TellsSure, told_sure}
 use Rattle.bpf_whynot.specs.declared.sure.Sure.{Sure}
 use Rattle.bpf_whynot.proofs.Flowing.{target_back, target_there}
-use Rattle.bpf_branches.specs.Branches.{Branches, Decided, DecidedIt, DecidesBy, JustOne, Parts, aim_at}
-use Rattle.bpf_branches.specs.Branches.Branches.{called as is_called, passed as is_passed, told as is_told, cut as is_cut}
-use Rattle.bpf_branches.specs.Turns.{Chases, GoesOn, Knows, Takes}
+use Rattle.bpf_branches.specs.Branches.{Branches, Decided, DecidedIt, DecidesBy, JustOne, Parts, Quest, aim_at, made}
+use Rattle.bpf_branches.specs.Branches.Branches.{called as is_called, passed as is_passed, valued as is_valued, told as is_told, cut as is_cut}
+use Rattle.bpf_branches.specs.Turns.{Chases, GoesOn, Knows, Takes, quest_of}
 use Rattle.bpf_branches.specs.declared.aim.Aim.{Aim}
 use Rattle.bpf_branches.specs.declared.hunt.Hunt.{Hunt}
 use Rattle.bpf_branches.specs.declared.hunt.Turn.{Turn}
@@ -137,63 +142,95 @@ pub edit_here : (b : Bool) (a : Aim) (r : Record) (y : State) → depth r.before
 edit_here b a r y same is d = both_here b a r y same (by_edit b a.slot r.before y r.move is d)
 
 -- what is looked for next
+aimed : (hunt : Hunt) (aim : Aim) (x : State) → aim ≡ aim_at x → (wanted : List Place) → record (quest_of hunt wanted) { aim = aim } ≡ record (quest_of hunt wanted) { aim = aim_at x }
+aimed hunt aim x is wanted = ap (λ (a : Aim). record (quest_of hunt wanted) { aim = a }) is
+
 pub chase_same : (x y : State) (aim : Aim) (hunt : Hunt) → y ≡ x → aim ≡ aim_at y → aim.slot ≡ hunt.aim.slot → Knows x hunt
-    → Chases x hunt (On (record { aim = aim; sure = hunt.sure; lines = hunt.lines; told = hunt.told }))
+    → Chases x hunt (On (record { aim = aim; sure = hunt.sure; values = hunt.values; lines = hunt.lines; told = hunt.told }))
 chase_same x y aim hunt at is same knows = (
   subst (λ (s : ℕ). TellsSure x.program s (told_sure hunt.sure)) (sym same) knows,
-  is ∙ ap aim_at at,
   refl,
-  refl,
+  aimed hunt aim x (is ∙ ap aim_at at),
 )
 
 pub chase_new : (x y : State) (aim : Aim) (sure : Sure) (hunt : Hunt) → y ≡ x → aim ≡ aim_at y → TellsSure y.program aim.slot (told_sure sure)
-    → Chases x hunt (On (record { aim = aim; sure = sure; lines = hunt.lines; told = hunt.told }))
+    → Chases x hunt (On (record { aim = aim; sure = sure; values = hunt.values; lines = hunt.lines; told = hunt.told }))
 chase_new x y aim sure hunt at is tells = (
   subst (λ (z : State). TellsSure z.program aim.slot (told_sure sure)) at tells,
-  is ∙ ap aim_at at,
   refl,
-  refl,
+  aimed hunt aim x (is ∙ ap aim_at at),
 )
 
-module _ {W : Type 0} (contents : W → Option (List ℕ)) (opening : Bool) (k : ℕ) (r : Record) (h : List Record) (y : State) where
-  pub turn_passes : (old : Tally W) (hunt : Hunt) → Knows r.before hunt → (depth r.before < hunt.aim.depth → ⊥) → (DecidedIt hunt.aim r y → ⊥)
-      → Takes contents opening k r h y old hunt old (On hunt)
-  turn_passes old hunt knows other none = record {
+-- what a move read
+pub read_by_step : (addresses : Bool) (x : State) (m : Move) → is_step m ≡ true → followed addresses x m ≡ followed addresses x move.Step
+read_by_step addresses x move.Step is = refl
+read_by_step addresses x (move.Edit e) is = absurd cc
+
+pub read_by_edit : (addresses : Bool) (x : State) (m : Move) → is_step m ≡ false → followed addresses x m ≡ []
+read_by_edit addresses x move.Step is = absurd cc
+read_by_edit true x (move.Edit e) is = refl
+read_by_edit false x (move.Edit e) is = refl
+
+module _ {W : Type 0} (contents : W → Option (List ℕ)) (q : Question) (k : ℕ) (r : Record) (h : List Record) (y : State) (wanted left : List Place) where
+  on_with : (s t : Quest) (rest : Answer) → s ≡ t → Branches q (k + 1) s h r.before rest → Branches q (k + 1) t h r.before rest
+  on_with s t rest e on = subst (λ (u : Quest). Branches q (k + 1) u h r.before rest) e on
+
+  told_on : (old : Tally W) (a b : Result (Unit {0}) WriteFault) → a ≡ b → WritesAfter contents old b old a []
+  told_on old a b e = subst (λ (told : Result (Unit {0}) WriteFault). WritesAfter contents old b old told []) (sym e) (WritesAfter-nothing contents old b)
+
+  pub turn_passes : (old : Tally W) (hunt : Hunt) → left ≡ still_wanted y (overwritten r.before r.move) wanted → made (quest_of hunt wanted) r y ≡ false
+      → Knows r.before hunt → (depth r.before < hunt.aim.depth → ⊥) → (DecidedIt hunt.aim r y → ⊥)
+      → Takes contents q k r h y wanted left old hunt old (On hunt)
+  turn_passes old hunt still not knows other none = record {
     knows = knows;
     text = [];
     writes = WritesAfter-nothing contents old hunt.told;
-    is = λ rest left. is_passed other none left;
+    is = λ rest on. is_passed not other none (on_with _ _ rest (ap (quest_of hunt) still) on);
   }
 
-  next_is : (hunt next : Hunt) (rest : Answer) → next.aim ≡ aim_at r.before → next.lines ≡ hunt.lines
-      → Branches opening (k + 1) next.lines next.aim h r.before rest → Branches opening (k + 1) hunt.lines (aim_at r.before) h r.before rest
-  next_is hunt next rest aim lines left =
-      subst (λ (n : ℕ). Branches opening (k + 1) n (aim_at r.before) h r.before rest) lines
-      (subst (λ (a : Aim). Branches opening (k + 1) next.lines a h r.before rest) aim left)
-
-  pub turn_calls : (old : Tally W) (hunt : Hunt) (turn : Turn) → depth r.before < hunt.aim.depth → Chases r.before hunt turn
-      → Takes contents opening k r h y old hunt old turn
-  turn_calls old hunt (Cut written) low chases = absurd chases
-  turn_calls old hunt (On next) low chases = record {
+  pub turn_calls : (old : Tally W) (hunt : Hunt) (turn : Turn) → left ≡ still_wanted y (overwritten r.before r.move) wanted → made (quest_of hunt wanted) r y ≡ false
+      → depth r.before < hunt.aim.depth → Chases r.before hunt turn
+      → Takes contents q k r h y wanted left old hunt old turn
+  turn_calls old hunt (Cut written) still not low chases = absurd chases
+  turn_calls old hunt (On next) still not low chases = record {
     knows = chases.0;
     text = [];
-    writes = subst (λ (told : Result (Unit {0}) WriteFault). WritesAfter contents old hunt.told old told []) (sym chases.3) (WritesAfter-nothing contents old hunt.told);
-    is = λ rest left. is_called low (next_is hunt next rest chases.1 chases.2 left);
+    writes = told_on old next.told hunt.told chases.1;
+    is = λ rest on.
+        is_called not low
+        (on_with _ _ rest (chases.2 left ∙ ap (λ (ws : List Place). record (quest_of hunt ws) { aim = aim_at r.before }) still) on);
   }
 
-  pub turn_cuts : (old now : Tally W) (hunt : Hunt) (written : Result (Unit {0}) WriteFault) → DecidedIt hunt.aim r y → hunt.lines ≡ 0
-      → WritesAfter contents old hunt.told now written lines_text → Takes contents opening k r h y old hunt now (Cut written)
-  turn_cuts old now hunt written here none writes = (writes, is_cut here none)
+  pub turn_values : (old : Tally W) (hunt : Hunt) (turn : Turn) → left ≡ take most_places (wanted_before q r y wanted) → made (quest_of hunt wanted) r y ≡ true
+      → Chases r.before (record hunt { values = hunt.values - 1 }) turn
+      → Takes contents q k r h y wanted left old hunt old turn
+  turn_values old hunt (Cut written) more is chases = absurd chases
+  turn_values old hunt (On next) more is chases = record {
+    knows = chases.0;
+    text = [];
+    writes = told_on old next.told hunt.told chases.1;
+    is = λ rest on.
+        is_valued is
+        (on_with _ _ rest
+        (chases.2 left ∙ ap (λ (ws : List Place). record (quest_of (record hunt { values = hunt.values - 1 }) ws) { aim = aim_at r.before }) more) on);
+  }
 
-  pub turn_tells : (old now : Tally W) (hunt mid : Hunt) (turn : Turn) → DecidedIt hunt.aim r y → 0 < hunt.lines → mid.lines ≡ hunt.lines - 1
-      → WritesAfter contents old hunt.told now mid.told (lost_line (k + 1) r.before r.move y) → Chases r.before mid turn
-      → Takes contents opening k r h y old hunt now turn
-  turn_tells old now hunt mid (Cut written) here some lines writes chases = absurd chases
-  turn_tells old now hunt mid (On next) here some lines writes chases = record {
+  pub turn_cuts : (old now : Tally W) (hunt : Hunt) (written : Result (Unit {0}) WriteFault) → made (quest_of hunt wanted) r y ≡ false → DecidedIt hunt.aim r y
+      → hunt.lines ≡ 0 → WritesAfter contents old hunt.told now written lines_text → Takes contents q k r h y wanted left old hunt now (Cut written)
+  turn_cuts old now hunt written not here none writes = (writes, is_cut not here none)
+
+  pub turn_tells : (old now : Tally W) (hunt : Hunt) (told : Result (Unit {0}) WriteFault) (turn : Turn) → left ≡ still_wanted y (overwritten r.before r.move) wanted
+      → made (quest_of hunt wanted) r y ≡ false → DecidedIt hunt.aim r y → 0 < hunt.lines
+      → WritesAfter contents old hunt.told now told (lost_line (k + 1) r.before r.move y)
+      → Chases r.before (record { aim = hunt.aim; sure = hunt.sure; values = hunt.values; lines = hunt.lines - 1; told = told }) turn
+      → Takes contents q k r h y wanted left old hunt now turn
+  turn_tells old now hunt told (Cut written) still not here some writes chases = absurd chases
+  turn_tells old now hunt told (On next) still not here some writes chases = record {
     knows = chases.0;
     text = lost_line (k + 1) r.before r.move y;
-    writes = subst (λ (told : Result (Unit {0}) WriteFault). WritesAfter contents old hunt.told now told (lost_line (k + 1) r.before r.move y)) (sym chases.3) writes;
-    is = λ rest left.
-        is_told here some
-        (subst (λ (n : ℕ). Branches opening (k + 1) n (aim_at r.before) h r.before rest) lines (next_is mid next rest chases.1 chases.2 left));
+    writes = subst (λ (last : Result (Unit {0}) WriteFault). WritesAfter contents old hunt.told now last (lost_line (k + 1) r.before r.move y)) (sym chases.1) writes;
+    is = λ rest on.
+        is_told not here some
+        (on_with _ _ rest
+        (chases.2 left ∙ ap (λ (ws : List Place). record (quest_of hunt ws) { aim = aim_at r.before; lines = hunt.lines - 1 }) still) on);
   }

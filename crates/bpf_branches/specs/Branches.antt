@@ -1,15 +1,21 @@
--- Why a program came to where it stands: the branches that decided it, the newest first (dynamic control dependence).
-use Rattle.std.specs.Prelude.{◌≡◌, ◌≢◌, ◌<◌, ◌⊎◌, ℕ, ◌+◌, ◌-◌, pos, Bool, if◌then◌else◌, List, [], ◌∷◌, Some}
+-- Why a value came about: the branches that decided that the moves were made which the answer about it tells, and that the program came to where it
+-- stands, the newest first (dynamic control dependence).
+use Rattle.std.specs.Prelude.{◌≡◌, ◌≢◌, ◌<◌, ◌⊎◌, ℕ, ◌+◌, ◌-◌, ◌==◌, pos, Bool, true, false, if◌then◌else◌, List, [], ◌∷◌, Some, take}
 use lib.Chars.{codes}
 use Rattle.bpf_isa.specs.Programs.{Checked, insn_at, target_of}
 use Rattle.bpf_isa.specs.declared.instruction.Insn.{Insn}
 use Rattle.bpf_isa.specs.declared.instruction.Insn.TheVariants.{JumpIf}
 use Rattle.bpf_machine.specs.declared.moves.Move.{Move}
 use Rattle.bpf_machine.specs.declared.moves.Move.TheVariants as move
+use Rattle.bpf_machine.specs.Moves.{overwritten}
 use Rattle.bpf_steps.specs.State.{State, depth}
 use Rattle.bpf_journal.specs.Histories.{Record}
-use Rattle.bpf_origin.specs.Answers.{Answer, with_line}
+use Rattle.bpf_origin.specs.Answers.{Answer, wanted_before, with_line}
 use Rattle.bpf_origin.specs.Texts.{lines_text}
+use Rattle.bpf_origin.specs.Wanted.{are_hit, most_places, still_wanted, want_parts}
+use Rattle.bpf_origin.specs.Writes.{written}
+use Rattle.bpf_origin.specs.declared.place.Part.{Part}
+use Rattle.bpf_origin.specs.declared.place.Place.{Place}
 use Rattle.bpf_origin.specs.declared.question.Extent.TheVariants.{Lines}
 use Rattle.bpf_origin.specs.declared.question.Question.{Question}
 use Rattle.bpf_whynot.specs.Answers.{lost_line, only}
@@ -44,20 +50,51 @@ DecidedIt a r y = (depth r.before ≡ a.depth) × Decided a.slot r.before r.move
 abbrev pub end_text : Bool → List ℕ
 end_text opening = if opening then codes "no other branch; at the opening\n" else codes "no other branch; before the kept history\n"
 
--- The answer after k moves, with room for n lines. The latest move that decided it is told, and then why the function came to the slot of that.
--- Where none did since the function was called, it is asked why its caller came to the call.
-pub data Branches (opening : Bool) : ℕ → ℕ → Aim → List Record → State → Answer → Type 0 where
-  ended : {k n : ℕ} {a : Aim} {y : State} → Branches opening k n a [] y (only (end_text opening))
-  called : {k n : ℕ} {a : Aim} {r : Record} {h : List Record} {y : State} {rest : Answer} → depth r.before < a.depth
-      → Branches opening (k + 1) n (aim_at r.before) h r.before rest → Branches opening k n a (r ∷ h) y rest
-  passed : {k n : ℕ} {a : Aim} {r : Record} {h : List Record} {y : State} {rest : Answer} → (depth r.before < a.depth → ⊥) → (DecidedIt a r y → ⊥)
-      → Branches opening (k + 1) n a h r.before rest → Branches opening k n a (r ∷ h) y rest
-  told : {k n : ℕ} {a : Aim} {r : Record} {h : List Record} {y : State} {rest : Answer} → DecidedIt a r y → 0 < n
-      → Branches opening (k + 1) (n - 1) (aim_at r.before) h r.before rest
-      → Branches opening k n a (r ∷ h) y (with_line (lost_line (k + 1) r.before r.move y) rest)
-  cut : {k n : ℕ} {a : Aim} {r : Record} {h : List Record} {y : State} → DecidedIt a r y → n ≡ 0
-      → Branches opening k n a (r ∷ h) y (record { text = lines_text; extent = Lines })
+-- What is looked for: where the values at some places came from, in so many more lines of the answer about them; and how a function came to its slot,
+-- in so many lines.
+pub record Quest : Type 0 where
+  pub wanted : List Place
+  pub values : ℕ
+  pub aim : Aim
+  pub lines : ℕ
 
--- The answer about where a machine stands.
-abbrev pub AreBranches : Question → List Record → State → Answer → Type 0
-AreBranches q h y answer = Branches q.opening 0 q.lines (aim_at y) h y answer
+-- A move made a value: the answer about the value tells it.
+abbrev pub made : Quest → Record → State → Bool
+made s r y = if s.values == 0 then false else are_hit (written y (overwritten r.before r.move)) s.wanted
+
+-- Behind such a move it is looked for what that read, and how the program came to it; behind a branch that is told for how it came to that; behind
+-- a call that began the function for how it came to the call.
+abbrev pub behind_value : Question → Quest → Record → State → Quest
+behind_value q s r y = record s { wanted = take most_places (wanted_before q r y s.wanted); values = s.values - 1; aim = aim_at r.before }
+
+abbrev pub behind : Quest → Record → State → Quest
+behind s r y = record s { wanted = still_wanted y (overwritten r.before r.move) s.wanted }
+
+abbrev pub behind_call : Quest → Record → State → Quest
+behind_call s r y = record (behind s r y) { aim = aim_at r.before }
+
+abbrev pub behind_branch : Quest → Record → State → Quest
+behind_branch s r y = record (behind_call s r y) { lines = s.lines - 1 }
+
+-- The answer after k moves. The latest move is told that decided that the function came to the slot which is looked for: the oldest one, in that call,
+-- that is to be explained. (What decided about a younger one decided about that, too: `OlderIsDecided` of Laws.)
+pub data Branches (q : Question) : ℕ → Quest → List Record → State → Answer → Type 0 where
+  ended : {k : ℕ} {s : Quest} {y : State} → Branches q k s [] y (only (end_text q.opening))
+  valued : {k : ℕ} {s : Quest} {r : Record} {h : List Record} {y : State} {rest : Answer} → made s r y ≡ true
+      → Branches q (k + 1) (behind_value q s r y) h r.before rest → Branches q k s (r ∷ h) y rest
+  called : {k : ℕ} {s : Quest} {r : Record} {h : List Record} {y : State} {rest : Answer} → made s r y ≡ false → depth r.before < s.aim.depth
+      → Branches q (k + 1) (behind_call s r y) h r.before rest → Branches q k s (r ∷ h) y rest
+  passed : {k : ℕ} {s : Quest} {r : Record} {h : List Record} {y : State} {rest : Answer} → made s r y ≡ false → (depth r.before < s.aim.depth → ⊥)
+      → (DecidedIt s.aim r y → ⊥) → Branches q (k + 1) (behind s r y) h r.before rest → Branches q k s (r ∷ h) y rest
+  told : {k : ℕ} {s : Quest} {r : Record} {h : List Record} {y : State} {rest : Answer} → made s r y ≡ false → DecidedIt s.aim r y → 0 < s.lines
+      → Branches q (k + 1) (behind_branch s r y) h r.before rest
+      → Branches q k s (r ∷ h) y (with_line (lost_line (k + 1) r.before r.move y) rest)
+  cut : {k : ℕ} {s : Quest} {r : Record} {h : List Record} {y : State} → made s r y ≡ false → DecidedIt s.aim r y → s.lines ≡ 0
+      → Branches q k s (r ∷ h) y (record { text = lines_text; extent = Lines })
+
+-- The answer about some parts, where a machine stands.
+abbrev pub quest_about : Question → List Part → State → Quest
+quest_about q parts y = record { wanted = take most_places (want_parts [] parts); values = q.lines; aim = aim_at y; lines = q.lines }
+
+abbrev pub AreBranches : Question → List Part → List Record → State → Answer → Type 0
+AreBranches q parts h y answer = Branches q 0 (quest_about q parts y) h y answer

@@ -1,3 +1,4 @@
 pub mod Branches
 pub mod Courses
+pub mod Laws
 pub mod Turns

@@ -11,6 +11,8 @@ pub struct Hunt {
     pub aim: Aim,
     /// From where its function comes to it surely.
     pub sure: Sure,
+    /// How many more lines the answer about values has.
+    pub values: u64,
     /// How many more lines there may be.
     pub lines: u64,
     /// Whether what was told could be written.

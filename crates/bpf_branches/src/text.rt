@@ -6,7 +6,7 @@ ghost use Rattle.bpf_branches.specs.Courses.{IsFound};
 
 use crate::branches::put_branches;
 use bpf_journal::{Course, RingKeeper, Timeline};
-use bpf_origin::{Extent, Question, go_on};
+use bpf_origin::{Extent, Part, Question, Wanted, go_on};
 use counted_io::{Counted, WriteFault};
 use std::alloc::{AllocError, Global};
 
@@ -18,17 +18,19 @@ pub struct Found {
     pub extent: Extent,
 }
 
-/// Finds the branches that decided that the program came to where it stands, as `put_branches` writes
-/// them. That goes back over all that is kept and makes it again, and takes as much memory again as
-/// the journal has.
+/// Finds the branches that decided that the moves were made which the answer about some parts tells,
+/// and that the program came to where it stands, as `put_branches` writes them. That goes back over
+/// all that is kept and makes it again, and takes as much memory again as the journal has.
 pub fn find_branches(
     alloc: Global,
     timeline: Timeline<RingKeeper>,
+    wanted: &mut Wanted,
+    parts: &[Part],
     question: Question,
 ) -> Result<Found, AllocError>
     ensures { IfOk result (λ found. (h : List Record) →
         StandsFor RingHolds timeline.keeper timeline.state h →
-        IsFound question h timeline.state found) }
+        IsFound question parts.now h timeline.state found) }
 {
     let (cpu, keeper) = timeline.close();
     let redo = match RingKeeper::open(alloc, keeper.capacity()) {
@@ -37,7 +39,15 @@ pub fn find_branches(
     };
     let mut course = Course::open(cpu, keeper, redo);
     let mut writer = Counted::new(Vec::new(alloc));
-    let told = match put_branches(alloc, &mut course, question, &mut writer, Ok(())) {
+    let told = match put_branches(
+        alloc,
+        &mut course,
+        wanted,
+        parts,
+        question,
+        &mut writer,
+        Ok(()),
+    ) {
         Ok(told) => told,
         Err(error) => return Err(error),
     };

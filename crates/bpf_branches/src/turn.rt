@@ -1,5 +1,5 @@
 //! One move of the pass.
-ghost use Rattle.std.specs.Prelude.{◌≡◌, ◌≤◌, ◌<◌, ◌+◌, ◌↔◌, ℕ, Bool, true, List, IfOk, not, if◌then◌else◌};
+ghost use Rattle.std.specs.Prelude.{◌≡◌, ◌≤◌, ◌<◌, ◌+◌, ◌↔◌, ℕ, true, false, List, IfOk, not, if◌then◌else◌};
 ghost use Rattle.bpf_isa.specs.Checker.{most_slots};
 ghost use Rattle.bpf_isa.specs.Programs.{Checked};
 ghost use Rattle.bpf_machine.specs.declared.moves.Move.TheVariants as move_of;
@@ -8,7 +8,11 @@ ghost use Rattle.bpf_steps.specs.State.{State};
 ghost use Rattle.bpf_whynot.specs.Sures.{TellsSure, told_sure};
 ghost use Rattle.bpf_whynot.specs.Standings.{standing};
 ghost use Rattle.bpf_branches.specs.Branches as spec;
-ghost use Rattle.bpf_branches.specs.Turns.{Chases, Knows, Takes};
+ghost use Rattle.bpf_branches.specs.Turns.{Chases, Knows, Takes, quest_of};
+ghost use Rattle.bpf_machine.specs.Moves.{overwritten};
+ghost use Rattle.bpf_origin.specs.Wanted.{still_wanted};
+ghost use Rattle.bpf_origin.specs.declared.place.Place.{Place};
+ghost use Rattle.bpf_origin.specs.declared.question.Question.{Question};
 ghost use Rattle.counted_io.specs.Writing.{WritesAfter};
 
 use crate::aim::Aim;
@@ -32,9 +36,11 @@ pub fn turn<W: Write>(
     writer: &mut Counted<W>,
 ) -> Result<Turn, AllocError>
     requires { 0 < moves }
-    ensures { IfOk result (λ turn. (opening : Bool) (k : ℕ) (r : Record) (h : List Record) (y : State) →
+    ensures { IfOk result (λ turn. (q : Question) (k : ℕ) (r : Record) (h : List Record) (y : State)
+        (wanted left : List Place) → left ≡ still_wanted y (overwritten r.before r.move) wanted →
         moves ≡ k + 1 → cpu.now ≡ r.before → is_step ≡ is_step_of r.move → after ≡ standing y →
-        Knows r.before hunt → Takes W.contents opening k r h y writer.old hunt writer.new turn) }
+        Knows r.before hunt → spec.made (quest_of hunt wanted) r y ≡ false →
+        Takes W.contents q k r h y wanted left writer.old hunt writer.new turn) }
 {
     let deep = cpu.depth();
     let own = hunt.aim.depth;
@@ -55,6 +61,7 @@ pub fn turn<W: Write>(
         Hunt {
             aim: hunt.aim,
             sure: hunt.sure,
+            values: hunt.values,
             lines: lines - 1,
             told,
         },
@@ -62,7 +69,7 @@ pub fn turn<W: Write>(
 }
 
 /// Looks from now on for how the machine came to where it stands.
-fn chase(alloc: Global, cpu: &Cpu, hunt: Hunt) -> Result<Turn, AllocError>
+pub fn chase(alloc: Global, cpu: &Cpu, hunt: Hunt) -> Result<Turn, AllocError>
     ensures { IfOk result (λ turn. (x : State) → cpu.now ≡ x → Knows x hunt → Chases x hunt turn) }
 {
     let aim = Aim::of(cpu);
@@ -72,6 +79,7 @@ fn chase(alloc: Global, cpu: &Cpu, hunt: Hunt) -> Result<Turn, AllocError>
         return Ok(Turn::On(Hunt {
             aim,
             sure: hunt.sure,
+            values: hunt.values,
             lines: hunt.lines,
             told: hunt.told,
         }));
@@ -80,6 +88,7 @@ fn chase(alloc: Global, cpu: &Cpu, hunt: Hunt) -> Result<Turn, AllocError>
         Ok(sure) => Ok(Turn::On(Hunt {
             aim,
             sure,
+            values: hunt.values,
             lines: hunt.lines,
             told: hunt.told,
         })),

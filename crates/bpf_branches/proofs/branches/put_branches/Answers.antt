@@ -1,5 +1,4 @@
-use Rattle.std.proofs.Common.{◌∙◌, ap, arith, refl}
-use Rattle.bpf_branches.specs.Branches.{aim_at}
+use Rattle.std.proofs.Common.{arith, refl}
 use Rattle.bpf_branches.proofs.Going.{going_begins, going_cut, going_ends, going_on, same_course}
 use Rattle.bpf_branches.proofs.branches.put_branches.Goals as goal
 
@@ -7,8 +6,8 @@ pub loop-k-init : goal.loop-k-init
 loop-k-init g c = (
   record { room = refl; refused = refl },
   λ t stands.
-      going_begins g.K.Keeper.holds g.W.Write.contents c.args.question c.args.writer.now c.args.so_far t c.args.course.now.state _ c.args.course.now stands refl
-      (rw (c.program.ensures, c.cpu-2.ensures) at c.in-Ok.ensures) (c.of-aim.ensures ∙ ap aim_at c.cpu.ensures) refl refl,
+      going_begins g.K.Keeper.holds g.W.Write.contents c.args.question c.args.parts.now c.args.writer.now c.args.so_far t c.args.course.now.state _ _ c.args.course.now
+      stands refl (rw c.cpu.ensures at c.in-Ok.ensures) (rw c.clear.ensures at c.want_parts-all.ensures.value),
 )
 
 pub loop-k-preserved : goal.loop-k-preserved
@@ -17,18 +16,18 @@ loop-k-preserved g c = (
   λ t stands.
       let n = c.len-kept.ensures t stands in
       let here = c.loop-k-test.true in
-      going_on g.K.Keeper.holds g.W.Write.contents c.args.question c.args.writer.now c.args.so_far t c.args.course.now.state c.loop-k.k c.loop-k.hunt c.in-On.next
+      going_on g.K.Keeper.holds g.W.Write.contents c.args.question c.args.parts.now c.args.writer.now c.args.so_far t c.args.course.now.state c.loop-k.k c.loop-k.hunt c.in-On.next c.loop-k.wanted c.take.new.wanted
       c.loop-k.course c.take.new.course c.loop-k.writer c.take.new.writer (c.loop-k.invariant.1 t stands) (omega (arith, n, here))
-      (λ r h f follows knows. rw c.in-On.is at (c.in-Ok-take.ensures.takes c.args.question.opening c.loop-k.k r h f refl follows knows)) c.take.ensures.back,
+      (λ r h f follows knows. rw c.in-On.is at (c.in-Ok-take.ensures.takes c.loop-k.k r h f refl follows knows)) c.take.ensures.back,
 )
 
 pub returns-in-Cut-clause-tells : goal.returns-in-Cut-clause-tells
 returns-in-Cut-clause-tells g c = λ t stands.
     let n = c.len-kept.ensures t stands in
     let here = c.loop-k-test.true in
-    going_cut g.K.Keeper.holds g.W.Write.contents c.args.question c.args.writer.now c.args.so_far t c.args.course.now.state c.loop-k.k c.loop-k.hunt c.in-Cut.written
+    going_cut g.K.Keeper.holds g.W.Write.contents c.args.question c.args.parts.now c.args.writer.now c.args.so_far t c.args.course.now.state c.loop-k.k c.loop-k.hunt c.loop-k.wanted c.take.new.wanted c.in-Cut.written
     c.loop-k.course c.take.new.course c.loop-k.writer c.take.new.writer _ c.args.course.now (c.loop-k.invariant.1 t stands) (omega (arith, n, here))
-    (λ r h f follows knows. rw c.in-Cut.is at (c.in-Ok-take.ensures.takes c.args.question.opening c.loop-k.k r h f refl follows knows)) c.take.ensures.back refl refl
+    (λ r h f follows knows. rw c.in-Cut.is at (c.in-Ok-take.ensures.takes c.loop-k.k r h f refl follows knows)) c.take.ensures.back refl refl
 
 pub returns-in-Cut-clause-keeper : goal.returns-in-Cut-clause-keeper
 returns-in-Cut-clause-keeper g c = same_course g.K.Keeper.room g.K.Keeper.refused _ _ _ c.loop-k.invariant.0 c.take.ensures.keeper
@@ -37,7 +36,7 @@ pub returns-clause-tells : goal.returns-clause-tells
 returns-clause-tells g c = λ t stands.
     let n = c.len-kept.ensures t stands in
     let fin = c.loop-k-test.false in
-    going_ends g.K.Keeper.holds g.W.Write.contents c.args.question c.args.writer.now c.args.so_far t c.args.course.now.state c.loop-k.k c.len-kept.result c.loop-k.hunt
+    going_ends g.K.Keeper.holds g.W.Write.contents c.args.question c.args.parts.now c.args.writer.now c.args.so_far t c.args.course.now.state c.loop-k.k c.len-kept.result c.loop-k.hunt c.loop-k.wanted
     c.put_end-last.result c.loop-k.course c.loop-k.writer c.put_end-last.new.writer c.args.course.now (c.loop-k.invariant.1 t stands) (omega (arith, n, fin))
     c.put_end-last.ensures n refl
 
