@@ -24,7 +24,7 @@ use Rattle.bpf_session.specs.Sessions.{HasPast, SessionValue, bounds_of, track_a
 use Rattle.bpfdb_commands.specs.declared.refusal.Refusal.{Refusal}
 use Rattle.bpfdb_jobs.specs.Jobs.{Prints, arrival_of, origin_print, start_of}
 use Rattle.bpfdb_jobs.specs.Obeying.{ObeysScript, arrived}
-use Rattle.bpfdb_jobs.specs.Openings.{HasArrived, HasTail, IsOpening, IsStart}
+use Rattle.bpfdb_jobs.specs.Openings.{AreAskedParts, HasArrived, HasTail, IsOpening, IsStart}
 use Rattle.bpfdb_jobs.specs.Origins.{Asks, IsTail, RefusesWhat, arrival, bounds, followed_by, obeyed, question_by, run_arrival, run_history}
 use Rattle.bpfdb_jobs.specs.Refusals.{RefusesArrival, RefusesAs}
 use Rattle.bpfdb_jobs.specs.declared.job.Job.{Job}
@@ -101,7 +101,7 @@ module _ (job : Job) (moment : Moment RingKeeper) (n : ℕ) (a : HasArrived job 
   -- the answer about it is printed
   pub origin-prints : (q : Question) (what : Option What) (parts : List Part) → q ≡ question job a.at.point.history n
       → Asks job.options.what moment.state what → parts ≡ parts_asked moment.state what
-      → (tail : Answer) → IsTail job.options.only_branches (question_by job.options a.at) a.at.point tail
+      → (tail : Answer) → IsTail job.options.only_branches (question_by job.options a.at) parts a.at.point tail
       → Prints Origin job (origin_print moment.state (followed_by (answer_about q parts a.at.point.history moment.state) tail))
   origin-prints q what parts asks-as asks is tail behind = (
     a.code,
@@ -111,7 +111,8 @@ module _ (job : Job) (moment : Moment RingKeeper) (n : ℕ) (a : HasArrived job 
     a.opens,
     a.arrives,
     subst (λ (x : State). Asks job.options.what x what) a.state asks,
-    behind,
+    subst (λ (ps : List Part). IsTail job.options.only_branches (question_by job.options a.at) ps a.at.point tail)
+        (is ∙ ap (λ (x : State). parts_asked x what) a.state) behind,
     ap (λ (z : Question). origin_print moment.state (followed_by (answer_about z parts a.at.point.history moment.state) tail))
         (asks-as ∙ ap (question job a.at.point.history) a.counted)
         ∙ ap (λ (ps : List Part). origin_print moment.state (followed_by (answer_about (question_by job.options a.at) ps a.at.point.history moment.state) tail)) is
@@ -124,10 +125,10 @@ module _ (job : Job) (moment : Moment RingKeeper) (n : ℕ) (a : HasArrived job 
       (a.code, a.at, a.opens, a.arrives, subst (λ (x : State). RefusesWhat job.options.what x fault) a.state refuses)
 
   -- behind it are the branches that were found
-  pub branches-behind : (q : Question) (found : Found) → job.options.only_branches ≡ true → q ≡ question job a.at.point.history n
-      → IsFound q a.at.point.history moment.state found
-      → HasTail job found.timeline n (record { text = found.text.items; extent = found.extent })
-  branches-behind q found given asks-as is = record {
+  pub branches-behind : (q : Question) (parts : List Part) (found : Found) → AreAskedParts job moment.state parts → job.options.only_branches ≡ true
+      → q ≡ question job a.at.point.history n → IsFound q parts a.at.point.history moment.state found
+      → HasTail job found.timeline n parts (record { text = found.text.items; extent = found.extent })
+  branches-behind q parts found asked given asks-as is = record {
     arrived = record {
       code = a.code;
       at = a.at;
@@ -137,19 +138,22 @@ module _ (job : Job) (moment : Moment RingKeeper) (n : ℕ) (a : HasArrived job 
       held = is.stands;
       counted = a.counted;
     };
-    is = subst (λ (b : Bool). IsTail b (question_by job.options a.at) a.at.point (record { text = found.text.items; extent = found.extent })) (sym given)
-        (subst (λ (z : Question). AreBranches z a.at.point.history a.at.point.state (record { text = found.text.items; extent = found.extent }))
+    asked = subst (λ (x : State). AreAskedParts job x parts) (sym is.state) asked;
+    is = subst (λ (b : Bool). IsTail b (question_by job.options a.at) parts a.at.point (record { text = found.text.items; extent = found.extent })) (sym given)
+        (subst (λ (z : Question). AreBranches z parts a.at.point.history a.at.point.state (record { text = found.text.items; extent = found.extent }))
         (asks-as ∙ ap (question job a.at.point.history) a.counted)
-        (subst (λ (x : State). AreBranches q a.at.point.history x (record { text = found.text.items; extent = found.extent })) a.state
-        (subst (λ (z : Answer). AreBranches q a.at.point.history moment.state z) (same is.text is.extent) is.is)));
+        (subst (λ (x : State). AreBranches q parts a.at.point.history x (record { text = found.text.items; extent = found.extent })) a.state
+        (subst (λ (z : Answer). AreBranches q parts a.at.point.history moment.state z) (same is.text is.extent) is.is)));
   }
     where
       same : {text : List ℕ} {extent : Extent} {other : Answer} → text ≡ other.text → extent ≡ other.extent → other ≡ record { text = text; extent = extent }
       same e f = ap₂ (λ (text : List ℕ) (extent : Extent). record { text = text; extent = extent }) (sym e) (sym f)
 
   -- or nothing
-  pub nothing-behind : job.options.only_branches ≡ false → HasTail job moment n (record { text = []; extent = Whole })
-  nothing-behind without = record {
+  pub nothing-behind : (parts : List Part) → AreAskedParts job moment.state parts → job.options.only_branches ≡ false
+      → HasTail job moment n parts (record { text = []; extent = Whole })
+  nothing-behind parts asked without = record {
     arrived = a;
-    is = subst (λ (b : Bool). IsTail b (question_by job.options a.at) a.at.point (record { text = []; extent = Whole })) (sym without) refl;
+    asked = asked;
+    is = subst (λ (b : Bool). IsTail b (question_by job.options a.at) parts a.at.point (record { text = []; extent = Whole })) (sym without) refl;
   }

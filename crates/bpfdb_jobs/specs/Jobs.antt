@@ -26,6 +26,7 @@ use Rattle.bpf_places.specs.Places.{is_place}
 use Rattle.bpf_steps.specs.Platform.{context_limit}
 use Rattle.bpf_steps.specs.State.{State, initial}
 use Rattle.bpf_origin.specs.Answers.{Answer}
+use Rattle.bpf_origin.specs.Asked.{parts_asked}
 use Rattle.bpf_origin.specs.declared.what.What.{What}
 use Rattle.bpf_session.specs.Plain.{ending_of, plain_end, text_of_ending}
 use Rattle.bpf_session.specs.Points.{opening}
@@ -334,7 +335,8 @@ Prints Trace job a = (code : Checked) × Opens job code
     × (a ≡ trace_or_stopped (unwritten_in job (initial code job.context.now)) job (initial code job.context.now) (run_end job code))
 Prints Debug job a = ⊥
 Prints Origin job a = (code : Checked) × (at : Arrival) × (what : Option What) × (tail : Answer) × OpensSession job code
-    × (arrival_of job code ≡ Ok at) × Asks job.options.what at.point.state what × IsTail job.options.only_branches (question_by job.options at) at.point tail
+    × (arrival_of job code ≡ Ok at) × Asks job.options.what at.point.state what
+    × IsTail job.options.only_branches (question_by job.options at) (parts_asked at.point.state what) at.point tail
     × (a ≡ origin_print at.point.state (followed_by (answer_by job.options what at) tail))
 Prints Whynot job a = (code : Checked) × (at : Arrival) × (goals : List ℕ) × (can : ℕ → List ℕ → Bool) × OpensSession job code
     × (arrival_of job code ≡ Ok at) × AsksGoals job at.point.state.program (Ok goals)

@@ -1,16 +1,19 @@
 -- Scaffolding: a session, or a machine with its journal, that was just opened for a job.
-use Rattle.std.specs.Prelude.{ℕ, ◌≡◌, [], Ok}
+use Rattle.std.specs.Prelude.{ℕ, ◌≡◌, List, [], Option, Ok}
 use Rattle.bpf_isa.specs.Programs.{Checked}
 use Rattle.bpf_journal.specs.Histories.{StandsFor}
 use Rattle.bpf_journal.specs.Timelines.{Moment}
 use Rattle.bpf_journal.specs.Tracks.{RingHolds, ring_room}
 use Rattle.bpf_ring.specs.declared.keeper.RingKeeper.{RingKeeper}
 use Rattle.bpf_origin.specs.Answers.{Answer}
-use Rattle.bpf_steps.specs.State.{initial}
+use Rattle.bpf_origin.specs.Asked.{parts_asked}
+use Rattle.bpf_origin.specs.declared.place.Part.{Part}
+use Rattle.bpf_origin.specs.declared.what.What.{What}
+use Rattle.bpf_steps.specs.State.{State, initial}
 use Rattle.bpf_session.specs.Sessions.{SessionValue}
 use Rattle.bpfdb_jobs.specs.Connections.{Begins}
 use Rattle.bpfdb_jobs.specs.Jobs.{OpensSession, arrival_of}
-use Rattle.bpfdb_jobs.specs.Origins.{Arrival, IsTail, question_by}
+use Rattle.bpfdb_jobs.specs.Origins.{Arrival, Asks, IsTail, question_by}
 use Rattle.bpfdb_jobs.specs.declared.job.Job.{Job}
 
 -- It has the job's program, and stands where one of the job begins.
@@ -37,7 +40,12 @@ pub record HasArrived (job : Job) (moment : Moment RingKeeper) (moves : ℕ) : T
   pub held : StandsFor RingHolds moment.keeper moment.state at.point.history
   pub counted : moves ≡ at.moves
 
--- And this stands behind its answer.
-pub record HasTail (job : Job) (moment : Moment RingKeeper) (moves : ℕ) (tail : Answer) : Type 0 where
+-- The job asks about these parts of a state.
+abbrev pub AreAskedParts : Job → State → List Part → Type 0
+AreAskedParts job x parts = (what : Option What) × Asks job.options.what x what × (parts ≡ parts_asked x what)
+
+-- It is asked there about these parts, and this stands behind its answer.
+pub record HasTail (job : Job) (moment : Moment RingKeeper) (moves : ℕ) (parts : List Part) (tail : Answer) : Type 0 where
   pub arrived : HasArrived job moment moves
-  pub is : IsTail job.options.only_branches (question_by job.options arrived.at) arrived.at.point tail
+  pub asked : AreAskedParts job moment.state parts
+  pub is : IsTail job.options.only_branches (question_by job.options arrived.at) parts arrived.at.point tail

@@ -9,6 +9,7 @@ use Rattle.bpf_steps.specs.State.{State}
 use Rattle.bpf_origin.specs.Answers.{Answer}
 use Rattle.bpf_origin.specs.Asked.{answer_about, parts_asked, what_in}
 use Rattle.bpf_origin.specs.declared.fault.WhatFault.{WhatFault}
+use Rattle.bpf_origin.specs.declared.place.Part.{Part}
 use Rattle.bpf_origin.specs.declared.question.Extent.{Extent}
 use Rattle.bpf_origin.specs.declared.question.Extent.TheVariants.{Whole}
 use Rattle.bpf_origin.specs.declared.question.Question.{Question}
@@ -90,10 +91,11 @@ question_by options a = record {
 abbrev pub answer_by : Options → Option What → Arrival → Answer
 answer_by options what a = answer_about (question_by options a) (parts_asked a.point.state what) a.point.history a.point.state
 
--- What stands behind that: with `--branches` those that decided that the program came there, else nothing.
-abbrev pub IsTail : Bool → Question → Point → Answer → Type 0
-IsTail true q point tail = AreBranches q point.history point.state tail
-IsTail false q point tail = tail ≡ record { text = []; extent = Whole }
+-- What stands behind that: with `--branches` those that decided that the moves were made which the answer about these parts tells, and that the
+-- program came there; else nothing.
+abbrev pub IsTail : Bool → Question → List Part → Point → Answer → Type 0
+IsTail true q parts point tail = AreBranches q parts point.history point.state tail
+IsTail false q parts point tail = tail ≡ record { text = []; extent = Whole }
 
 -- Two answers, one behind the other, and how far both go.
 abbrev pub both_extents : Extent → Extent → Extent

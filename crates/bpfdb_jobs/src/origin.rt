@@ -1,14 +1,13 @@
 //! What a job of `origin` does.
-ghost use Rattle.std.specs.Prelude.{◌≡◌, ◌≤◌, ◌==◌, true, length, IfErr, IfOk, List, None, Option, Some};
+ghost use Rattle.std.specs.Prelude.{◌≡◌, ◌≤◌, ◌==◌, true, length, IfErr, IfOk, List, None, Some};
 ghost use Rattle.bpf_journal.specs.Histories.{Record, StandsFor};
 ghost use Rattle.bpf_journal.specs.Tracks.{RingHolds};
 ghost use Rattle.bpf_origin.specs.Asked as spec;
 ghost use Rattle.bpf_origin.specs.declared.question.Extent.TheVariants.{Whole};
-ghost use Rattle.bpf_origin.specs.declared.what.What.{What as Asked};
 ghost use Rattle.counted_io.specs.Writing.{Writes};
 ghost use Rattle.bpfdb_jobs.specs.Endings.{EndsPrinted};
-ghost use Rattle.bpfdb_jobs.specs.Openings.{HasArrived, HasTail};
-ghost use Rattle.bpfdb_jobs.specs.Origins.{Asks, RefusesWhat, both_extents, followed_by, found_text, status_of_extent};
+ghost use Rattle.bpfdb_jobs.specs.Openings.{AreAskedParts, HasArrived, HasTail};
+ghost use Rattle.bpfdb_jobs.specs.Origins.{RefusesWhat, both_extents, followed_by, found_text, status_of_extent};
 ghost use Rattle.bpfdb_jobs.specs.Refusals.{RefusesArrival};
 ghost use Rattle.bpfdb_limits.specs.Limits.{IsLimit};
 ghost use Rattle.bpfdb_options.specs.declared.subcommand.Subcommand.TheVariants.{Origin};
@@ -54,26 +53,54 @@ pub fn origin_job<W: Write, E: Write>(
     ensures status { result ≤ 2 }
 {
     match arrive(alloc, job) {
-        Ok(arrived) => {
-            if job.options.only_branches {
-                ask_branches(alloc, job, arrived, writer, errors)
-            } else {
-                ask(job, arrived, &[], Extent::Whole, writer, errors)
-            }
-        }
+        Ok(arrived) => ask(alloc, job, arrived, writer, errors),
         Err(refusal) => give_up(errors, &JobFault::Refused(refusal)),
     }
 }
 
-/// Finds the branches that decided that the program came to where it is asked, and asks.
-fn ask_branches<W: Write, E: Write>(
+/// Finds what is asked about, and asks.
+fn ask<W: Write, E: Write>(
     alloc: Global,
     job: &Job<'_>,
     arrived: Arrived,
     writer: &mut Counted<W>,
     errors: &mut Counted<E>,
 ) -> u8
+    requires { HasArrived job.now arrived.timeline arrived.moves }
+    ensures does { EndsPrinted Origin job.now (stream W.contents writer.old writer.new)
+        (stream E.contents errors.old errors.new) result }
+    ensures status { result ≤ 2 }
+{
+    let parts = match parts_of(job, arrived.timeline.cpu()) {
+        Ok(parts) => parts,
+        Err(fault) => return give_up(errors, &JobFault::Refused(JobRefusal::What(fault))),
+    };
+    if job.options.only_branches {
+        ask_branches(alloc, job, arrived, parts.as_slice(), writer, errors)
+    } else {
+        tell(
+            job,
+            arrived,
+            parts.as_slice(),
+            &[],
+            Extent::Whole,
+            writer,
+            errors,
+        )
+    }
+}
+
+/// Finds the branches that are asked for, and tells them behind the answer about these parts.
+fn ask_branches<W: Write, E: Write>(
+    alloc: Global,
+    job: &Job<'_>,
+    arrived: Arrived,
+    parts: &[Part],
+    writer: &mut Counted<W>,
+    errors: &mut Counted<E>,
+) -> u8
     requires arrived { HasArrived job.now arrived.timeline arrived.moves }
+    requires parts { AreAskedParts job.now arrived.timeline.state parts.now }
     requires branches { job.now.options.only_branches ≡ true }
     ensures does { EndsPrinted Origin job.now (stream W.contents writer.old writer.new)
         (stream E.contents errors.old errors.new) result }
@@ -83,9 +110,9 @@ fn ask_branches<W: Write, E: Write>(
     let Arrived {
         timeline,
         moves,
-        wanted,
+        mut wanted,
     } = arrived;
-    match find_branches(alloc, timeline, question) {
+    match find_branches(alloc, timeline, &mut wanted, parts, question) {
         Ok(found) => {
             let Found {
                 timeline,
@@ -97,7 +124,7 @@ fn ask_branches<W: Write, E: Write>(
                 moves,
                 wanted,
             };
-            ask(job, arrived, text.as_slice(), extent, writer, errors)
+            tell(job, arrived, parts, text.as_slice(), extent, writer, errors)
         }
         Err(_) => give_up(
             errors,
@@ -185,32 +212,29 @@ fn arrive_at_end(alloc: Global, job: &Job<'_>) -> Result<Arrived, JobRefusal<'st
     })
 }
 
-/// Writes where the machine stands, where the values came from that are asked about, and what else
-/// is asked.
-fn ask<W: Write, E: Write>(
+/// Writes where the machine stands, where the values of these parts came from, and what else is
+/// asked.
+fn tell<W: Write, E: Write>(
     job: &Job<'_>,
     arrived: Arrived,
+    parts: &[Part],
     tail: &[u8],
     tail_extent: Extent,
     writer: &mut Counted<W>,
     errors: &mut Counted<E>,
 ) -> u8
-    requires { HasTail job.now arrived.timeline arrived.moves
+    requires { HasTail job.now arrived.timeline arrived.moves parts.now
         (record { text = tail.now; extent = tail_extent }) }
     ensures does { EndsPrinted Origin job.now (stream W.contents writer.old writer.new)
         (stream E.contents errors.old errors.new) result }
     ensures status { result ≤ 2 }
 {
-    let parts = match parts_of(job, arrived.timeline.cpu()) {
-        Ok(parts) => parts,
-        Err(fault) => return give_up(errors, &JobFault::Refused(JobRefusal::What(fault))),
-    };
     let question = question_of(job, &arrived);
     let mut arrived = arrived;
     let told = put_found(
         &mut arrived.timeline,
         &mut arrived.wanted,
-        parts.as_slice(),
+        parts,
         question,
         tail,
         writer,
@@ -223,9 +247,7 @@ fn ask<W: Write, E: Write>(
 
 /// What is asked about of a machine.
 fn parts_of(job: &Job<'_>, cpu: &Cpu) -> Result<Parts, WhatFault>
-    ensures ok { IfOk result (λ parts. (what : Option Asked)
-        × Asks job.now.options.what cpu.now what
-        × (parts.items ≡ spec.parts_asked cpu.now what)) }
+    ensures ok { IfOk result (λ parts. AreAskedParts job.now cpu.now parts.items) }
     ensures err { IfErr result (RefusesWhat job.now.options.what cpu.now) }
 {
     match job.options.what {

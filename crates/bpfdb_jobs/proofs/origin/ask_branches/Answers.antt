@@ -6,13 +6,13 @@ use Rattle.bpfdb_jobs.proofs.Originating.{branches-behind}
 use Rattle.bpfdb_jobs.proofs.Refusing.{arrival-origin, no-places, session-arrival}
 use Rattle.bpfdb_jobs.proofs.origin.ask_branches.Goals as goal
 
-pub ask-requires : goal.ask-requires
-ask-requires g c =
+pub tell-requires : goal.tell-requires
+tell-requires g c =
     let job = c.args.job.now in
     let a = c.requires.arrived in
     let h = a.at.point.history in
     rw c.as_slice.ensures.value
-    (branches-behind job c.args.arrived.timeline c.args.arrived.moves a c.question_of-question.result c.in-Ok.found c.requires.branches
+    (branches-behind job c.args.arrived.timeline c.args.arrived.moves a c.question_of-question.result c.args.parts.now c.in-Ok.found c.requires.parts c.requires.branches
     (c.question_of-question.ensures h a.held) (c.in-Ok.ensures h a.held))
 
 pub returns-in-Err-clause-does : goal.returns-in-Err-clause-does

@@ -1,11 +1,7 @@
 use Rattle.std.proofs.Common.{refl}
 use Rattle.bpfdb_jobs.specs.Endings.{Refused}
-use Rattle.bpfdb_jobs.proofs.Originating.{nothing-behind}
 use Rattle.bpfdb_jobs.proofs.Refusing.{arrival-origin}
 use Rattle.bpfdb_jobs.proofs.origin.origin_job.Goals as goal
 
 pub returns-in-Err-clause-does : goal.returns-in-Err-clause-does
 returns-in-Err-clause-does g c = Refused c.in-Err.refusal (arrival-origin c.args.job.now c.in-Err.refusal c.in-Err.ensures.err) refl c.give_up.ensures.told c.give_up.ensures.value
-
-pub ask-requires : goal.ask-requires
-ask-requires g c = nothing-behind c.args.job.now c.in-Ok.arrived.timeline c.in-Ok.arrived.moves c.in-Ok.ensures.ok c.if-job.false
