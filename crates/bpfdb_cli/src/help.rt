@@ -125,9 +125,9 @@ that the value depends on, the newest first: how many moves back, what was
 written, the instruction, and what that read. At the end there is a line for
 each value that was there before the first kept move. What a branch decided by
 is not followed, and which register made an address only with --addresses. With
---branches there follow the branches that decided that the program came to where
-it stands. If an answer is cut (--lines), its last line says so, and the exit
-status is 1.";
+--branches there follow the branches that decided that these moves were made and
+that the program came to where it stands. If an answer is cut (--lines), its
+last line says so, and the exit status is 1.";
 
 pub const ORIGIN_EXAMPLE: &str = "Example:
   $ bpfdb origin --listing count.s
@@ -377,7 +377,7 @@ the first one on. Example: --count 20";
 pub const BRANCHES: &str = "Shows conditional jumps alone, and where each went";
 
 /// `--branches` of `origin`.
-pub const DECIDERS: &str = "Tells which branches led to where it stands";
+pub const DECIDERS: &str = "Tells which branches decided that it came so";
 
 /// `--profile`.
 pub const PROFILE: &str = "Tells how often each instruction ran, and no steps";
