@@ -1,5 +1,5 @@
-# The branches that decided that a program came to where it stands (`origin --branches`): each kind of answer, loops, calls and recursion, edits, what the
-# journal dropped, and answers that are cut. What is wanted was worked out by hand from the jumps, calls and returns of each listing. Then programs at
+# The branches that decided that a value came about and that a program came to where it stands (`origin --branches`): each kind of answer, values through
+# copies and calls, loops, recursion, edits, what the journal dropped, and answers that are cut. What is wanted was worked out by hand from the jumps, calls and returns of each listing. Then programs at
 # random, held against a model (tests/trials/branches.py).
 
 # Nested conditions, the both sides of one, and early exits.
@@ -15,14 +15,37 @@ tells 0 "exited at 7: r0 0x3\n-2 r0 = 0x3; 6: mov r0, 3\n-3 3: jgt r2, 5, L6; r2
 tells 0 "at 3: jgt r2, 5, L6\nleft r2 = 0x6$start-2 1: jeq r2, 0, L8; r2 = 0x6; went on\n-3 0: jeq r1, 0, L8; r1 = 0x100000000; went on\nno other branch$start" \
     origin --branches -m six --steps 3 --listing nest.s r2
 
-# Where two ways meet again nothing was decided; on one of them it was.
+# Where two ways meet again nothing was decided of the slot; a value that was made on one of them was.
 listing join.s 'jeq r2, 0, else;mov r0, 1;ja join;else: mov r0, 2;join: exit'
-tells 0 "exited at 4: r0 0x2\n-2 r0 = 0x2; 3: mov r0, 2\nno other branch$start" origin --branches --listing join.s
-tells 0 "exited at 4: r0 0x1\n-3 r0 = 0x1; 1: mov r0, 1\nno other branch$start" origin --branches -m six --listing join.s
+tells 0 "exited at 4: r0 0x2\n-2 r0 = 0x2; 3: mov r0, 2\n-3 0: jeq r2, 0, L3; r2 = 0x0; jumped to 3\nno other branch$start" origin --branches --listing join.s
+tells 0 "exited at 4: r0 0x1\n-3 r0 = 0x1; 1: mov r0, 1\n-4 0: jeq r2, 0, L3; r2 = 0x6; went on\nno other branch$start" origin --branches -m six --listing join.s
 tells 0 "at 2: ja L4\n-1 r0 = 0x1; 1: mov r0, 1\n-2 0: jeq r2, 0, L3; r2 = 0x6; went on\nno other branch$start" origin --branches -m six --steps 2 --listing join.s
 tells 0 "at 3: mov r0, 2\nleft r0 = 0x0$start-1 0: jeq r2, 0, L3; r2 = 0x0; jumped to 3\nno other branch$start" origin --branches --steps 1 --listing join.s
 listing same.s 'jeq r0, 0, on;on: exit'
 tells 0 "exited at 1: r0 0x0\nleft r0 = 0x0${start}no other branch$start" origin --branches --listing same.s
+
+# Values: through copies and arithmetic, one that a branch went on to change, two that two branches made, addresses that are followed, and a function that
+# finds it in a register of its caller. What no line tells is not asked about.
+listing copied.s 'jeq r2, 0, else;mov r3, 1;ja join;else: mov r3, 2;join: stxdw [r10-8], r3;ldxdw r0, [r10-8];lsh r0, 4;exit'
+tells 0 "exited at 7: r0 0x10\n-2 r0 = 0x10; 6: lsh r0, 4; from r0\n-3 r0 = 0x1; 5: ldxdw r0, [r10-8]; from 0x2000001f8:8\n-4 0x2000001f8:8 = 0x1; 4: stxdw [r10-8], r3; from r3\n-6 r3 = 0x1; 1: mov r3, 1\n-7 0: jeq r2, 0, L3; r2 = 0x6; went on\nno other branch$start" \
+    origin --branches -m six --listing copied.s
+listing added.s 'mov r0, 1;jeq r2, 0, on;add r0, 5;on: exit'
+tells 0 "exited at 3: r0 0x6\n-2 r0 = 0x6; 2: add r0, 5; from r0\n-4 r0 = 0x1; 0: mov r0, 1\n-3 1: jeq r2, 0, L3; r2 = 0x6; went on\nno other branch$start" \
+    origin --branches -m six --listing added.s
+tells 0 "exited at 3: r0 0x1\n-3 r0 = 0x1; 0: mov r0, 1\nno other branch$start" origin --branches --listing added.s
+listing two.s 'mov r3, 1;mov r4, 1;jeq r2, 0, a;mov r3, 2;a: jeq r1, 0, b;mov r4, 2;b: mov r0, r3;add r0, r4;exit'
+sum='exited at 8: r0 0x4\n-2 r0 = 0x4; 7: add r0, r4; from r0 r4\n'
+tells 0 "$sum-3 r0 = 0x2; 6: mov r0, r3; from r3\n-4 r4 = 0x2; 5: mov r4, 2\n-6 r3 = 0x2; 3: mov r3, 2\n-5 4: jeq r1, 0, L6; r1 = 0x100000000; went on\n-7 2: jeq r2, 0, L4; r2 = 0x6; went on\nno other branch$start" \
+    origin --branches -m six --listing two.s
+tells 1 "${sum}cut: there are more lines\nno other branch$start" origin --branches --lines 1 -m six --listing two.s
+listing where.s 'mov r4, r10;jeq r2, 0, on;add r4, -8;on: ldxb r0, [r4-8];exit'
+tells 0 "exited at 4: r0 0x0\n-2 r0 = 0x0; 3: ldxb r0, [r4-8]; from 0x2000001f0:1\nleft 0x2000001f0 = 0x0${start}no other branch$start" \
+    origin --branches -m six --listing where.s
+tells 0 "exited at 4: r0 0x0\n-2 r0 = 0x0; 3: ldxb r0, [r4-8]; from 0x2000001f0:1 r4\n-3 r4 = 0x2000001f8; 2: add r4, -8; from r4\n-5 r4 = 0x200000200; 0: mov r4, r10\nleft 0x2000001f0 = 0x0$start-4 1: jeq r2, 0, L3; r2 = 0x6; went on\nno other branch$start" \
+    origin --branches --addresses -m six --listing where.s
+listing handed.s 'mov r6, 1;jeq r2, 0, on;mov r6, 2;on: callf f;exit;f: mov r0, r6;exit'
+tells 0 "exited at 4: r0 0x2\n-3 r0 = 0x2; 5: mov r0, r6; from r6 at depth 1\n-5 r6 = 0x2; 2: mov r6, 2\n-6 1: jeq r2, 0, L3; r2 = 0x6; went on\nno other branch$start" \
+    origin --branches -m six --listing handed.s
 
 # Loops: behind one nothing was decided, in one each turn was, by the turn before.
 listing until.s 'loop: add r0, 1;jlt r0, 3, loop;exit'
@@ -43,7 +66,7 @@ tells 0 "exited at 2: r0 0x0\nleft r0 = 0x0$start-2 0: jeq r1, 0, L2; r1 = 0x0; 
 
 # Calls: what a function decides doesn't count for its caller; in it the branches of its caller follow. Recursion.
 listing calls.s 'jeq r1, 0, skip;exit;skip: callf f;exit;f: jeq r0, 0, in;exit;in: mov r0, 7;exit'
-tells 0 "exited at 3: r0 0x7\n-3 r0 = 0x7; 6: mov r0, 7\n-6 0: jeq r1, 0, L2; r1 = 0x0; jumped to 2\nno other branch$start" origin --branches --listing calls.s
+tells 0 "exited at 3: r0 0x7\n-3 r0 = 0x7; 6: mov r0, 7\n-4 4: jeq r0, 0, L6; r0 = 0x0; jumped to 6\n-6 0: jeq r1, 0, L2; r1 = 0x0; jumped to 2\nno other branch$start" origin --branches --listing calls.s
 tells 0 "at 7: exit\n-1 r0 = 0x7; 6: mov r0, 7\n-2 4: jeq r0, 0, L6; r0 = 0x0; jumped to 6\n-4 0: jeq r1, 0, L2; r1 = 0x0; jumped to 2\nno other branch$start" \
     origin --branches --steps 4 --listing calls.s
 tells 0 "at 4: jeq r0, 0, L6\nleft r0 = 0x0$start-2 0: jeq r1, 0, L2; r1 = 0x0; jumped to 2\nno other branch$start" origin --branches --steps 2 --listing calls.s

@@ -1,15 +1,16 @@
-"""The branches that decided that a program came to where it stands: small programs at random, each run or script, against a model.
+"""The branches that decided that the value of r0 came about, and that a program came to where it stands: small programs at random, each run or
+script, against a model.
 
 branches.py BPFDB COUNT [SEED]: so many programs of two to six slots. Tells where an answer is another than the model's; the last line counts. The
-model goes forwards: it lists each way of a function that comes to no slot twice, from both ways out of a branch, and sees which of them come to the
-slot; and it goes over the moves from the first one on, with the moves of each function that stands. It asks bpfdb for nothing but what it compares."""
+model lists each way of a function that comes to no slot twice, from both ways out of a branch, and sees which of them come to the slot. It gathers
+what is to be explained, as a set: where the program stands, each move of the value, and of each of these the latest branch of its call that decided
+it, or else what explains the call. It asks bpfdb for nothing but what it compares."""
 import os
-import random
 import sys
 import tempfile
 
 sys.dont_write_bytecode = True
-from whynot import CONDITIONS, Machine, run, some_program, some_script
+from whynot import CONDITIONS, run, some_machine, trials
 
 
 def ways_on(program, slot):
@@ -46,32 +47,48 @@ def decides(program, slot, goal):
     return kind in CONDITIONS and len({is_sure(program, on, goal) for on in ways_on(program, slot)}) == 2
 
 
-def chain(machine):
+def calls(states):
+    """To which call of a function each state belongs: calls are numbered by the state in which they begin."""
+    standing, found = [], []
+    for number, (_, returns, _, _) in enumerate(states):
+        while len(standing) <= len(returns):
+            standing.append(number)
+        del standing[len(returns) + 1:]
+        found.append(standing[-1])
+    return found
+
+
+def values(machine):
+    """The moves that r0 came about by: the latest one that wrote it, and as long as that adds to it the one before."""
+    number = len(machine.moves)
+    while number > 0:
+        number -= 1
+        (slot, _, _, _), is_step, what = machine.moves[number]
+        kind = machine.program.insns[slot][0] if is_step else what
+        if kind in ('add', 'mov', 'wide', 'reg'):
+            yield number
+            if kind != 'add':
+                return
+
+
+def branches(machine):
     """The moves that decided, by their numbers from 0, the newest first."""
     program, moves = machine.program, machine.moves
     states = [before for before, _, _ in moves] + [machine.state]
-    standing = [[]]
-    for number, (slot, returns, _, _) in enumerate(states):
-        # (a function that was called has no moves yet, and one that returned has none any more)
-        while len(standing) <= len(returns):
-            standing.append([])
-        del standing[len(returns) + 1:]
-        standing[-1].append(number)
-    standing[-1].pop()
-    goal, found = machine.state[0], []
-    while standing:
-        own = standing[-1]
-        while own:
-            number = own.pop()
-            slot = states[number][0]
-            if decides(program, slot, goal) if moves[number][1] else states[number + 1][0] != slot:
-                found.append(number)
-                goal = slot
-        standing.pop()
-        if standing and standing[-1]:
-            # (the call)
-            goal = states[standing[-1].pop()][0]
-    return found
+    call = calls(states)
+    to_explain, explained, found = {len(moves), *values(machine)}, set(), set()
+    while to_explain:
+        number = to_explain.pop()
+        explained.add(number)
+        goal = states[number][0]
+        deciding = [m for m in range(call[number], number) if call[m] == call[number]
+                    and (decides(program, states[m][0], goal) if moves[m][1] else states[m + 1][0] != states[m][0])]
+        if deciding:
+            found.add(deciding[-1])
+        reason = deciding[-1] if deciding else call[number] - 1
+        if reason >= 0 and reason not in explained:
+            to_explain.add(reason)
+    return sorted(found, reverse=True)
 
 
 def text(machine, number):
@@ -86,26 +103,12 @@ def text(machine, number):
 
 def main():
     bpfdb, count = sys.argv[1], int(sys.argv[2])
-    first = int(sys.argv[3]) if len(sys.argv) > 3 else 1
     failed = told = 0
     with tempfile.TemporaryDirectory() as folder:
         words, path = os.path.join(folder, 'words'), os.path.join(folder, 'script')
-        for seed in range(first, first + count):
-            chance = random.Random(seed)
-            program = some_program(chance)
-            open(words, 'wb').write(program.words())
-            machine = Machine(program)
-            if chance.random() < 0.6:
-                limit = chance.choice([1, 3, 8, 40])
-                for k in range(limit):
-                    if machine.state[3] is None:
-                        machine.step(k == 0)
-                how = ['--steps', str(limit)]
-            else:
-                script = some_script(chance, machine)
-                open(path, 'w').write(''.join(line + '\n' for line in script))
-                how = ['--script', path]
-            found = chain(machine)
+        for seed, chance in trials(sys.argv):
+            machine, how, _ = some_machine(chance, words, path, 0.6)
+            found = branches(machine)
             told += len(found)
             wanted = run(bpfdb, 'origin', *how, words, 'r0') + ''.join(text(machine, number) for number in found) + 'no other branch; at the opening\n'
             answer = run(bpfdb, 'origin', '--branches', *how, words, 'r0')

@@ -105,7 +105,8 @@ def can_come(program, goals, slot, returns):
 
 
 class Machine:
-    """A state: slot, slots of return, r0, how it ended; and the moves that led to it: the state before, a step or an edit, the first of a command."""
+    """A state: slot, slots of return, r0, how it ended; and the moves that led to it: the state before, a step or an edit, the first of a command (of
+    an edit what it set)."""
 
     def __init__(self, program):
         self.program, self.state, self.moves = program, (0, (), 0, None), []
@@ -130,10 +131,10 @@ class Machine:
         self.moves.append((before, True, mark))
         self.state = after
 
-    def edit(self, slot, r0):
+    def set(self, what, value):
         before = self.state
-        self.moves.append((before, False, True))
-        self.state = (slot, before[1], r0, None)
+        self.moves.append((before, False, what))
+        self.state = (value if what == 'pc' else before[0], before[1], value if what == 'reg' else before[2], None)
 
     def back(self):
         before, _, mark = self.moves.pop()
@@ -194,11 +195,11 @@ def some_script(random, machine):
         elif command == 'set pc':
             slot = random.choice([s for s in range(len(machine.program.insns)) if machine.program.is_start(s)])
             script.append(f'set pc {slot}')
-            machine.edit(slot, machine.state[2])
+            machine.set('pc', slot)
         elif command == 'set reg':
             r0 = random.randint(0, 3)
             script.append(f'set reg r0 {r0}')
-            machine.edit(machine.state[0], r0)
+            machine.set('reg', r0)
         elif command == 'reverse-stepi':
             count = random.randint(1, 4)
             script.append(f'reverse-stepi {count}')
@@ -214,6 +215,31 @@ def some_script(random, machine):
     return script
 
 
+def some_machine(random, words, path, runs):
+    """A machine at the end of a run or a script, with the program and the script in files; how bpfdb comes there, and the limit of a run."""
+    program = some_program(random)
+    with open(words, 'wb') as file:
+        file.write(program.words())
+    machine = Machine(program)
+    if random.random() < runs:
+        limit = random.choice([1, 3, 8, 40])
+        for k in range(limit):
+            if machine.state[3] is None:
+                machine.step(k == 0)
+        return machine, ['--steps', str(limit)], True
+    script = some_script(random, machine)
+    with open(path, 'w') as file:
+        file.write(''.join(line + '\n' for line in script))
+    return machine, ['--script', path], False
+
+
+def trials(words):
+    """For the words of a call each seed, with its own chance."""
+    count = int(words[2])
+    first = int(words[3]) if len(words) > 3 else 1
+    return ((seed, random.Random(seed)) for seed in range(first, first + count))
+
+
 def run(bpfdb, *words):
     done = subprocess.run([bpfdb, *words], stdin=subprocess.DEVNULL, capture_output=True, text=True)
     return done.stdout if done.returncode == 0 else f'status {done.returncode}: {done.stdout}{done.stderr}'
@@ -221,26 +247,13 @@ def run(bpfdb, *words):
 
 def main():
     bpfdb, count = sys.argv[1], int(sys.argv[2])
-    first = int(sys.argv[3]) if len(sys.argv) > 3 else 1
     asked = failed = 0
     kinds = {}
     with tempfile.TemporaryDirectory() as folder:
         words, path = os.path.join(folder, 'words'), os.path.join(folder, 'script')
-        for seed in range(first, first + count):
-            chance = random.Random(seed)
-            program = some_program(chance)
-            open(words, 'wb').write(program.words())
-            machine = Machine(program)
-            if chance.random() < 0.5:
-                limit = chance.choice([1, 3, 8, 40])
-                for k in range(limit):
-                    if machine.state[3] is None:
-                        machine.step(k == 0)
-                how, until = ['--steps', str(limit)], lambda back: ['--steps', str(len(machine.moves) - back)]
-            else:
-                script = some_script(chance, machine)
-                open(path, 'w').write(''.join(line + '\n' for line in script))
-                how, until = ['--script', path], None
+        for seed, chance in trials(sys.argv):
+            machine, how, is_run = some_machine(chance, words, path, 0.5)
+            program = machine.program
             starts = [s for s in range(len(program.insns)) if program.is_start(s)]
             for goals in [[s] for s in starts] + [sorted(chance.sample(starts, min(2, len(starts))))]:
                 what = ','.join(map(str, goals))
@@ -251,8 +264,8 @@ def main():
                 found = run(bpfdb, 'whynot', '--alone', *how, words, what)
                 if found == wanted:
                     found = run(bpfdb, 'whynot', *how, words, what)
-                    if back and until and len(machine.moves) > back:
-                        wanted += run(bpfdb, 'origin', *until(back), words, 'r0')
+                    if back and is_run and len(machine.moves) > back:
+                        wanted += run(bpfdb, 'origin', '--steps', str(len(machine.moves) - back), words, 'r0')
                     elif back:
                         found = found[:len(wanted)]
                 if found != wanted:
