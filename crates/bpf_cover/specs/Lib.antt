@@ -2,3 +2,4 @@ pub mod Coverage
 pub mod Marking
 pub mod Runs
 pub mod Texts
+pub mod Tracefiles

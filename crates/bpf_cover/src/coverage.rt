@@ -1,14 +1,17 @@
 //! What ran of a program: of each slot whether some step went on from it, and whether some jumped.
-ghost use Rattle.std.specs.Prelude.{◌≡◌, ◌&&◌, ◌||◌, ◌++◌, ◌==◌, ◌+◌, IfOk, List, [], count_by, length};
+ghost use Rattle.std.specs.Prelude.{◌≡◌, ◌&&◌, ◌||◌, ◌++◌, ◌==◌, ◌+◌, IfOk, List, [], count_by, length, ◌≤◌};
 ghost use Rattle.std.specs.Option.{option_map};
 ghost use Rattle.bpf_isa.specs.Programs.{Checked};
 ghost use Rattle.bpf_steps.specs.State.{State};
 ghost use Rattle.bpf_cover.specs.Coverage.{counts_line, covered, has_run, is_far, is_fork as is_fork_of, mark_at, marks_of, miss_line, missed, table_text, way_missed, went_both_ways};
 ghost use Rattle.bpf_cover.specs.Runs.{steps_of};
 ghost use Rattle.bpf_cover.specs.Marking.{IsMarked, stepped};
+ghost use Rattle.bpf_cover.specs.Tracefiles.{record_text};
+ghost use Rattle.counted_io.specs.Lines.{lines};
 ghost use Rattle.counted_io.specs.Writing.{WritesAfter};
 
 use crate::texts::Texts;
+use crate::tracefile::put_record;
 use bpf_isa::{Insn, Program};
 use bpf_machine::{Cpu, Ended};
 use counted_io::{Counted, Piece, WriteFault, put_all};
@@ -83,6 +86,23 @@ impl Coverage {
             told = put_miss(writer, told, self.texts.at(slot), marks[slot]);
         }
         told
+    }
+
+    /// Writes the record of a program in a tracefile of lcov, where the program's listing stands in a
+    /// file, behind so many lines of it. The table of its lines has a row an instruction, which begins
+    /// with the slot and the line.
+    pub fn put_record<W: Write>(
+        &self,
+        writer: &mut Counted<W>,
+        so_far: Result<(), WriteFault>,
+        file: &[u8],
+        head: usize,
+        table: &[u8],
+    ) -> Result<(), WriteFault>
+        ensures { WritesAfter W.contents writer.old so_far writer.new result
+            (record_text file.now head (lines table.now) self.now.marks) }
+    {
+        put_record(writer, so_far, file, head, table, self.marks.as_slice())
     }
 }
 
@@ -200,14 +220,14 @@ fn put_counts<W: Write>(
 }
 
 /// How many instructions ran.
-fn count_run(marks: &[Mark]) -> usize
+pub fn count_run(marks: &[Mark]) -> usize
     ensures { result ≡ count_by has_run marks.now }
 {
     marks.iter().filter(|mark| has_run(**mark)).count()
 }
 
 /// How many instructions there are.
-fn count_starts(marks: &[Mark]) -> usize
+pub fn count_starts(marks: &[Mark]) -> usize
     ensures { result ≡ count_by (λ mark. mark.starts) marks.now }
 {
     marks.iter().filter(|mark| mark.starts).count()
@@ -221,14 +241,15 @@ fn count_both(marks: &[Mark]) -> usize
 }
 
 /// How many conditional jumps of two ways there are.
-fn count_forks(marks: &[Mark]) -> usize
-    ensures { result ≡ count_by (λ mark. mark.forks) marks.now }
+pub fn count_forks(marks: &[Mark]) -> usize
+    ensures count { result ≡ count_by (λ mark. mark.forks) marks.now }
+    ensures within { result ≤ length marks.now }
 {
     marks.iter().filter(|mark| mark.forks).count()
 }
 
 /// Whether some step was taken from a slot.
-fn has_run(mark: Mark) -> bool
+pub fn has_run(mark: Mark) -> bool
     ensures { result ≡ has_run mark }
 {
     mark.went_on || mark.jumped

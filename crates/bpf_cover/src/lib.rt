@@ -3,5 +3,6 @@
 
 mod coverage;
 mod texts;
+mod tracefile;
 
 pub use coverage::Coverage;
