@@ -61,6 +61,8 @@ pub struct Options<'a> {
     pub other_is_context: bool,
     /// The other file is a trace of another machine, and no run of this one.
     pub other_is_trace: bool,
+    /// What two runs leave for one who looks from outside is compared, and not their steps.
+    pub compares_writes: bool,
     /// The name of the tests that are run; without it all are.
     pub only: Option<&'a str>,
     /// The part that is shown of the one test that is asked for; without it tests are run.
@@ -97,6 +99,7 @@ pub const NO_OPTIONS: Options<'static> = Options {
     alone: false,
     other_is_context: false,
     other_is_trace: false,
+    compares_writes: false,
     only: None,
     show: None,
     covers: false,
