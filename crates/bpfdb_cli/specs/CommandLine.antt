@@ -148,6 +148,10 @@ other_mem_rule = record (new_rule (codes "other-mem")) { long = Some (codes "oth
 abbrev pub other_trace_rule : Rule
 other_trace_rule = record (new_rule (codes "trace")) { long = Some (codes "trace"); value_names = 1 }
 
+-- `--writes`: what two runs leave is compared, and not their steps.
+abbrev pub writes_rule : Rule
+writes_rule = record (new_rule (codes "writes")) { long = Some (codes "writes"); action = Some SetTrue }
+
 -- OTHER, behind FILE: the second program.
 abbrev pub other_rule : Rule
 other_rule = record (new_rule (codes "other")) { index = Some 2; value_names = 1 }
@@ -233,8 +237,8 @@ whynot_app = with_rule (with_rule (with_rule (with_rule (with_rule (with_file_ki
 
 -- `diff` runs two programs, or one on two contexts or along a trace, as `run` does.
 abbrev pub diff_app : App
-diff_app = with_rule (with_rule (with_file_kinds (with_rule (with_rule (with_rule (with_rule (with_rule (new_app (codes "diff"))
-    mem_rule) other_mem_rule) other_trace_rule) maps_rule) steps_rule)) other_rule) file_rule
+diff_app = with_rule (with_rule (with_file_kinds (with_rule (with_rule (with_rule (with_rule (with_rule (with_rule (new_app (codes "diff"))
+    mem_rule) other_mem_rule) other_trace_rule) maps_rule) steps_rule) writes_rule)) other_rule) file_rule
 
 -- `batch` runs cases as `run` does.
 abbrev pub batch_app : App

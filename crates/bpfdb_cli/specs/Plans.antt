@@ -77,6 +77,7 @@ pub record Chooses (rows : List Row) (options : Options) : Type 0 where
   pub alone : options.alone ≡ is_given (first_of (codes "alone") rows)
   pub context : options.other_is_context ≡ is_some (first_of (codes "other-mem") rows)
   pub trace : options.other_is_trace ≡ is_some (first_of (codes "trace") rows)
+  pub writes : options.compares_writes ≡ is_given (first_of (codes "writes") rows)
   pub only : option_map (λ s. s.now) options.only ≡ first_of (codes "only") rows
   pub show : NamesPart (first_of (codes "show") rows) options.show
   pub covers : options.covers ≡ is_given (first_of (codes "cover") rows)
@@ -156,6 +157,10 @@ names_other rows = if is_some (first_of (codes "other") rows)
     && (not (is_some (first_of (codes "trace") rows)) && not (is_given (first_of (codes "object") rows)))
     else names_side rows
 
+-- What two runs leave is compared only where the other side is a run.
+abbrev pub writes_fit : List Row → Bool
+writes_fit rows = not (is_given (first_of (codes "writes") rows) && is_some (first_of (codes "trace") rows))
+
 -- Options go together: an object is no listing and has maps of its own, of a link is asked only where an object is linked, `diff` is told
 -- of one other side, steps that are counted are those of a run that isn't strict, programs in turn have numbers, and so have maps.
 abbrev pub link_fits : Text → List Row → Bool
@@ -164,7 +169,7 @@ link_fits name rows = if is_given (first_of (codes "object") rows)
     else bytes_eq name (codes "link") || not (asks_of_link rows)
 
 abbrev pub run_fits : Text → List Row → Bool
-run_fits name rows = if bytes_eq name (codes "diff") then names_other rows && link_fits name rows else link_fits name rows
+run_fits name rows = if bytes_eq name (codes "diff") then names_other rows && (writes_fit rows && link_fits name rows) else link_fits name rows
 
 abbrev pub counts_strictly : List Row → Bool
 counts_strictly rows = is_given (first_of (codes "strict") rows) && is_given (first_of (codes "profile") rows)

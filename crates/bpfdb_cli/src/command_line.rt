@@ -119,6 +119,7 @@ fn argument_of<'a>(alloc: Global, option: CliOption) -> Arg<'a>
                 help::OTHER_TRACE_LONG,
             )
         }
+        CliOption::Writes => flag(alloc, "writes", help::WRITES),
         CliOption::Other => Arg::new(alloc, "other")
             .index(2)
             .value_name("OTHER")

@@ -184,7 +184,12 @@ limit of steps.
 With --trace the other side is a trace of another machine, and FILE's run goes
 along it: the first step that it tells otherwise is written, both lines of it,
 and of registers both values, and which step wrote the one here. The exit status
-is 0 where it tells the whole run, and nothing else.";
+is 0 where it tells the whole run, and nothing else.
+
+With --writes both runs are compared by what each leaves in the context, in the
+maps, in the traced words and in r0, as two builds of one source are: the first
+place at which they end otherwise is written, and the step of each that wrote it
+last.";
 
 pub const DIFF_EXAMPLE: &str = "Example:
   $ bpfdb diff --listing -m four.bin --other-mem five.bin port.s
@@ -490,6 +495,9 @@ pub const OTHER_TRACE_LONG: &str = "Trace of another machine, in place of a seco
 `trace` writes them; or of each step the slot and r0 to r10 before
 it, in decimal or as 0x.., with '-' for what isn't told. Lines that
 begin with '#' are skipped. It goes with neither OTHER nor --other-mem";
+
+/// `--writes`.
+pub const WRITES: &str = "Compares what both runs leave, and not their steps";
 
 /// OTHER.
 pub const OTHER: &str = "Second program: words, or a listing with --listing";

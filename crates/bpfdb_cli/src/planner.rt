@@ -7,7 +7,7 @@ ghost use Rattle.clap.specs.Words.{Row, Text, first_of, found_of, rows_of, subco
 ghost use Rattle.bpfdb_limits.specs.Limits.{IsLimit};
 ghost use Rattle.bpfdb_options.specs.Lines.{most_further};
 ghost use Rattle.bpfdb_cli.specs.Scaffolding.{AskAlike};
-ghost use Rattle.bpfdb_cli.specs.Plans.{AreInRange, Chooses, HasKindIfTold, IsFaultOf, IsPlan, IsPlanOf, NamesPart, NamesRegisters, Says, Tells, asks_of_link, counts_strictly, go_together, is_given, link_fits, names_other, number_or, other_in, run_fits, given_or, NamesPacket, counts_in, entries_fit, further_in, has_offset, most_counts, names_side};
+ghost use Rattle.bpfdb_cli.specs.Plans.{AreInRange, Chooses, HasKindIfTold, IsFaultOf, IsPlan, IsPlanOf, NamesPart, NamesRegisters, Says, Tells, asks_of_link, counts_strictly, go_together, is_given, link_fits, names_other, number_or, other_in, run_fits, given_or, NamesPacket, counts_in, entries_fit, further_in, has_offset, most_counts, names_side, writes_fit};
 
 use crate::command_line::command_line;
 use crate::plans::{MOST_COUNTS, Plan, PlanFault};
@@ -38,6 +38,8 @@ const OTHER_AND_TRACE: &str = "the argument '[OTHER]' cannot be used with '--tra
 
 const CONTEXT_AND_TRACE: &str =
     "the argument '--other-mem <PATH>' cannot be used with '--trace <PATH>'";
+
+const WRITES_AND_TRACE: &str = "the argument '--writes' cannot be used with '--trace <PATH>'";
 
 const NO_OTHER: &str =
     "a second program, '[OTHER]', or '--other-mem <PATH>' or '--trace <PATH>' is needed";
@@ -216,8 +218,23 @@ fn misfit_of_run(name: &str, found: &ArgMatches<'_>) -> Option<&'static str>
     if name == "diff" {
         match misfit_of_other(found) {
             Some(why) => Some(why),
-            None => misfit_of_link(name, found),
+            None => misfit_of_writes(name, found),
         }
+    } else {
+        misfit_of_link(name, found)
+    }
+}
+
+/// Why the other side is none that leaves something to compare, or what is asked of a link doesn't go
+/// together with the rest, if it doesn't.
+fn misfit_of_writes(name: &str, found: &ArgMatches<'_>) -> Option<&'static str>
+    ensures none { IfNone result ((writes_fit (rows_of (found_of found.now))
+        && link_fits name.now (rows_of (found_of found.now))) ≡ true) }
+    ensures some { OnSome result ((writes_fit (rows_of (found_of found.now))
+        && link_fits name.now (rows_of (found_of found.now))) ≡ false) }
+{
+    if is_given(text_of(found, "writes")) && text_of(found, "trace").is_some() {
+        Some(WRITES_AND_TRACE)
     } else {
         misfit_of_link(name, found)
     }
@@ -381,6 +398,7 @@ fn options_in<'a>(found: &ArgMatches<'a>) -> Option<Options<'a>>
         alone: is_given(text_of(found, "alone")),
         other_is_context: text_of(found, "other-mem").is_some(),
         other_is_trace: text_of(found, "trace").is_some(),
+        compares_writes: is_given(text_of(found, "writes")),
         only: text_of(found, "only"),
         show,
         covers: is_given(text_of(found, "cover")),

@@ -64,6 +64,8 @@ pub(crate) enum CliOption {
     OtherMem,
     /// `--trace PATH`.
     OtherTrace,
+    /// `--writes`.
+    Writes,
     /// OTHER, behind FILE.
     Other,
     /// `--cover`.
@@ -221,6 +223,7 @@ pub(crate) const SUBCOMMANDS: [CliSubcommand<'static>; 14] = [
             CliOption::OtherTrace,
             CliOption::Maps,
             CliOption::Steps,
+            CliOption::Writes,
             CliOption::Listing,
             CliOption::Object,
             CliOption::Section,
