@@ -1,8 +1,6 @@
 -- How a job of `diff` ends.
-use Rattle.std.proofs.Common.{ℕ, ◌≡◌, Bool, true, false, List, Some, None, Result, Ok, Err, ap, ap₂, subst, sym, ◌∙◌}
-use Rattle.std.specs.Prelude.{OnErr, OnOk}
-use Rattle.bpf_against.specs.Against.{against_text, tells_run}
-use Rattle.bpf_diff.specs.Differences.{diff_text, end_alike}
+use Rattle.std.proofs.Common.{ℕ, ◌≡◌, Bool, true, false, List, Some, None, Result, Ok, Err, ap, ap₂, refl, subst, sym, ◌∙◌}
+use Rattle.std.specs.Prelude.{◌||◌, OnErr, OnOk}
 use Rattle.bpf_isa.specs.Programs.{Checked}
 use Rattle.bpf_steps.specs.State.{State, initial}
 use Rattle.counted_io.specs.Writing.{Writes}
@@ -11,7 +9,8 @@ use Rattle.bpfdb_faults.specs.Streams.{Stream, Told}
 use Rattle.bpfdb_faults.specs.declared.refusal.JobRefusal.{JobRefusal}
 use Rattle.bpfdb_faults.specs.declared.refusal.JobRefusal.TheVariants.{Maps, Listing, Load, Open, OtherRun, TraceLine, Journal, What, Goal, NoPlace, Object, Functions, Tests, NoTest, ManyTests, Script}
 use Rattle.bpfdb_jobs.specs.Endings.{EndsPrinted, OutLost, Printed}
-use Rattle.bpfdb_jobs.specs.Jobs.{AgainstPrints, DiffPrints, IsOtherRun, Opens, Print, Prints, RunsPrint, against_print, diff_print, diff_status, other_bytes}
+use Rattle.bpfdb_jobs.specs.Jobs.{AgainstPrints, DiffPrints, IsOtherRun, Opens, Print, Prints, RunsPrint, against_print, diff_print, diff_status, other_bytes, runs_print, writes_print}
+use Rattle.bpfdb_jobs.specs.Openings.{OpensAs}
 use Rattle.bpfdb_jobs.specs.Refusals.{RefusesAgainst, RefusesDiff, RefusesEither, RefusesMachine, RefusesRuns}
 use Rattle.bpfdb_jobs.specs.declared.job.Job.{Job}
 use Rattle.bpfdb_options.specs.declared.subcommand.Subcommand.TheVariants.{Diff}
@@ -52,22 +51,36 @@ pub against-refuses : (job : Job) (refusal : JobRefusal) → job.options.other_i
 against-refuses job refusal e is = subst (λ (b : Bool). RefusesEither b job refusal) (sym e) is
 
 -- what is printed, of the machines that were opened
-diff-prints : (job : Job) (x y : State) → job.options.other_is_trace ≡ false → (code : Checked) × Opens job code × (x ≡ initial code job.context.now)
-    → (other : Job) × IsOtherRun job other × (code : Checked) × Opens other code × (y ≡ initial code other.context.now)
-    → Prints Diff job (diff_print job.options.limit x y)
-diff-prints job x y e o t =
-    runs-diff job (diff_print job.options.limit x y) e (o.0, t.0, t.2, o.1, t.1, t.3, ap₂ (diff_print job.options.limit) o.2 t.4)
+module _ (job other : Job) (x y : State) (runs : job.options.other_is_trace ≡ false) (o : OpensAs job x) (is : IsOtherRun job other) (t : OpensAs other y) where
+  prints : Prints Diff job (runs_print job.options.compares_writes job.options.limit job.context.now other.context.now x y)
+  prints =
+      runs-diff job (runs_print job.options.compares_writes job.options.limit job.context.now other.context.now x y) runs
+      (o.0, other, t.0, o.1, is, t.1, ap₂ (runs_print job.options.compares_writes job.options.limit job.context.now other.context.now) o.2 t.2)
 
-pub diff-ends : {W E A F : Type 0} {writer : Stream W} {errors : Stream E} (job : Job) (x y : State) (same : Bool) (r : Result A F) (status : ℕ)
-    → job.options.other_is_trace ≡ false → (code : Checked) × Opens job code × (x ≡ initial code job.context.now)
-    → (other : Job) × IsOtherRun job other × (code : Checked) × Opens other code × (y ≡ initial code other.context.now)
-    → same ≡ end_alike job.options.limit x y → Writes writer.bytes writer.old writer.new r (diff_text job.options.limit x y)
-    → OnOk r ((errors.new ≡ errors.old) × (status ≡ diff_status same)) → OnErr r (Told errors output_line × (status ≡ 2))
-    → EndsPrinted Diff job writer errors status
-diff-ends job x y same (Ok v) status runs o t e w ok err =
-    Printed (diff_print job.options.limit x y) (diff-prints job x y runs o t) (w.ok, w.same) ok.0 (ok.1 ∙ ap diff_status e)
-diff-ends job x y same (Err fault) status runs o t e w ok err =
-    OutLost (diff_print job.options.limit x y) (diff-prints job x y runs o t) (w.err, w.fault) err.0 err.1
+  pub diff-prints : job.options.compares_writes ≡ false → Prints Diff job (diff_print job.options.limit x y)
+  diff-prints e = subst (λ (b : Bool). Prints Diff job (runs_print b job.options.limit job.context.now other.context.now x y)) e prints
+
+  pub writes-print : job.options.compares_writes ≡ true
+      → Prints Diff job (writes_print job.options.limit job.context.now other.context.now x y)
+  writes-print e = subst (λ (b : Bool). Prints Diff job (runs_print b job.options.limit job.context.now other.context.now x y)) e prints
+
+-- what is asked of a comparison of what two runs leave
+pub asked-either : (p q : Bool) → q ≡ true → (p || q) ≡ true
+asked-either true q e = refl
+asked-either false q e = e
+
+pub opened-initial : (job : Job) (x : State) → OpensAs job x → x ≡ initial x.program job.context.now
+opened-initial job x o = o.2 ∙ ap (λ (z : State). initial z.program job.context.now) (sym o.2)
+
+-- two runs that were compared, and told or not
+pub told-ends : {W E A F : Type 0} {writer : Stream W} {errors : Stream E} (job : Job) (text : List ℕ) (verdict same : Bool) (r : Result A F)
+    (status : ℕ) → Prints Diff job (record { out = Some text; err = None; status = diff_status verdict }) → same ≡ verdict
+    → Writes writer.bytes writer.old writer.new r text → OnOk r ((errors.new ≡ errors.old) × (status ≡ diff_status same))
+    → OnErr r (Told errors output_line × (status ≡ 2)) → EndsPrinted Diff job writer errors status
+told-ends job text verdict same (Ok v) status prints e w ok err =
+    Printed (record { out = Some text; err = None; status = diff_status verdict }) prints (w.ok, w.same) ok.0 (ok.1 ∙ ap diff_status e)
+told-ends job text verdict same (Err fault) status prints e w ok err =
+    OutLost (record { out = Some text; err = None; status = diff_status verdict }) prints (w.err, w.fault) err.0 err.1
 
 -- a refusal of FILE's machine is one where the other side is a trace
 pub machine-against : (job : Job) (refusal : JobRefusal) → RefusesMachine job refusal → RefusesAgainst job refusal
@@ -102,14 +115,3 @@ against-prints job x form file e o same is =
       clear = ap bad_line (sym same) ∙ is.1;
       prints = ap₂ (against_print form job.options.limit) o.2 (ap told same);
     })
-
-pub against-ends : {W E A F : Type 0} {writer : Stream W} {errors : Stream E} (job : Job) (x : State) (form : Form) (file : List ℕ) (tells : Bool)
-    (r : Result A F) (status : ℕ) → Prints Diff job (against_print form job.options.limit x (told file))
-    → tells ≡ tells_run form job.options.limit x (told file)
-    → Writes writer.bytes writer.old writer.new r (against_text form job.options.limit x (told file))
-    → OnOk r ((errors.new ≡ errors.old) × (status ≡ diff_status tells)) → OnErr r (Told errors output_line × (status ≡ 2))
-    → EndsPrinted Diff job writer errors status
-against-ends job x form file tells (Ok v) status prints e w ok err =
-    Printed (against_print form job.options.limit x (told file)) prints (w.ok, w.same) ok.0 (ok.1 ∙ ap diff_status e)
-against-ends job x form file tells (Err fault) status prints e w ok err =
-    OutLost (against_print form job.options.limit x (told file)) prints (w.err, w.fault) err.0 err.1

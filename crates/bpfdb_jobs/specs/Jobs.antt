@@ -3,6 +3,7 @@ use Rattle.std.specs.Prelude.{◌≡◌, ◌≤◌, ◌&&◌, ℕ, Bool, true, f
 use Rattle.std.specs.Borrow.{Bor}
 use Rattle.bpf_entries.specs.Keeping.{IsSize}
 use Rattle.bpf_diff.specs.Differences.{diff_text, end_alike}
+use Rattle.bpf_diff.specs.Outputs.{write_alike, writes_text}
 use Rattle.bpf_against.specs.Against.{against_text, tells_run}
 use Rattle.trace_lines.specs.Faults.{bad_line}
 use Rattle.trace_lines.specs.Forms.{form_in, told}
@@ -267,6 +268,15 @@ diff_status same = if same then 0 else 1
 abbrev pub diff_print : ℕ → State → State → Print
 diff_print limit x y = record { out = Some (diff_text limit x y); err = None; status = diff_status (end_alike limit x y) }
 
+-- Or where they end otherwise for one who looks from outside.
+abbrev pub writes_print : ℕ → List ℕ → List ℕ → State → State → Print
+writes_print limit c d x y =
+    record { out = Some (writes_text limit c d x y); err = None; status = diff_status (write_alike limit c d x y) }
+
+abbrev pub runs_print : Bool → ℕ → List ℕ → List ℕ → State → State → Print
+runs_print true limit c d x y = writes_print limit c d x y
+runs_print false limit c d x y = diff_print limit x y
+
 -- Or the first step that the trace of another machine, which is the other file, tells otherwise, with status 0 where it tells the whole run.
 abbrev pub against_print : Form → ℕ → State → List (List ℕ) → Print
 against_print form limit x lines = record {
@@ -277,7 +287,8 @@ against_print form limit x lines = record {
 
 abbrev pub RunsPrint : Job → Print → Type 0
 RunsPrint job a = (code : Checked) × (other : Job) × (second : Checked) × Opens job code × IsOtherRun job other × Opens other second
-    × (a ≡ diff_print job.options.limit (initial code job.context.now) (initial second other.context.now))
+    × (a ≡ runs_print job.options.compares_writes job.options.limit job.context.now other.context.now
+    (initial code job.context.now) (initial second other.context.now))
 
 pub record AgainstPrints (job : Job) (a : Print) : Type 0 where
   pub code : Checked

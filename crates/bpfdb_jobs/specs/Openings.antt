@@ -1,5 +1,5 @@
 -- Scaffolding: a session, or a machine with its journal, that was just opened for a job.
-use Rattle.std.specs.Prelude.{ℕ, ◌≡◌, List, [], Option, Ok}
+use Rattle.std.specs.Prelude.{ℕ, ◌≡◌, List, [], Option, Ok, false, true}
 use Rattle.bpf_isa.specs.Programs.{Checked}
 use Rattle.bpf_journal.specs.Histories.{StandsFor}
 use Rattle.bpf_journal.specs.Timelines.{Moment}
@@ -12,9 +12,19 @@ use Rattle.bpf_origin.specs.declared.what.What.{What}
 use Rattle.bpf_steps.specs.State.{State, initial}
 use Rattle.bpf_session.specs.Sessions.{SessionValue}
 use Rattle.bpfdb_jobs.specs.Connections.{Begins}
-use Rattle.bpfdb_jobs.specs.Jobs.{OpensSession, arrival_of}
+use Rattle.bpfdb_jobs.specs.Jobs.{IsOtherRun, Opens, OpensSession, arrival_of}
 use Rattle.bpfdb_jobs.specs.Origins.{Arrival, Asks, IsTail, question_by}
 use Rattle.bpfdb_jobs.specs.declared.job.Job.{Job}
+
+-- A machine stands at the opening of the job's program.
+abbrev pub OpensAs : Job → State → Type 0
+OpensAs job x = (code : Checked) × Opens job code × (x ≡ initial code job.context.now)
+
+-- What two runs leave is compared, and this is the job of the other one.
+pub record AsksWrites (job other : Job) : Type 0 where
+  pub runs : job.options.other_is_trace ≡ false
+  pub writes : job.options.compares_writes ≡ true
+  pub is_other : IsOtherRun job other
 
 -- It has the job's program, and stands where one of the job begins.
 pub record IsOpening (job : Job) (session : SessionValue RingKeeper) : Type 0 where

@@ -1,11 +1,9 @@
 //! What a job of `diff` does.
 ghost use Rattle.std.specs.Prelude.{◌≡◌, ◌≤◌, IfErr, IfOk, OnErr, OnOk, false};
-ghost use Rattle.bpf_isa.specs.Programs.{Checked};
-ghost use Rattle.bpf_steps.specs.State.{initial};
 ghost use Rattle.bpfdb_jobs.specs.Endings.{EndsPrinted};
-ghost use Rattle.bpfdb_jobs.specs.Jobs.{IsOtherRun, Opens, diff_status, other_bytes};
+ghost use Rattle.bpfdb_jobs.specs.Jobs.{IsOtherRun, diff_status, other_bytes};
+ghost use Rattle.bpfdb_jobs.specs.Openings.{AsksWrites, OpensAs};
 ghost use Rattle.bpfdb_jobs.specs.Refusals.{RefusesMachine, RefusesOther};
-ghost use Rattle.bpfdb_jobs.specs.declared.job.Job.{Job as JobValue};
 ghost use Rattle.bpfdb_faults.specs.Faults.{output_line};
 ghost use Rattle.bpfdb_faults.specs.Streams.{Told, stream};
 ghost use Rattle.bpfdb_options.specs.declared.subcommand.Subcommand.TheVariants.{Diff};
@@ -13,7 +11,7 @@ ghost use Rattle.bpfdb_options.specs.declared.subcommand.Subcommand.TheVariants.
 use crate::against::against_job;
 use crate::job::Job;
 use crate::opening::machine_of;
-use bpf_diff::put_diff;
+use bpf_diff::{put_diff, put_writes};
 use bpf_machine::Cpu;
 use bpf_suite::Refusal;
 use bpfdb_faults::{JobFault, JobRefusal, flush_after, give_up};
@@ -58,16 +56,60 @@ fn runs_job<W: Write, E: Write>(
         Ok(cpu) => cpu,
         Err(refusal) => return give_up(errors, &JobFault::Refused(refusal)),
     };
-    let mut second = match other_machine(alloc, job) {
+    let other = other_run(job);
+    let mut second = match other_machine(alloc, &other) {
         Ok(cpu) => cpu,
         Err(refusal) => {
             return give_up(errors, &JobFault::Refused(JobRefusal::OtherRun(refusal)));
         }
     };
+    if job.options.compares_writes {
+        return writes_job(alloc, job, &other, writer, errors, first, second);
+    }
     let limit = job.options.limit;
     let compared = put_diff(writer, Ok(()), &mut first, &mut second, limit);
     let written = flush_after(writer, compared.written);
     end_of(written, compared.is_same, errors)
+}
+
+/// Runs two machines, and tells where they end otherwise for one who looks from outside.
+fn writes_job<W: Write, E: Write>(
+    alloc: Global,
+    job: &Job<'_>,
+    other: &Job<'_>,
+    writer: &mut Counted<W>,
+    errors: &mut Counted<E>,
+    first: Cpu,
+    second: Cpu,
+) -> u8
+    requires asked { AsksWrites job.now other.now }
+    requires first { OpensAs job.now first }
+    requires second { OpensAs other.now second }
+    ensures does { EndsPrinted Diff job.now (stream W.contents writer.old writer.new)
+        (stream E.contents errors.old errors.new) result }
+    ensures status { result ≤ 2 }
+{
+    let context = job.context;
+    let given = other.context;
+    let limit = job.options.limit;
+    let mut first = first;
+    let mut second = second;
+    match put_writes(
+        alloc,
+        writer,
+        Ok(()),
+        &mut first,
+        &mut second,
+        context,
+        given,
+        limit,
+    ) {
+        Ok(compared) => {
+            let written = flush_after(writer, compared.written);
+            end_of(written, compared.is_same, errors)
+        }
+        Err(_) => give_up(errors, &JobFault::Memory),
+    }
 }
 
 /// The exit status of two runs that were compared, and told or not.
@@ -95,17 +137,14 @@ fn status_of(is_same: bool) -> u8
     if is_same { 0 } else { 1 }
 }
 
-/// The machine of the other run before its first step.
-fn other_machine(alloc: Global, job: &Job<'_>) -> Result<Cpu, Refusal>
-    ensures ok { IfOk result (λ cpu. (other : JobValue) × IsOtherRun job.now other
-        × (code : Checked) × Opens other code × (cpu ≡ initial code other.context.now)) }
-    ensures err { IfErr result (λ refusal. (other : JobValue) × IsOtherRun job.now other
-        × RefusesOther other refusal) }
+/// The machine of the other run, which is this job's, before its first step.
+fn other_machine(alloc: Global, other: &Job<'_>) -> Result<Cpu, Refusal>
+    ensures ok { IfOk result (OpensAs other.now) }
+    ensures err { IfErr result (RefusesOther other.now) }
 {
-    let other = other_run(job);
-    match machine_of(alloc, &other) {
+    match machine_of(alloc, other) {
         Ok(cpu) => Ok(cpu),
-        Err(refusal) => Err(of_machine(&other, refusal)),
+        Err(refusal) => Err(of_machine(other, refusal)),
     }
 }
 

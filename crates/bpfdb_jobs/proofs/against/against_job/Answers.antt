@@ -1,4 +1,5 @@
-use Rattle.std.proofs.Common.{◌∙◌, ap, refl, sym}
+use Rattle.std.proofs.Common.{◌∙◌, Bool, ap, refl, sym}
+use Rattle.std.specs.Prelude.{◌||◌}
 use Rattle.std.proofs.lemmas.List.{append-nil}
 use Rattle.counted_io.proofs.Appending.{Writes-none, Writes-text}
 use Rattle.bpfdb_faults.specs.declared.refusal.JobRefusal.TheVariants.{TraceLine}
@@ -6,7 +7,7 @@ use Rattle.trace_lines.specs.Faults.{bad_line}
 use Rattle.trace_lines.specs.Forms.{told}
 use Rattle.bpfdb_jobs.specs.Endings.{Exhausted, Refused}
 use Rattle.bpfdb_jobs.specs.Jobs.{against_print}
-use Rattle.bpfdb_jobs.proofs.Diffing.{against-ends, against-prints, against-refuses, machine-against}
+use Rattle.bpfdb_jobs.proofs.Diffing.{against-prints, against-refuses, machine-against, told-ends}
 use Rattle.bpfdb_jobs.proofs.against.against_job.Goals as goal
 
 pub returns-in-Err-clause-does : goal.returns-in-Err-clause-does
@@ -28,7 +29,7 @@ pub returns-in-Ok-put_against-clause-does : goal.returns-in-Ok-put_against-claus
 returns-in-Ok-put_against-clause-does g c =
     let text = c.in-Ok-put_against.ensures.text _ _ (Writes-none g.W.Write.contents c.args.writer.now _) in
     let written = Writes-text g.W.Write.contents _ _ _ _ _ (c.flush_after-written.ensures _ _ text) (append-nil _) in
-    against-ends c.args.job.now c.in-Ok.cpu c.in-Ok-form_of_trace.form c.bytes_of-file.result.now c.in-Ok-put_against.against.tells_run _ _
+    told-ends c.args.job.now _ _ c.in-Ok-put_against.against.tells_run _ _
     (against-prints c.args.job.now c.in-Ok.cpu c.in-Ok-form_of_trace.form c.bytes_of-file.result.now c.requires c.in-Ok.ensures.ok
     c.bytes_of-file.ensures c.in-Ok-form_of_trace.ensures.ok)
     c.in-Ok-put_against.ensures.told written c.end_of.ensures.ok c.end_of.ensures.err
@@ -38,4 +39,5 @@ returns-clause-does g c =
     Exhausted (against_print c.in-Ok-form_of_trace.form c.args.job.now.options.limit c.in-Ok.cpu (told c.bytes_of-file.result.now))
     (against-prints c.args.job.now c.in-Ok.cpu c.in-Ok-form_of_trace.form c.bytes_of-file.result.now c.requires c.in-Ok.ensures.ok
     c.bytes_of-file.ensures c.in-Ok-form_of_trace.ensures.ok)
-    c.requires c.in-Err-put_against.ensures.err c.give_up-in-Err-put_against.ensures.told c.give_up-in-Err-put_against.ensures.value
+    (ap (λ (b : Bool). b || c.args.job.now.options.compares_writes) c.requires) c.in-Err-put_against.ensures.err
+    c.give_up-in-Err-put_against.ensures.told c.give_up-in-Err-put_against.ensures.value
