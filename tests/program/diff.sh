@@ -88,6 +88,83 @@ tells 0 'same for 2 steps\nexited at 1: r0 0x1\n' diff --steps 2 --listing one.s
 tells 1 'step 2 is in one run alone\n> 2 0: ja L0\n< exited at 0: r0 0x0\n> step limit 3 reached at 0\n' diff --steps 3 --listing end.s loop.s
 tells 1 '< exited at 0: r0 0x0\n> step limit 1 reached at 0\n' diff --steps 1 --listing end.s loop.s
 
+# What both leave for one who looks from outside: stores in another order, of other widths, one that is written over; from both sides.
+bytes eight 09 00 00 00 00 00 00 00
+listing stores.s 'stw [r1+0], 1;stw [r1+4], 2;mov r0, 7;exit'
+listing wide.s 'mov r0, 7;stb [r1+4], 5;lddw r2, 0x200000001;stxdw [r1+0], r2;exit'
+listing wrong.s 'stdw [r1+0], 1;stb [r1+4], 3;mov r0, 7;exit'
+tells 0 'same writes\n< exited at 3: r0 0x7\n> exited at 5: r0 0x7\n' diff --writes --listing -m eight stores.s wide.s
+tells 0 'same writes\n< exited at 5: r0 0x7\n> exited at 3: r0 0x7\n' diff --listing -m eight wide.s stores.s --writes
+tells 1 '0x100000004:1 ends otherwise: 0x2, 0x3\n< 2 1: stw [r1+4], 2; 0x100000004:4 = 0x2\n> 2 1: stb [r1+4], 3; 0x100000004:1 = 0x3\n< exited at 3: r0 0x7\n> exited at 3: r0 0x7\n' \
+    diff --writes --listing -m eight stores.s wrong.s
+tells 1 '0x100000004:1 ends otherwise: 0x3, 0x2\n< 2 1: stb [r1+4], 3; 0x100000004:1 = 0x3\n> 4 4: stxdw [r1+0], r2; 0x100000000:8 = 0x200000001\n< exited at 3: r0 0x7\n> exited at 5: r0 0x7\n' \
+    diff --writes --listing -m eight wrong.s wide.s
+# A byte that one of them doesn't write is what it was: otherwise, or the same.
+listing seven.s 'mov r0, 7;exit'
+listing nine.s 'stb [r1+0], 9;mov r0, 7;exit'
+tells 1 '0x100000000:1 ends otherwise: 0x1, 0x9\n< 1 0: stw [r1+0], 1; 0x100000000:4 = 0x1\n> not written\n< exited at 3: r0 0x7\n> exited at 1: r0 0x7\n' \
+    diff --writes --listing -m eight stores.s seven.s
+tells 1 '0x100000000:1 ends otherwise: 0x9, 0x1\n< not written\n> 1 0: stw [r1+0], 1; 0x100000000:4 = 0x1\n< exited at 1: r0 0x7\n> exited at 3: r0 0x7\n' \
+    diff --writes --listing -m eight seven.s stores.s
+tells 0 'same writes\n< exited at 1: r0 0x7\n> exited at 2: r0 0x7\n' diff --writes --listing -m eight seven.s nine.s
+# The last write is told, not the first one; and where a loop writes, the last time.
+listing twice.s 'stb [r1+0], 5;stb [r1+0], 6;stb [r1+1], 6;exit'
+listing round.s 'mov r3, 3;again: stxb [r1+0], r3;add r3, 1;jne r3, 6, again;exit'
+tells 1 '0x100000000:1 ends otherwise: 0x6, 0x5\n< 2 1: stb [r1+0], 6; 0x100000000:1 = 0x6\n> 8 1: stxb [r1+0], r3; 0x100000000:1 = 0x5\n< exited at 3: r0 0x0\n> exited at 4: r0 0x0\n' \
+    diff --writes --listing -m eight twice.s round.s
+# Behind the context maps, one after another, traced words, r0.
+listing map.s 'ldmapval r2, 0, 4;stw [r2+0], 9;exit'
+listing other-map.s 'ldmapval r2, 0, 4;stw [r2+0], 265;exit'
+listing second-map.s 'ldmapval r2, 0, 4;stw [r2+0], 9;ldmapval r2, 1, 1;stb [r2+0], 255;mov r0, 1;exit'
+listing last-byte.s 'ldmapval r2, 0, 4;stdw [r2-4], 0;stw [r2+0], 9;ldmapval r2, 1, 1;stb [r2+0], 254;mov r0, 1;exit'
+tells 1 '0x300000005:1 ends otherwise: 0x0, 0x1\n< 2 2: stw [r2+0], 9; 0x300000004:4 = 0x9\n> 2 2: stw [r2+0], 265; 0x300000004:4 = 0x109\n< exited at 3: r0 0x0\n> exited at 3: r0 0x0\n' \
+    diff --writes --maps 4x2 --listing map.s other-map.s
+tells 1 '0x300100001:1 ends otherwise: 0x0, 0xff\n< not written\n> 4 5: stb [r2+0], 255; 0x300100001:1 = 0xff\n< exited at 3: r0 0x0\n> exited at 7: r0 0x1\n' \
+    diff --writes --maps 4x2,2x1 --listing map.s second-map.s
+tells 1 '0x300100001:1 ends otherwise: 0xff, 0xfe\n< 4 5: stb [r2+0], 255; 0x300100001:1 = 0xff\n> 5 6: stb [r2+0], 254; 0x300100001:1 = 0xfe\n< exited at 7: r0 0x1\n> exited at 8: r0 0x1\n' \
+    diff --writes --maps 4x2,2x1 --listing second-map.s last-byte.s
+tells 0 'same writes\n< exited at 3: r0 0x0\n> exited at 3: r0 0x0\n' diff --writes --maps 4x2 --listing map.s map.s
+listing words.s 'mov r1, 5;call 64;mov r1, 6;call 64;exit'
+tells 1 'word 1 ends otherwise: 0x6, none\n< 4 3: call 64; r0 = 0x0; word 1 = 0x6\n> not written\n< exited at 4: r0 0x0\n> exited at 2: r0 0x0\n' diff --writes --listing words.s word.s
+tells 1 'word 1 ends otherwise: none, 0x6\n< not written\n> 4 3: call 64; r0 = 0x0; word 1 = 0x6\n< exited at 2: r0 0x0\n> exited at 4: r0 0x0\n' diff --writes --listing word.s words.s
+tells 1 'word 0 ends otherwise: 0x5, 0x6\n< 2 1: call 64; r0 = 0x0; word 0 = 0x5\n> 2 1: call 64; r0 = 0x0; word 0 = 0x6\n< exited at 2: r0 0x0\n> exited at 2: r0 0x0\n' \
+    diff --writes --listing word.s other.s
+tells 1 'r0 ends otherwise: 0x1, 0x2\n< 1 0: mov r0, 1; r0 = 0x1\n> 1 0: mov r0, 2; r0 = 0x2\n< exited at 1: r0 0x1\n> exited at 1: r0 0x2\n' diff --writes --listing one.s two.s
+listing end.s exit
+tells 1 'r0 ends otherwise: 0x0, 0x1\n< not written\n> 1 0: mov r0, 1; r0 = 0x1\n< exited at 0: r0 0x0\n> exited at 1: r0 0x1\n' diff --writes --listing end.s one.s
+# Registers, the stack, calls and slots don't count; an update does, whose line has no value.
+tells 0 'same writes\n< exited at 1: r0 0x0\n> exited at 0: r0 0x0\n' diff --writes --listing r3.s end.s
+tells 0 'same writes\n< exited at 1: r0 0x0\n> exited at 1: r0 0x0\n' diff --writes --listing near.s half.s
+tells 0 'same writes\n< exited at 1: r0 0x0\n> exited at 3: r0 0x0\n' diff --writes --listing called.s jumped.s
+tells 1 '0x30000000f:1 ends otherwise: 0x1, 0x2\n< 8 8: call 2; r0 = 0x0; 0x300000000:16\n> 8 8: call 2; r0 = 0x0; 0x300000000:16\n< exited at 9: r0 0x0\n> exited at 9: r0 0x0\n' \
+    diff --writes --maps 16x1 --listing -m low --other-mem high put.s
+# On two contexts: what no step wrote doesn't count, but what ends as the other one was given does not differ; a byte that one context lacks.
+listing more-by-one.s 'ldxb r2, [r1+0];add r2, 1;stxb [r1+0], r2;exit'
+listing to-five.s 'ldxb r2, [r1+0];jne r2, 4, out;stb [r1+0], 5;out: exit'
+listing behind.s 'stb [r1+1], 1;exit'
+tells 1 'r0 ends otherwise: 0x1, 0x0\n< 3 2: mov r0, 1; r0 = 0x1\n> not written\n< exited at 3: r0 0x1\n> exited at 3: r0 0x0\n' diff --writes --listing -m four --other-mem five port.s
+tells 1 '0x100000000:1 ends otherwise: 0x5, 0x6\n< 3 2: stxb [r1+0], r2; 0x100000000:1 = 0x5\n> 3 2: stxb [r1+0], r2; 0x100000000:1 = 0x6\n< exited at 3: r0 0x0\n> exited at 3: r0 0x0\n' \
+    diff --writes --listing -m four --other-mem five more-by-one.s
+tells 0 'same writes\n< exited at 3: r0 0x0\n> exited at 3: r0 0x0\n' diff --writes --listing -m four --other-mem five to-five.s
+tells 1 '0x100000001:1 ends otherwise: none, 0x1\n< not written\n> 1 0: stb [r1+1], 1; 0x100000001:1 = 0x1\n< fault access 0x100000001 at 0\n> exited at 1: r0 0x0\n' \
+    diff --writes --listing -m four --other-mem longer behind.s
+# Ends: the reason, and not the slot; r0 only where both exited; the limit, which is no end, and what was left up to there.
+listing null.s 'ldxb r0, [r0+0];exit'
+listing next.s 'ldxb r0, [r0+1];exit'
+listing null-later.s 'mov r3, 1;ldxb r0, [r0+0];exit'
+listing null-too.s 'mov r0, 8;ldxb r3, [r3+0];stb [r1+0], 1;exit'
+listing loop.s 'l: ja l'
+tells 1 'same writes\n< exited at 0: r0 0x0\n> fault access 0x0 at 0\n' diff --writes --listing end.s null.s
+tells 1 'same writes\n< fault access 0x0 at 0\n> fault access 0x1 at 0\n' diff --writes --listing null.s next.s
+tells 0 'same writes\n< fault access 0x0 at 0\n> fault access 0x0 at 1\n' diff --writes --listing null.s null-later.s
+tells 0 'same writes\n< fault access 0x0 at 0\n> fault access 0x0 at 1\n' diff --writes --listing -m four null.s null-too.s
+tells 1 '0x100000000:1 ends otherwise: 0x5, 0x4\n< 3 2: stxb [r1+0], r2; 0x100000000:1 = 0x5\n> not written\n< exited at 3: r0 0x0\n> fault access 0x0 at 1\n' \
+    diff --writes --listing -m four more-by-one.s null-too.s
+tells 1 'same writes\n< step limit 5 reached at 0\n> step limit 5 reached at 0\n' diff --writes --steps 5 --listing loop.s loop.s
+tells 1 '0x100000000:1 ends otherwise: 0x1, 0x9\n< 1 0: stw [r1+0], 1; 0x100000000:4 = 0x1\n> not written\n< step limit 1 reached at 1\n> step limit 1 reached at 1\n' \
+    diff --writes --steps 1 --listing -m eight stores.s wide.s
+tells 0 'same writes\n< exited at 1: r0 0x1\n> exited at 1: r0 0x1\n' diff --writes --steps 2 --listing one.s add.s
+
 # Words, and maps of both.
 bytes one.bin b7 00 00 00 01 00 00 00 EXIT
 bytes two.bin b7 00 00 00 02 00 00 00 EXIT
@@ -112,6 +189,13 @@ refused 'cannot read absent' diff one.bin --other-mem absent
 usage "a second program, '[OTHER]', or '--other-mem <PATH>' or '--trace <PATH>' is needed" diff one.bin
 usage "the argument '[OTHER]' cannot be used with '--trace <PATH>'" diff --trace four one.bin two.bin
 usage "the argument '--other-mem <PATH>' cannot be used with '--trace <PATH>'" diff --trace four --other-mem five one.bin
+usage "the argument '--writes' cannot be used with '--trace <PATH>'" diff --writes --trace four one.bin
+usage "the argument '[OTHER]' cannot be used with '--trace <PATH>'" diff --writes --trace four one.bin two.bin
+usage "a second program, '[OTHER]', or '--other-mem <PATH>' or '--trace <PATH>' is needed" diff --writes one.bin
+usage "unexpected argument '--writes' found" trace --writes one.bin
+refused 'refused C3: length is no multiple of 8 (the other run)' diff --writes one.bin ragged
+refused 'refused C3: length is no multiple of 8' diff --writes ragged one.bin
+refused 'refused O1: context too long (the other run)' diff --writes -m four --other-mem long one.bin
 usage "the argument '[OTHER]' cannot be used with '--other-mem <PATH>'" diff --other-mem four one.bin two.bin
 usage "the argument '--object' cannot be used with '[OTHER]'" diff --object one.bin two.bin
 usage "unexpected argument 'third' found" diff first second third
@@ -235,4 +319,14 @@ if has python3 'where two runs part, of pairs at random'; then
     echo $? > found/status
     { grep -a '^FAILED' trial; sed -n 's/^[0-9]* pairs: \([0-9]* failed\)$/\1/p' trial; } > found/out
     check 'where two runs part, of pairs at random' 0 '0 failed\n' ''
+    python3 "$top/tests/trials/writes.py" "$program" 300 > trial 2> found/err
+    echo $? > found/status
+    { grep -a '^FAILED' trial; sed -n 's/^[0-9]* pairs: \([0-9]* failed\)$/\1/p' trial; } > found/out
+    check 'what two runs leave, of pairs at random' 0 '0 failed\n' ''
+    if has_clang 'what two builds of one source leave'; then
+        python3 "$top/tests/trials/writes.py" "$program" --builds "$parts/c" > trial 2> found/err
+        echo $? > found/status
+        { grep -a '^FAILED' trial; sed -n 's/^[0-9]* pairs of builds of [0-9]* programs: \([0-9]* failed\)$/\1/p' trial; } > found/out
+        check 'what two builds of one source leave' 0 '0 failed\n' ''
+    fi
 fi

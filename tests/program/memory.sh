@@ -133,6 +133,11 @@ wants "$plain$c13$o2$j2" 0 'at 1: exit\nit can still be reached\n' '' whynot -m 
 others='refused C13: out of memory (the other run)\nrefused O2: out of memory (the other run)\n'
 wants "$plain$c13$o2$others" 0 'same for 2 steps\nexited at 1: r0 0x2a\n' '' diff -m context --maps 8x2 program program
 wants "$plain$a7$c13$o2${others}refused A7: out of memory (the other run)\n" 0 'same for 2 steps\nexited at 1: r0 0x2a\n' '' diff --listing program.s program.s
+wants "$plain$c13$o2$others" 0 'same writes\n< exited at 1: r0 0x2a\n> exited at 1: r0 0x2a\n' '' diff --writes -m context --maps 8x2 program program
+printf 'mov r0, 41\nexit\n' > less.s
+wants "$plain$a7$c13$o2${others}refused A7: out of memory (the other run)\n" 1 \
+    'r0 ends otherwise: 0x2a, 0x29\n< 1 0: mov r0, 42; r0 = 0x2a\n> 1 0: mov r0, 41; r0 = 0x29\n< exited at 1: r0 0x2a\n> exited at 1: r0 0x29\n' '' \
+    diff --writes --listing program.s less.s
 printf '1 0: mov r0, 42; r0 = 0x2a\n2 1: exit\nexited at 1: r0 0x2a\n' > there
 wants "$plain$c13$o2" 0 'same for 2 steps\nexited at 1: r0 0x2a\n' '' diff -m context --maps 8x2 --trace there program
 wants "$plain$a7$c13$o2" 0 'same for 2 steps\nexited at 1: r0 0x2a\n' '' diff --listing --trace there program.s
