@@ -89,6 +89,7 @@ complete -c bpfdb -n "__fish_seen_subcommand_from origin whynot" -l addresses -d
 complete -c bpfdb -n "__fish_seen_subcommand_from whynot" -l alone -d "Where the values came from that decided it is left out"
 complete -c bpfdb -n "__fish_seen_subcommand_from diff" -l other-mem -r -F -d "The second context"
 complete -c bpfdb -n "__fish_seen_subcommand_from diff" -l trace -r -F -d "The trace of another machine"
+complete -c bpfdb -n "__fish_seen_subcommand_from diff" -l writes -d "What both runs leave in the context"
 complete -c bpfdb -n "__fish_seen_subcommand_from test" -l only -x -a "(__bpfdb_of_file only)" -d "The tests of this name are run alone"
 complete -c bpfdb -n "__fish_seen_subcommand_from test" -l show -x -a "program context options script" -d "A part of the one test that is asked for is written to standard output"
 complete -c bpfdb -n "__fish_seen_subcommand_from test" -l cover -d "What no test ran is told behind the report"
