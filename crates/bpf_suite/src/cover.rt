@@ -2,33 +2,44 @@
 ghost use Rattle.std.specs.Prelude.{◌≡◌, ℕ, ◌++◌, ◌∷◌, [], filter, IfOk, List, OnOk};
 ghost use Rattle.counted_io.specs.Writing.{WritesAfter};
 ghost use Rattle.bpf_suite.specs.Benches.{shares_program};
-ghost use Rattle.bpf_suite.specs.Covers.{AddsSharing, Covers, CoversEach, CoversProgram, IsFoundBy, found_text, has_program};
+ghost use Rattle.bpf_suite.specs.Covers.{AddsSharing, Covers, CoversEach, CoversProgram, IsFoundBy, IsRecordOf, Tells, TellsFound, has_program, unlined_text};
 ghost use Rattle.bpf_suite.specs.Files.{with_shared};
-ghost use Rattle.bpf_suite.specs.Tests.{program_line as line_of};
+ghost use Rattle.bpf_suite.specs.Tests.{has_listing};
 
 use crate::bench::{Bench, shares_program};
 use crate::list::Own;
 use crate::section::Section;
 use crate::test::Test;
 use bpf_cover::Coverage;
-use counted_io::{Counted, WriteFault, put};
+use bpf_text::line_table;
+use counted_io::{Counted, Piece, WriteFault, put, put_all};
 use std::alloc::{AllocError, Global};
 use std::io::Write;
 
-/// The tables of the programs of tests, which have these sections of their own and share others.
+/// How it is told what ran of programs.
+#[derive(Clone, Copy)]
+pub enum CoverForm<'f> {
+    /// As tables for a reader.
+    Tables,
+    /// As a tracefile of lcov, over the file of tests of this name.
+    Tracefile(&'f [u8]),
+}
+
+/// What ran of the programs of tests, which have these sections of their own and share others.
 pub fn cover_text<'b, 'a>(
     alloc: Global,
     shared: &'b [Section<'a>],
     own: &[Own<'b, 'a>],
+    form: &CoverForm<'_>,
 ) -> Result<Vec<u8>, AllocError>
-    ensures { IfOk result (λ text. Covers shared.now own.now text.items) }
+    ensures { IfOk result (λ text. Covers form.now shared.now own.now text.items) }
 {
     let mut bench = Bench::of(alloc, shared)?;
     let found = cover_shared(alloc, own, &mut bench)?;
     let mut writer = Counted::new(Vec::new(alloc));
     let test = Test { own: &[], shared };
-    let told = put_table(&mut writer, Ok(()), test.program_line(), &found);
-    let all = put_each(alloc, own, &mut bench, &mut writer, told)?;
+    let told = put_found(alloc, &mut writer, Ok(()), form, &test, &found)?;
+    let all = put_each(alloc, own, &mut bench, &mut writer, told, form)?;
     match all {
         Ok(()) => Ok(writer.into_inner()),
         Err(WriteFault) => Err(AllocError),
@@ -73,21 +84,22 @@ fn cover_next<'b, 'a>(
     }
 }
 
-/// Writes the tables of the programs that tests have alone.
+/// Writes what ran of the programs that tests have alone.
 fn put_each<'b, 'a, W: Write>(
     alloc: Global,
     own: &[Own<'b, 'a>],
     bench: &mut Bench<'b, 'a>,
     writer: &mut Counted<W>,
     so_far: Result<(), WriteFault>,
+    form: &CoverForm<'_>,
 ) -> Result<Result<(), WriteFault>, AllocError>
     ensures { IfOk result (λ told. (text : List ℕ)
-        × CoversEach (with_shared bench.old.sections (filter has_program own.now)) text
+        × CoversEach form.now (with_shared bench.old.sections (filter has_program own.now)) text
         × WritesAfter W.contents writer.old so_far writer.new told text) }
 {
     let mut told = so_far;
     for sections in own {
-        match put_next(alloc, sections, bench, writer, told) {
+        match put_next(alloc, sections, bench, writer, told, form) {
             Ok(written) => told = written,
             Err(fault) => return Err(fault),
         }
@@ -95,56 +107,121 @@ fn put_each<'b, 'a, W: Write>(
     Ok(told)
 }
 
-/// Writes the table of the program of a test, if it has one alone.
+/// Writes what ran of the program of a test, if it has one alone.
 fn put_next<'b, 'a, W: Write>(
     alloc: Global,
     own: &Own<'b, 'a>,
     bench: &mut Bench<'b, 'a>,
     writer: &mut Counted<W>,
     so_far: Result<(), WriteFault>,
+    form: &CoverForm<'_>,
 ) -> Result<Result<(), WriteFault>, AllocError>
     ensures text { IfOk result (λ told. (text : List ℕ)
-        × CoversEach (with_shared bench.old.sections (filter has_program (own.now ∷ []))) text
+        × CoversEach form.now (with_shared bench.old.sections (filter has_program (own.now ∷ []))) text
         × WritesAfter W.contents writer.old so_far writer.new told text) }
     ensures sections { bench.new.sections ≡ bench.old.sections }
 {
     if shares_program(own.sections) {
         Ok(put(writer, so_far, b""))
     } else {
-        put_alone(alloc, own, bench, writer, so_far)
+        put_alone(alloc, own, bench, writer, so_far, form)
     }
 }
 
-/// Writes the table of the program that a test has alone.
+/// Writes what ran of the program that a test has alone.
 fn put_alone<'b, 'a, W: Write>(
     alloc: Global,
     own: &Own<'b, 'a>,
     bench: &mut Bench<'b, 'a>,
     writer: &mut Counted<W>,
     so_far: Result<(), WriteFault>,
+    form: &CoverForm<'_>,
 ) -> Result<Result<(), WriteFault>, AllocError>
     ensures text { IfOk result (λ told. let test = own.now ++ bench.old.sections in
-        (text : List ℕ) × CoversProgram (line_of test) (test ∷ []) text
+        (text : List ℕ) × CoversProgram form.now test (test ∷ []) text
         × WritesAfter W.contents writer.old so_far writer.new told text) }
     ensures sections { bench.new.sections ≡ bench.old.sections }
 {
-    let line = bench.program_line(own);
+    let test = bench.test(own);
     let found = bench.cover_alone(alloc, own)?;
-    Ok(put_table(writer, so_far, line, &found))
+    put_found(alloc, writer, so_far, form, &test, &found)
 }
 
-/// Writes the table of a program that stands in a line, if anything is known of it.
-fn put_table<W: Write>(
+/// Writes what ran of a test's program, if anything is known of it.
+fn put_found<W: Write>(
+    alloc: Global,
+    writer: &mut Counted<W>,
+    so_far: Result<(), WriteFault>,
+    form: &CoverForm<'_>,
+    test: &Test<'_, '_>,
+    found: &Option<Coverage>,
+) -> Result<Result<(), WriteFault>, AllocError>
+    ensures { IfOk result (λ told. (text : List ℕ)
+        × TellsFound form.now test.now found.now text
+        × WritesAfter W.contents writer.old so_far writer.new told text) }
+{
+    match found {
+        Some(coverage) => put_coverage(alloc, writer, so_far, form, test, coverage),
+        None => Ok(put(writer, so_far, b"")),
+    }
+}
+
+/// Writes what ran of a test's program.
+fn put_coverage<W: Write>(
+    alloc: Global,
+    writer: &mut Counted<W>,
+    so_far: Result<(), WriteFault>,
+    form: &CoverForm<'_>,
+    test: &Test<'_, '_>,
+    coverage: &Coverage,
+) -> Result<Result<(), WriteFault>, AllocError>
+    ensures { IfOk result (λ told. (text : List ℕ)
+        × Tells form.now test.now coverage.now text
+        × WritesAfter W.contents writer.old so_far writer.new told text) }
+{
+    match form {
+        CoverForm::Tables => Ok(coverage.put(writer, so_far, test.program_line())),
+        CoverForm::Tracefile(file) => put_record(alloc, writer, so_far, file, test, coverage),
+    }
+}
+
+/// Writes what ran of a test's program as a record of a tracefile. (It ran: a listing of it has no
+/// fault.)
+fn put_record<W: Write>(
+    alloc: Global,
+    writer: &mut Counted<W>,
+    so_far: Result<(), WriteFault>,
+    file: &[u8],
+    test: &Test<'_, '_>,
+    coverage: &Coverage,
+) -> Result<Result<(), WriteFault>, AllocError>
+    ensures { IfOk result (λ told. (text : List ℕ)
+        × IsRecordOf (has_listing test.now) file.now test.now coverage.now text
+        × WritesAfter W.contents writer.old so_far writer.new told text) }
+{
+    let line = test.program_line();
+    if !test.has_listing() {
+        return Ok(put_unlined(writer, so_far, line));
+    }
+    let program = test.program(alloc)?;
+    match line_table(alloc, program.as_slice()) {
+        Ok(table) => Ok(coverage.put_record(writer, so_far, file, line, table.as_slice())),
+        Err(_) => Err(AllocError),
+    }
+}
+
+/// Writes that the program in a line is left out, since it is no listing.
+fn put_unlined<W: Write>(
     writer: &mut Counted<W>,
     so_far: Result<(), WriteFault>,
     line: usize,
-    found: &Option<Coverage>,
 ) -> Result<(), WriteFault>
-    ensures { WritesAfter W.contents writer.old so_far writer.new result
-        (found_text line found.now) }
+    ensures { WritesAfter W.contents writer.old so_far writer.new result (unlined_text line) }
 {
-    match found {
-        Some(coverage) => coverage.put(writer, so_far, line),
-        None => put(writer, so_far, b""),
-    }
+    let pieces = [
+        Piece::Text(b"# the program in line "),
+        Piece::Decimal(line as u64),
+        Piece::Text(b" is no listing: it has no lines here\n"),
+    ];
+    put_all(writer, so_far, &pieces)
 }

@@ -23,6 +23,7 @@ mod values;
 mod verdict;
 mod words;
 
+pub use cover::CoverForm;
 pub use fault::{FileFault, SectionFault};
 pub use list::{TestList, choose};
 pub use refusal::{Refusal, put_numbered, put_refusal, slot_of};

@@ -11,7 +11,7 @@ use crate::body::{
     trimmed,
 };
 use crate::cells::{are_cells, are_patterns};
-use crate::cover::cover_text;
+use crate::cover::{CoverForm, cover_text};
 use crate::fault::{FileFault, SectionFault};
 use crate::kind::{Kind, Part};
 use crate::list::{Own, TestList};
@@ -64,15 +64,20 @@ impl<'a> Suite<'a> {
         tests(alloc, self.sections.as_slice())
     }
 
-    /// The tables of what ran of its programs, over its tests, or over those of a name.
-    pub fn cover(&self, alloc: Global, only: Option<&str>) -> Result<Vec<u8>, AllocError>
+    /// What ran of its programs, over its tests, or over those of a name.
+    pub fn cover(
+        &self,
+        alloc: Global,
+        only: Option<&str>,
+        form: &CoverForm<'_>,
+    ) -> Result<Vec<u8>, AllocError>
         ensures { IfOk result (λ text. let shared = until_name self.now in
-            Covers shared (own_named only.entry shared (own_tests self.now)) text.items) }
+            Covers form.now shared (own_named only.entry shared (own_tests self.now)) text.items) }
     {
         let sections = self.sections.as_slice();
         let shared = until_name(sections);
         let own = own_named(own_tests(alloc, sections)?, shared, only);
-        cover_text(alloc, shared, own.as_slice())
+        cover_text(alloc, shared, own.as_slice(), form)
     }
 }
 

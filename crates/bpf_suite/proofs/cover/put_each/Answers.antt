@@ -26,7 +26,7 @@ loop-sections-preserved g c =
       shared = c.put_next.ensures.sections ∙ c.loop-sections.invariant.shared;
       covers = (
         done.0 ++ next.0,
-        rw more (each-next shared own (take i all) done.0 next.0 done.1 next.1),
+        rw more (each-next c.args.form.now shared own (take i all) done.0 next.0 done.1 next.1),
         WritesAfter-WritesAfter g.W.Write.contents _ _ _ _ _ _ _ _ _ done.2 next.2 refl,
       );
     }
