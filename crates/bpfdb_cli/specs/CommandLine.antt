@@ -160,6 +160,10 @@ other_rule = record (new_rule (codes "other")) { index = Some 2; value_names = 1
 abbrev pub cover_rule : Rule
 cover_rule = record (new_rule (codes "cover")) { long = Some (codes "cover"); action = Some SetTrue }
 
+-- `--cover-info`: that is told as a tracefile.
+abbrev pub cover_info_rule : Rule
+cover_info_rule = record (new_rule (codes "cover-info")) { long = Some (codes "cover-info"); action = Some SetTrue }
+
 -- `--anywhere`: files that tests name may lie outside of their folder.
 abbrev pub anywhere_rule : Rule
 anywhere_rule = record (new_rule (codes "anywhere")) { long = Some (codes "anywhere"); action = Some SetTrue }
@@ -218,7 +222,9 @@ abbrev pub link_app : App
 link_app = with_rule (with_rule (with_rule (with_rule (with_link_rules (new_app (codes "link"))) packet_rule) with_functions_rule) joined_rule) file_rule
 
 abbrev pub test_app : App
-test_app = with_rule (with_rule (with_rule (with_rule (with_rule (new_app (codes "test")) only_rule) show_rule) cover_rule) anywhere_rule) file_rule
+test_app =
+    with_rule (with_rule (with_rule (with_rule (with_rule (with_rule (new_app (codes "test")) only_rule) show_rule) cover_rule) cover_info_rule) anywhere_rule)
+    file_rule
 
 -- `gdb` opens a session as `debug` does, over a larger journal.
 abbrev pub gdb_app : App

@@ -81,6 +81,7 @@ pub record Chooses (rows : List Row) (options : Options) : Type 0 where
   pub only : option_map (λ s. s.now) options.only ≡ first_of (codes "only") rows
   pub show : NamesPart (first_of (codes "show") rows) options.show
   pub covers : options.covers ≡ is_given (first_of (codes "cover") rows)
+  pub tracefile : options.is_tracefile ≡ is_given (first_of (codes "cover-info") rows)
   pub anywhere : options.anywhere ≡ is_given (first_of (codes "anywhere") rows)
 
 -- The other file: a script, an object with functions, a trace, a second context or a second program. No subcommand takes two of them but `diff`,

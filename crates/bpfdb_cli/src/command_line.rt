@@ -125,6 +125,7 @@ fn argument_of<'a>(alloc: Global, option: CliOption) -> Arg<'a>
             .value_name("OTHER")
             .help(help::OTHER),
         CliOption::Cover => flag(alloc, "cover", help::COVER),
+        CliOption::CoverInfo => flag(alloc, "cover-info", help::COVER_INFO),
         CliOption::Anywhere => flag(alloc, "anywhere", help::ANYWHERE),
         CliOption::What => Arg::new(alloc, "what")
             .index(2)

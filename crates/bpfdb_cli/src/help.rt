@@ -522,6 +522,9 @@ the test. Example: --show program";
 /// `--cover`.
 pub const COVER: &str = "Tells which instructions and branches no test ran";
 
+/// `--cover-info`.
+pub const COVER_INFO: &str = "Writes what ran as lcov reads it, and the report to stderr";
+
 /// `--anywhere`.
 pub const ANYWHERE: &str = "Reads files that tests name also outside of their folder";
 

@@ -402,6 +402,7 @@ fn options_in<'a>(found: &ArgMatches<'a>) -> Option<Options<'a>>
         only: text_of(found, "only"),
         show,
         covers: is_given(text_of(found, "cover")),
+        is_tracefile: is_given(text_of(found, "cover-info")),
         anywhere: is_given(text_of(found, "anywhere")),
     })
 }

@@ -70,6 +70,8 @@ pub(crate) enum CliOption {
     Other,
     /// `--cover`.
     Cover,
+    /// `--cover-info`.
+    CoverInfo,
     /// `--anywhere`.
     Anywhere,
     /// WHAT, behind FILE.
@@ -347,6 +349,7 @@ pub(crate) const SUBCOMMANDS: [CliSubcommand<'static>; 14] = [
             CliOption::Only,
             CliOption::Show,
             CliOption::Cover,
+            CliOption::CoverInfo,
             CliOption::Anywhere,
         ],
         file: help::TEST_FILE,

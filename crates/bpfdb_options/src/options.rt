@@ -69,6 +69,8 @@ pub struct Options<'a> {
     pub show: Option<TestPart>,
     /// What ran of the programs is told behind the report on tests.
     pub covers: bool,
+    /// What ran of them is told as a tracefile of lcov, and the report stands on standard error.
+    pub is_tracefile: bool,
     /// Files that sections of tests name may lie anywhere, and not only in the folder of the tests or
     /// below.
     pub anywhere: bool,
@@ -103,5 +105,6 @@ pub const NO_OPTIONS: Options<'static> = Options {
     only: None,
     show: None,
     covers: false,
+    is_tracefile: false,
     anywhere: false,
 };
