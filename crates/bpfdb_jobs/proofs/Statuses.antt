@@ -1,8 +1,10 @@
 -- The exit status of a job that was done.
-use Rattle.std.proofs.Common.{ℕ, ◌≡◌, ◌≢◌, Bool, true, false, Option, Some, None, inl, inr, subst, sym}
+use Rattle.std.proofs.Common.{ℕ, ◌≡◌, ◌≢◌, Bool, true, false, Option, Some, None, Result, Ok, Err, ap, subst, sym}
 use Rattle.bpf_isa.specs.Programs.{Checked}
 use Rattle.bpf_session.specs.declared.fault.RunFault.{RunFault}
+use Rattle.bpf_suite.specs.declared.cover.CoverForm.{CoverForm}
 use Rattle.bpfdb_faults.specs.Streams.{Stream}
+use Rattle.bpfdb_faults.specs.declared.fault.JobFault.{JobFault}
 use Rattle.bpfdb_jobs.specs.Cases as batches
 use Rattle.bpfdb_jobs.specs.Done.{DoesAs, DoesJob, DoesPlain, Over, Unlinked}
 use Rattle.bpfdb_jobs.specs.Endings.{Broken, EndsPrinted, EndsSession, ErrLost, Exhausted, OutLost, Printed, Refused, Served}
@@ -17,26 +19,34 @@ use Rattle.bpfdb_options.specs.declared.subcommand.Subcommand.{Subcommand}
 use Rattle.bpfdb_options.specs.declared.subcommand.Subcommand.TheVariants.{Run, Trace, Debug, Origin, Whynot, Diff, Gdb, Asm, Disasm, Lines, Check, Link, Test, Batch}
 use Rattle.bpfdb_options.specs.declared.test_part.TestPart.{TestPart}
 
--- the status of a report, and of one behind which stands what ran
-reported_with : {W E : Type 0} (writer : Stream W) (errors : Stream E) (job : Job) (status : ℕ) → tests.EndsTests job writer errors status → status ≢ 2
-    → EndsTestWith None job status
-reported_with writer errors job status (tests.Reported asked outcomes are came out err is) other = (asked, outcomes, are, came, is)
-reported_with writer errors job status (tests.Refused refusal why w told two) other = absurd (other two)
-reported_with writer errors job status (tests.Exhausted w told two) other = absurd (other two)
-reported_with writer errors job status (tests.BrokenOff why asked are breaks told two) other = absurd (other two)
+-- the status of a report, and of one with which it is told what ran
+number_in : Result ℕ JobFault → ℕ
+number_in (Ok n) = n
+number_in (Err why) = 0
 
-tables_with : {W E : Type 0} (writer : Stream W) (errors : Stream E) (job : Job) (reported status : ℕ) → tests.EndsTables job reported writer errors status
-    → status ≢ 2 → EndsTestWith None job reported → EndsTestWith None job status
-tables_with writer errors job reported status (tests.Covered text covers out err is) other same = subst (EndsTestWith None job) (sym is) same
-tables_with writer errors job reported status (tests.Unfound w told two) other same = absurd (other two)
-tables_with writer errors job reported status (tests.Lost text covers out told two) other same = absurd (other two)
+reported_with : {W : Type 0} (writer : Stream W) (job : Job) (reported : ℕ) → tests.Reports job writer (Ok reported) → EndsTestWith None job reported
+reported_with writer job reported (tests.Reported asked outcomes are came out is) = (asked, outcomes, are, came, ap number_in is)
+reported_with writer job reported (tests.Refused refusal why w is) = cc
+reported_with writer job reported (tests.Exhausted w is) = cc
+reported_with writer job reported (tests.BrokenOff why asked are breaks is) = cc
 
-cover_with : {W E : Type 0} (writer : Stream W) (errors : Stream E) (covers : Bool) (job : Job) (status : ℕ) → tests.EndsCover covers job writer errors status
-    → status ≢ 2 → EndsTestWith None job status
-cover_with writer errors false job status ends other = reported_with writer errors job status ends other
-cover_with writer errors true job status (inl two) other = absurd (other two.1)
-cover_with writer errors true job status (inr both) other =
-    tables_with _ _ job both.reported status both.tables other (reported_with _ _ job both.reported both.report both.sound)
+told_with : {W E : Type 0} (writer : Stream W) (errors : Stream E) (form : CoverForm) (job : Job) (reported status : ℕ)
+    → tests.EndsTold form job reported writer errors status → status ≢ 2 → EndsTestWith None job reported → EndsTestWith None job status
+told_with writer errors form job reported status (tests.Covered text covers out err is) other same = subst (EndsTestWith None job) (sym is) same
+told_with writer errors form job reported status (tests.Unfound w told two) other same = absurd (other two)
+told_with writer errors form job reported status (tests.Lost text covers out told two) other same = absurd (other two)
+
+run_with : {W E : Type 0} (writer : Stream W) (errors : Stream E) (traced covers : Bool) (job : Job) (status : ℕ)
+    → tests.EndsRun traced covers job writer errors status → status ≢ 2 → EndsTestWith None job status
+run_with writer errors true covers job status (tests.Beside file middle reported named reports told) other =
+    told_with _ _ _ job reported status told other (reported_with _ job reported reports)
+run_with writer errors true covers job status (tests.Untraced why middle reports told same two) other = absurd (other two)
+run_with writer errors false true job status (tests.Behind middle reported reports told) other =
+    told_with _ _ _ job reported status told other (reported_with _ job reported reports)
+run_with writer errors false true job status (tests.Uncovered why reports told two) other = absurd (other two)
+run_with writer errors false false job status (tests.Done reported reports same is) other =
+    subst (EndsTestWith None job) (sym is) (reported_with _ job reported reports)
+run_with writer errors false false job status (tests.Undone why reports told two) other = absurd (other two)
 
 module _ {R W E : Type 0} (reader : Stream R) (writer : Stream W) (errors : Stream E) where
   session_with : (job : Job) (Serves : Checked → Type 0) (Breaks : Checked → RunFault → Type 0) (status : ℕ)
@@ -52,7 +62,7 @@ module _ {R W E : Type 0} (reader : Stream R) (writer : Stream W) (errors : Stre
 
   test_with : (show : Option TestPart) (job : Job) (status : ℕ) → EndsTest show job writer errors status → status ≢ 2
       → EndsTestWith show job status
-  test_with None job status ends other = cover_with writer errors job.options.covers job status ends other
+  test_with None job status ends other = run_with writer errors job.options.is_tracefile job.options.covers job status ends other
   test_with (Some part) job status (shown.Shown test bytes are shows out err is) other = (test, bytes, are, shows, is)
   test_with (Some part) job status (shown.Refused refusal why w told two) other = absurd (other two)
   test_with (Some part) job status (shown.Exhausted w told two) other = absurd (other two)

@@ -8,7 +8,7 @@ use Rattle.bpf_suite.specs.declared.shown.WordsFault.TheVariants as words
 use Rattle.bpfdb_faults.specs.Streams.{Gets, Loses, Stream, Told}
 use Rattle.bpfdb_faults.specs.Faults.{line_of}
 use Rattle.bpfdb_jobs.specs.Refusals.{RefusesTests}
-use Rattle.bpfdb_jobs.specs.Suites.{AreTestsOf, EndsCover}
+use Rattle.bpfdb_jobs.specs.Suites.{AreTestsOf, EndsRun}
 use Rattle.bpfdb_faults.specs.declared.fault.JobFault.{JobFault}
 use Rattle.bpfdb_faults.specs.declared.fault.JobFault.TheVariants as fault
 use Rattle.bpfdb_jobs.specs.declared.job.Job.{Job}
@@ -50,5 +50,5 @@ pub data EndsShown {W E : Type 0} (part : TestPart) (job : Job) (writer : Stream
 
 -- How a job of `test` ends, by the part that is to be shown, if there is one.
 abbrev pub EndsTest : {W E : Type 0} → Option TestPart → Job → Stream W → Stream E → ℕ → Type 0
-EndsTest None job writer errors status = EndsCover job.options.covers job writer errors status
+EndsTest None job writer errors status = EndsRun job.options.is_tracefile job.options.covers job writer errors status
 EndsTest (Some part) job writer errors status = EndsShown part job writer errors status

@@ -1,11 +1,13 @@
 -- What `test` comes to.
-use Rattle.std.specs.Prelude.{ℕ, ◌≡◌, ◌≢◌, ◌<◌, ◌⊎◌, Bool, true, false, List, ◌++◌, Option, Some, None, length}
+use Rattle.std.specs.Prelude.{ℕ, ◌≡◌, ◌<◌, Bool, true, false, List, ◌++◌, Option, Some, None, Result, Ok, Err, length}
 use Rattle.counted_io.specs.Counted.{Tally}
 use Rattle.bpf_suite.specs.Covers.{Covers, own_named}
 use Rattle.bpf_suite.specs.Faults.{file_fault}
 use Rattle.bpf_suite.specs.Files.{own_tests, sections, tests, until_name}
 use Rattle.bpf_suite.specs.Outcomes.{Outcome}
 use Rattle.bpf_suite.specs.Reports.{AreOutcomes, BreaksOff, all_pass, plan, tests_text}
+use Rattle.bpf_suite.specs.declared.cover.CoverForm.{CoverForm}
+use Rattle.bpf_suite.specs.declared.cover.CoverForm.TheVariants.{Tables, Tracefile}
 use Rattle.bpf_suite.specs.declared.fault.FileFault.{FileFault}
 use Rattle.bpf_suite.specs.declared.fault.FileFault.TheVariants as file
 use Rattle.bpf_suite.specs.declared.report.SuiteFault.{SuiteFault}
@@ -40,10 +42,10 @@ pub record AreTestsOf (job : Job) (asked : List (List Section)) : Type 0 where
   pub sound : file_fault job.file.now ≡ None
   pub asked_for : AreAsked job.options.only (tests (sections job.file.now)) asked
 
--- The tables of what ran of the programs, over these tests.
-abbrev pub CoversTests : Job → List ℕ → Type 0
-CoversTests job text = let s = sections job.file.now in
-    Covers (until_name s) (own_named job.options.only (until_name s) (own_tests s)) text
+-- What ran of the programs, over these tests, as tables or as a tracefile.
+abbrev pub CoversTests : CoverForm → Job → List ℕ → Type 0
+CoversTests form job text = let s = sections job.file.now in
+    Covers form (until_name s) (own_named job.options.only (until_name s) (own_tests s)) text
 
 -- Why the tests of a file aren't run.
 abbrev pub fault_of_file : FileFault → JobFault
@@ -55,37 +57,48 @@ abbrev pub fault_of_suite : SuiteFault → JobFault
 fault_of_suite suite.Memory = fault.Memory
 fault_of_suite suite.Write = fault.Output
 
--- How a job of `test` ends: its tests were run, and reported on; or its file was refused, or the name that is asked for, or memory ran out before,
--- and nothing was written; or memory ran out at a test, or standard output failed, and what stands are the plan and the reports on the tests before, or a beginning of them.
-pub data EndsTests {W E : Type 0} (job : Job) (writer : Stream W) (errors : Stream E) (status : ℕ) : Type 0 where
+-- What a report comes to: tests were run, and reported on; or their file was refused, or the name that is asked for, or memory ran out before,
+-- and nothing was written; or memory ran out at a test, or the writer failed, and what stands are the plan and the reports on the tests before, or
+-- a beginning of them.
+pub data Reports {W : Type 0} (job : Job) (writer : Stream W) (result : Result ℕ JobFault) : Type 0 where
   Reported : (asked : List (List Section)) (outcomes : List Outcome) → AreTestsOf job asked → AreOutcomes asked outcomes
-      → Gets writer (Some (report job.name.now asked outcomes)) → errors.new ≡ errors.old → status ≡ status_of (all_pass asked outcomes)
-      → EndsTests job writer errors status
-  Refused : (refusal : JobRefusal) → RefusesTests job refusal → writer.new ≡ writer.old → Told errors (line_of (fault.Refused refusal))
-      → status ≡ 2 → EndsTests job writer errors status
-  Exhausted : writer.new ≡ writer.old → Told errors (line_of fault.Memory) → status ≡ 2 → EndsTests job writer errors status
+      → Gets writer (Some (report job.name.now asked outcomes)) → result ≡ Ok (status_of (all_pass asked outcomes)) → Reports job writer result
+  Refused : (refusal : JobRefusal) → RefusesTests job refusal → writer.new ≡ writer.old → result ≡ Err (fault.Refused refusal)
+      → Reports job writer result
+  Exhausted : writer.new ≡ writer.old → result ≡ Err fault.Memory → Reports job writer result
   BrokenOff : (why : SuiteFault) (asked : List (List Section)) → AreTestsOf job asked
-      → BreaksOff writer.bytes why writer.old writer.new (plan (length asked)) job.name.now 1 asked
-      → Told errors (line_of (fault_of_suite why)) → status ≡ 2 → EndsTests job writer errors status
+      → BreaksOff writer.bytes why writer.old writer.new (plan (length asked)) job.name.now 1 asked → result ≡ Err (fault_of_suite why)
+      → Reports job writer result
+
+-- How a job of `test` ends that reports: with the status of its report; or it tells why there is none, and the status is 2.
+pub data EndsTests {W E : Type 0} (job : Job) (writer : Stream W) (errors : Stream E) (status : ℕ) : Type 0 where
+  Done : (reported : ℕ) → Reports job writer (Ok reported) → errors.new ≡ errors.old → status ≡ reported → EndsTests job writer errors status
+  Undone : (why : JobFault) → Reports job writer (Err why) → Told errors (line_of why) → status ≡ 2 → EndsTests job writer errors status
 
 -- How a job ends that reported on tests, with this status, and then tells what ran: that was written; or memory ran out, and no more was written;
 -- or standard output failed, which got a beginning.
-pub data EndsTables {W E : Type 0} (job : Job) (reported : ℕ) (writer : Stream W) (errors : Stream E) (status : ℕ) : Type 0 where
-  Covered : (text : List ℕ) → CoversTests job text → Gets writer (Some text) → errors.new ≡ errors.old → status ≡ reported
-      → EndsTables job reported writer errors status
-  Unfound : writer.new ≡ writer.old → Told errors (line_of fault.Memory) → status ≡ 2 → EndsTables job reported writer errors status
-  Lost : (text : List ℕ) → CoversTests job text → Loses writer (Some text) → Told errors (line_of fault.Output) → status ≡ 2
-      → EndsTables job reported writer errors status
+pub data EndsTold {W E : Type 0} (form : CoverForm) (job : Job) (reported : ℕ) (writer : Stream W) (errors : Stream E) (status : ℕ) : Type 0 where
+  Covered : (text : List ℕ) → CoversTests form job text → Gets writer (Some text) → errors.new ≡ errors.old → status ≡ reported
+      → EndsTold form job reported writer errors status
+  Unfound : writer.new ≡ writer.old → Told errors (line_of fault.Memory) → status ≡ 2 → EndsTold form job reported writer errors status
+  Lost : (text : List ℕ) → CoversTests form job text → Loses writer (Some text) → Told errors (line_of fault.Output) → status ≡ 2
+      → EndsTold form job reported writer errors status
 
--- How a job of `test` ends that tells what ran: behind the report, unless that has status 2.
-pub record EndsBoth {W E : Type 0} (job : Job) (writer : Stream W) (errors : Stream E) (status : ℕ) : Type 0 where
-  pub middle : Tally W
-  pub between : Tally E
-  pub reported : ℕ
-  pub report : EndsTests job (record writer { new = middle }) (record errors { new = between }) reported
-  pub sound : reported ≢ 2
-  pub tables : EndsTables job reported (record writer { old = middle }) (record errors { old = between }) status
+-- How a job of `test` ends that tells in tables what ran: they stand behind the report.
+pub data EndsCovered {W E : Type 0} (job : Job) (writer : Stream W) (errors : Stream E) (status : ℕ) : Type 0 where
+  Behind : (middle : Tally W) (reported : ℕ) → Reports job (record writer { new = middle }) (Ok reported)
+      → EndsTold Tables job reported (record writer { old = middle }) errors status → EndsCovered job writer errors status
+  Uncovered : (why : JobFault) → Reports job writer (Err why) → Told errors (line_of why) → status ≡ 2 → EndsCovered job writer errors status
 
-abbrev pub EndsCover : {W E : Type 0} → Bool → Job → Stream W → Stream E → ℕ → Type 0
-EndsCover false job writer errors status = EndsTests job writer errors status
-EndsCover true job writer errors status = (EndsTests job writer errors status × (status ≡ 2)) ⊎ EndsBoth job writer errors status
+-- How one ends that tells it as a tracefile over the file of this name: that is all of standard output, and the report stands on standard error.
+pub data EndsTraced {W E : Type 0} (job : Job) (writer : Stream W) (errors : Stream E) (status : ℕ) : Type 0 where
+  Beside : (file : Bor (List ℕ)) (middle : Tally E) (reported : ℕ) → file.now ≡ job.name.now → Reports job (record errors { new = middle }) (Ok reported)
+      → EndsTold (Tracefile file) job reported writer (record errors { old = middle }) status → EndsTraced job writer errors status
+  Untraced : (why : JobFault) (middle : Tally E) → Reports job (record errors { new = middle }) (Err why)
+      → Told (record errors { old = middle }) (line_of why) → writer.new ≡ writer.old → status ≡ 2 → EndsTraced job writer errors status
+
+-- By the options: a tracefile, or tables, or neither.
+abbrev pub EndsRun : {W E : Type 0} → Bool → Bool → Job → Stream W → Stream E → ℕ → Type 0
+EndsRun true covers job writer errors status = EndsTraced job writer errors status
+EndsRun false true job writer errors status = EndsCovered job writer errors status
+EndsRun false false job writer errors status = EndsTests job writer errors status

@@ -4,6 +4,7 @@
 mod against;
 mod batch;
 mod check;
+mod cover;
 mod debug;
 mod diff;
 mod dispatch;

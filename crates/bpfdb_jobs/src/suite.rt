@@ -6,15 +6,16 @@ ghost use Rattle.bpfdb_faults.specs.Streams.{Told, stream};
 ghost use Rattle.bpfdb_faults.specs.Faults.{line_of};
 ghost use Rattle.bpfdb_jobs.specs.Refusals.{LacksName};
 ghost use Rattle.bpfdb_jobs.specs.Shown.{EndsTest};
-ghost use Rattle.bpfdb_jobs.specs.Suites.{AreAsked, CoversTests, EndsCover, EndsTables, EndsTests, fault_of_file, fault_of_suite, report, status_of};
+ghost use Rattle.bpfdb_jobs.specs.Suites.{AreAsked, EndsRun, EndsTests, Reports, fault_of_file, fault_of_suite, report, status_of};
 ghost use Rattle.counted_io.specs.Writing.{Writes};
 
+use crate::cover::{cover_job, tracefile_job};
 use crate::job::Job;
 use crate::show::show_job;
 use bpf_suite::{FileFault, Suite, SuiteFault, TestList, choose, run_tests, write_plan};
-use bpfdb_faults::{JobFault, JobRefusal, give_up, write_out};
+use bpfdb_faults::{JobFault, JobRefusal, give_up};
 use counted_io::{Counted, WriteFault};
-use std::alloc::{AllocError, Global};
+use std::alloc::Global;
 use std::io::Write;
 
 /// Runs the tests of a file, or those of a name, and reports on each, or shows a part of one.
@@ -29,63 +30,30 @@ pub fn test_job<W: Write, E: Write>(
     ensures status { result ≤ 2 }
 {
     match job.options.show {
-        None => cover_job(alloc, job, writer, errors),
+        None => run_job(alloc, job, writer, errors),
         Some(part) => show_job(alloc, job, part, writer, errors),
     }
 }
 
 /// Runs the tests of a file, or those of a name, reports on each, and tells what ran of their
 /// programs, if that is asked.
-fn cover_job<W: Write, E: Write>(
+fn run_job<W: Write, E: Write>(
     alloc: Global,
     job: &Job<'_>,
     writer: &mut Counted<W>,
     errors: &mut Counted<E>,
 ) -> u8
-    ensures does { EndsCover job.now.options.covers job.now
+    ensures does { EndsRun job.now.options.is_tracefile job.now.options.covers job.now
         (stream W.contents writer.old writer.new) (stream E.contents errors.old errors.new) result }
     ensures status { result ≤ 2 }
 {
-    if !job.options.covers {
-        return report_job(alloc, job, writer, errors);
+    if job.options.is_tracefile {
+        return tracefile_job(alloc, job, writer, errors);
     }
-    let reported = report_job(alloc, job, writer, errors);
-    if reported == 2 {
-        return reported;
-    }
-    tell_cover(alloc, job, reported, writer, errors)
-}
-
-/// Tells what ran of the programs of tests, which were reported on with this status.
-fn tell_cover<W: Write, E: Write>(
-    alloc: Global,
-    job: &Job<'_>,
-    reported: u8,
-    writer: &mut Counted<W>,
-    errors: &mut Counted<E>,
-) -> u8
-    requires { reported ≤ 2 }
-    ensures does { EndsTables job.now reported (stream W.contents writer.old writer.new)
-        (stream E.contents errors.old errors.new) result }
-    ensures status { result ≤ 2 }
-{
-    let text = match cover_of(alloc, job) {
-        Ok(text) => text,
-        Err(_) => return give_up(errors, &JobFault::Memory),
-    };
-    match write_out(writer, text.as_slice()) {
-        Ok(()) => reported,
-        Err(WriteFault) => give_up(errors, &JobFault::Output),
-    }
-}
-
-/// The tables of what ran of the programs of tests. (The file was read before: it has no fault.)
-fn cover_of(alloc: Global, job: &Job<'_>) -> Result<Vec<u8>, AllocError>
-    ensures { IfOk result (λ text. CoversTests job.now text.items) }
-{
-    match Suite::read(alloc, job.file) {
-        Ok(suite) => suite.cover(alloc, job.options.only),
-        Err(_) => Err(AllocError),
+    if job.options.covers {
+        cover_job(alloc, job, writer, errors)
+    } else {
+        report_job(alloc, job, writer, errors)
     }
 }
 
@@ -100,21 +68,37 @@ fn report_job<W: Write, E: Write>(
         (stream E.contents errors.old errors.new) result }
     ensures status { result ≤ 2 }
 {
+    match report_on(alloc, job, writer) {
+        Ok(reported) => reported,
+        Err(why) => give_up(errors, &why),
+    }
+}
+
+/// Runs the tests of a file, or those of a name, and writes the report on each. Answers the exit
+/// status, or why there is no report on all.
+pub fn report_on<'a, W: Write>(
+    alloc: Global,
+    job: &Job<'a>,
+    writer: &mut Counted<W>,
+) -> Result<u8, JobFault<'a>>
+    ensures reports { Reports job.now (stream W.contents writer.old writer.new) result }
+    ensures status { IfOk result (λ reported. reported ≤ 1) }
+{
     let suite = match Suite::read(alloc, job.file) {
         Ok(suite) => suite,
-        Err(fault) => return refuse(errors, fault),
+        Err(fault) => return Err(fault_of_file(fault)),
     };
     let tests = match suite.tests(alloc) {
         Ok(tests) => tests,
-        Err(_) => return give_up(errors, &JobFault::Memory),
+        Err(_) => return Err(JobFault::Memory),
     };
     let asked = match asked_tests(job.options.only, tests) {
         Ok(asked) => asked,
-        Err(refusal) => return give_up(errors, &JobFault::Refused(refusal)),
+        Err(refusal) => return Err(JobFault::Refused(refusal)),
     };
     match run_suite(alloc, job.name.as_bytes(), &asked, writer) {
-        Ok(passed) => status_of(passed),
-        Err(why) => give_up(errors, &fault_of_suite(why)),
+        Ok(passed) => Ok(status_of(passed)),
+        Err(why) => Err(fault_of_suite(why)),
     }
 }
 
@@ -147,22 +131,28 @@ fn fault_of_suite<'a>(why: SuiteFault) -> JobFault<'a>
     }
 }
 
+/// The fault of a file of which no test is run.
+fn fault_of_file<'a>(fault: FileFault) -> JobFault<'a>
+    ensures { result ≡ fault_of_file fault }
+{
+    match fault {
+        FileFault::Line(fault, line) => JobFault::Refused(JobRefusal::Tests(fault, line)),
+        FileFault::Memory => JobFault::Memory,
+    }
+}
+
 /// Tells why no test is run of a file. Answers the exit status, 2.
 pub fn refuse<E: Write>(errors: &mut Counted<E>, fault: FileFault) -> u8
     ensures value { result ≡ 2 }
     ensures told { Told (stream E.contents errors.old errors.new) (line_of (fault_of_file fault)) }
 {
-    match fault {
-        FileFault::Line(fault, line) => {
-            give_up(errors, &JobFault::Refused(JobRefusal::Tests(fault, line)))
-        }
-        FileFault::Memory => give_up(errors, &JobFault::Memory),
-    }
+    give_up(errors, &fault_of_file(fault))
 }
 
 /// The exit status by whether all tests passed.
 fn status_of(passed: bool) -> u8
-    ensures { result ≡ status_of passed }
+    ensures value { result ≡ status_of passed }
+    ensures status { result ≤ 1 }
 {
     if passed { 0 } else { 1 }
 }

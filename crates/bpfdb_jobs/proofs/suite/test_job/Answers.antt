@@ -6,8 +6,8 @@ use Rattle.bpfdb_jobs.proofs.suite.test_job.Goals as goal
 
 pub returns-in-None-clause-does : goal.returns-in-None-clause-does
 returns-in-None-clause-does g c =
-    subst (λ (part : Option TestPart). EndsTest part c.args.job.now (stream g.W.Write.contents c.args.writer.now c.cover_job.new.writer)
-    (stream g.E.Write.contents c.args.errors.now c.cover_job.new.errors) c.cover_job.result) (sym c.in-None.is) c.cover_job.ensures.does
+    subst (λ (part : Option TestPart). EndsTest part c.args.job.now (stream g.W.Write.contents c.args.writer.now c.run_job.new.writer)
+    (stream g.E.Write.contents c.args.errors.now c.run_job.new.errors) c.run_job.result) (sym c.in-None.is) c.run_job.ensures.does
 
 pub returns-in-Some-clause-does : goal.returns-in-Some-clause-does
 returns-in-Some-clause-does g c =

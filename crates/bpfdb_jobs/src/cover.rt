@@ -1,0 +1,84 @@
+//! What a job of `test` does that tells what ran.
+ghost use Rattle.std.specs.Prelude.{◌≡◌, ◌≤◌, IfOk};
+ghost use Rattle.bpfdb_faults.specs.Streams.{stream};
+ghost use Rattle.bpfdb_jobs.specs.Suites.{CoversTests, EndsCovered, EndsTold, EndsTraced};
+
+use crate::job::Job;
+use crate::suite::report_on;
+use bpf_suite::{CoverForm, Suite};
+use bpfdb_faults::{JobFault, give_up, write_out};
+use counted_io::{Counted, WriteFault};
+use std::alloc::{AllocError, Global};
+use std::io::Write;
+
+/// Reports on the tests of a file, or on those of a name, and tells behind it what ran.
+pub fn cover_job<W: Write, E: Write>(
+    alloc: Global,
+    job: &Job<'_>,
+    writer: &mut Counted<W>,
+    errors: &mut Counted<E>,
+) -> u8
+    ensures does { EndsCovered job.now (stream W.contents writer.old writer.new)
+        (stream E.contents errors.old errors.new) result }
+    ensures status { result ≤ 2 }
+{
+    match report_on(alloc, job, writer) {
+        Ok(reported) => tell_cover(alloc, job, &CoverForm::Tables, reported, writer, errors),
+        Err(why) => give_up(errors, &why),
+    }
+}
+
+/// Reports on the tests of a file, or on those of a name, on standard error, and writes what ran as a
+/// tracefile.
+pub fn tracefile_job<W: Write, E: Write>(
+    alloc: Global,
+    job: &Job<'_>,
+    writer: &mut Counted<W>,
+    errors: &mut Counted<E>,
+) -> u8
+    ensures does { EndsTraced job.now (stream W.contents writer.old writer.new)
+        (stream E.contents errors.old errors.new) result }
+    ensures status { result ≤ 2 }
+{
+    match report_on(alloc, job, errors) {
+        Ok(reported) => {
+            let form = CoverForm::Tracefile(job.name.as_bytes());
+            tell_cover(alloc, job, &form, reported, writer, errors)
+        }
+        Err(why) => give_up(errors, &why),
+    }
+}
+
+/// Tells what ran of the programs of tests, which were reported on with this status.
+fn tell_cover<W: Write, E: Write>(
+    alloc: Global,
+    job: &Job<'_>,
+    form: &CoverForm<'_>,
+    reported: u8,
+    writer: &mut Counted<W>,
+    errors: &mut Counted<E>,
+) -> u8
+    requires { reported ≤ 2 }
+    ensures does { EndsTold form.now job.now reported (stream W.contents writer.old writer.new)
+        (stream E.contents errors.old errors.new) result }
+    ensures status { result ≤ 2 }
+{
+    let text = match cover_of(alloc, job, form) {
+        Ok(text) => text,
+        Err(_) => return give_up(errors, &JobFault::Memory),
+    };
+    match write_out(writer, text.as_slice()) {
+        Ok(()) => reported,
+        Err(WriteFault) => give_up(errors, &JobFault::Output),
+    }
+}
+
+/// What ran of the programs of tests. (The file was read before: it has no fault.)
+fn cover_of(alloc: Global, job: &Job<'_>, form: &CoverForm<'_>) -> Result<Vec<u8>, AllocError>
+    ensures { IfOk result (λ text. CoversTests form.now job.now text.items) }
+{
+    match Suite::read(alloc, job.file) {
+        Ok(suite) => suite.cover(alloc, job.options.only, form),
+        Err(_) => Err(AllocError),
+    }
+}
