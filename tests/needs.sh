@@ -21,6 +21,7 @@ emacs emacs-nox elpa-dap-mode node-vscode-debugprotocol
 fish fish
 gdb gdb
 gdb-multiarch gdb-multiarch
+genhtml lcov
 git git
 groff groff-base
 node nodejs

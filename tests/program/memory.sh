@@ -274,6 +274,30 @@ done
 table='# cover of the program in line 3: 2 of 2 instructions, 0 of 0 branches both ways\n'
 reports "$plan$one$two$cell$show$table" --cover
 said 'bpfdb test --cover' '0 lines\n1 lines\n2 lines\n9 lines\n'
+# With --cover-info the report stands on standard error, and behind it that memory ran out; then there is no tracefile, or else all of it.
+record='TN:\nSF:two.test\nDA:4,1\nDA:5,1\nLF:2\nLH:2\nBRF:0\nBRH:0\nend_of_record\n'
+: > met
+request=1 found=
+while [ "$found" != 1 ] && [ "$request" -le "$most" ]; do
+    for all in '' all; do
+        refuse "$request" "$all" test --cover-info two.test
+        if [ "$found" = 1 ]; then
+            check "bpfdb test --cover-info: request $request for memory refused, $all, and made again" 1 "$record" "$plan$one$two$cell$show"
+            continue
+        fi
+        lines=$(wc -l < found/err)
+        echo "$lines lines" >> met
+        case $lines in
+            1) reported= ;;
+            2) reported=$plan ;;
+            3) reported=$plan$one ;;
+            *) reported=$plan$one$two$cell$show ;;
+        esac
+        check "bpfdb test --cover-info: request $request for memory refused, $all" 2 '' "$reported$plain"
+    done
+    request=$((request + 1))
+done
+said 'bpfdb test --cover-info' '10 lines\n1 lines\n2 lines\n3 lines\n'
 wants "$plain" 0 'set cell 0 1 0102\ncontinue\n' '' test --show script --only b two.test
 wants "$plain" 0 '--maps=2x2\n--steps=1000000\n' '' test --show options --only a two.test
 wants "$plain" 0 'set reg r3 8\nset reg r4 1\ncontinue\n' '' test --show script kind.test

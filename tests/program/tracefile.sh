@@ -1,0 +1,140 @@
+# bpfdb test --cover-info: what ran as a tracefile of lcov on standard output, and the report on standard error. By hand, as lcov and genhtml read it, and
+# for tests at random against a machine and a reader of another form (tests/trials/tracefiles.py).
+
+# Worked out by hand from the listing: without bytes r2 is 0, so line 2 jumps to line 8; with two bytes it goes on to line 4, which goes on; with three line 4
+# jumps. Line 9 jumps to the slot behind it: it has one way, and no branches. The wide load of line 3 is one instruction.
+covered='-- listing\njlt r2, 2, short\nlddw r0, 5\njeq r2, 3, third\nja end\nthird: mov r0, 3\nend: exit\nshort: mov r0, 1\njne r2, 1, last\nlast: exit\n'
+two='-- name\ntwo\n-- mem\n0000\n-- result\n5\n'
+three='-- name\nthree\n-- mem\n000000\n-- result\n3\n'
+none='-- name\nnone\n-- result\n1\n'
+
+# traces NAME STATUS CONTENT RECORDS REPORT [ARGUMENT..]: a file of this content with --cover-info.
+traces() {
+    name=$1 status=$2 output=$4 errors=$5
+    printf -- "$3" > covered.test
+    shift 5
+    row "bpfdb test --cover-info: $name" "$status" '' "$output" "$errors" test --cover-info covered.test "$@"
+}
+begun='TN:\nSF:covered.test\n'
+traces 'one test' 0 "$covered$two" "${begun}DA:2,1\nBRDA:2,0,0,1\nBRDA:2,0,1,0\nDA:3,1\nDA:4,1\nBRDA:4,0,0,1\nBRDA:4,0,1,0\nDA:5,1\nDA:6,0\nDA:7,1\nDA:8,0\nDA:9,0\nDA:10,0\nLF:9\nLH:5\nBRF:4\nBRH:2\nend_of_record\n" '1..1\nok 1 - two\n'
+traces 'two tests' 0 "$covered$two$none" "${begun}DA:2,1\nBRDA:2,0,0,1\nBRDA:2,0,1,1\nDA:3,1\nDA:4,1\nBRDA:4,0,0,1\nBRDA:4,0,1,0\nDA:5,1\nDA:6,0\nDA:7,1\nDA:8,1\nDA:9,1\nDA:10,1\nLF:9\nLH:8\nBRF:4\nBRH:3\nend_of_record\n" '1..2\nok 1 - two\nok 2 - none\n'
+traces 'three tests, which run all' 0 "$covered$two$three$none" "${begun}DA:2,1\nBRDA:2,0,0,1\nBRDA:2,0,1,1\nDA:3,1\nDA:4,1\nBRDA:4,0,0,1\nBRDA:4,0,1,1\nDA:5,1\nDA:6,1\nDA:7,1\nDA:8,1\nDA:9,1\nDA:10,1\nLF:9\nLH:9\nBRF:4\nBRH:4\nend_of_record\n" '1..3\nok 1 - two\nok 2 - three\nok 3 - none\n'
+last="${begun}DA:2,1\nBRDA:2,0,0,0\nBRDA:2,0,1,1\nDA:3,0\nDA:4,0\nBRDA:4,0,0,-\nBRDA:4,0,1,-\nDA:5,0\nDA:6,0\nDA:7,0\nDA:8,1\nDA:9,1\nDA:10,1\nLF:9\nLH:4\nBRF:4\nBRH:1\nend_of_record\n"
+traces 'a test of a name alone' 0 "$covered$two$three$none" "$last" '1..1\nok 1 - none\n' --only none
+traces 'a test that fails' 1 '# It fails.\n-- listing\nexit\n-- result\n1\n' "${begun}DA:3,1\nLF:1\nLH:1\nBRF:0\nBRH:0\nend_of_record\n" "1..1\nnot ok 1\n# the test in line 2\n# came: exited at 0: r0 0x0\n# wanted: result 1\n# debug: bpfdb-show '' 'covered.test'\n"
+traces 'a step that faults ran' 0 '-- listing\nldxb r0, [r1+0]\nexit\n-- fault\naccess 0x0 at 0\n' "${begun}DA:2,1\nDA:3,0\nLF:2\nLH:1\nBRF:0\nBRH:0\nend_of_record\n" '1..1\nok 1\n'
+traces 'the limit of steps' 0 '-- listing\nmov r1, 1\nja on\non: exit\n-- steps\n2\n-- limit\nat 2\n' "${begun}DA:2,1\nDA:3,1\nDA:4,0\nLF:3\nLH:2\nBRF:0\nBRH:0\nend_of_record\n" '1..1\nok 1\n'
+traces 'lines without an instruction, and carriage returns' 0 '\n-- result\r\n4\r\n-- listing\r\n; A comment.\r\nlabel:\r\n\r\nagain: mov r0, 4\r\n   ; Another.\r\nexit ; The end.\r\n\r\n' "${begun}DA:8,1\nDA:10,1\nLF:2\nLH:2\nBRF:0\nBRH:0\nend_of_record\n" '1..1\nok 1\n'
+traces 'a branch back' 0 '-- listing\nmov r0, 3\nagain: sub r0, 1\njne r0, 0, again\nexit\n-- result\n0\n' "${begun}DA:2,1\nDA:3,1\nDA:4,1\nBRDA:4,0,0,1\nBRDA:4,0,1,1\nDA:5,1\nLF:4\nLH:4\nBRF:2\nBRH:2\nend_of_record\n" '1..1\nok 1\n'
+traces 'a program that is refused' 0 '-- words\n95\n-- refused\nC3\n' '' '1..1\nok 1\n'
+traces 'a listing that is none' 0 '-- listing\nfrob\n-- refused\nA1\n' '' '1..1\nok 1\n'
+words() {
+    printf '# the program in line %s is no listing: it has no lines here\\n' "$1"
+}
+traces 'words' 0 '-- words\n9500000000000000\n-- result\n0\n' "$(words 1)" '1..1\nok 1\n'
+traces 'programs of tests, behind that which the others share' 0 "${covered}-- name\na\n-- words\n9500000000000000\n-- result\n0\n-- name\nb\n-- listing\nmov r0, 1\nexit\n-- result\n1\n$none" "$last$(words 13)${begun}DA:20,1\nDA:21,1\nLF:2\nLH:2\nBRF:0\nBRH:0\nend_of_record\n" '1..3\nok 1 - a\nok 2 - b\nok 3 - none\n'
+traces 'beside --cover' 0 "$covered$none" "$last" '1..1\nok 1 - none\n' --cover
+traces 'a part of a test' 0 "$covered$none" '--steps=1000000\n' '' --show options
+traces 'no test' 2 "$covered$none" '' 'refused T7: no test of this name: b\n' --only b
+traces 'a file with a fault' 2 '-- listing\nexit\n' '' 'refused T6 at line 1: test without an expectation\n'
+row 'bpfdb test --cover-info of a file that is not there' 2 '' '' 'cannot read missing\n' test --cover-info missing
+# (a name that would end its line, or a record: it is spelled out, as other names are)
+name=$(printf 'a\nend_of_record\nSF:b')
+printf -- '-- listing\nexit\n-- result\n0\n' > "$name"
+row 'bpfdb test --cover-info of a name with line feeds' 0 '' 'TN:\nSF:a\\x0aend_of_record\\x0aSF:b\nDA:2,1\nLF:1\nLH:1\nBRF:0\nBRH:0\nend_of_record\n' '1..1\nok 1\n' test --cover-info "$name"
+if has_clang 'bpfdb test --cover-info of an object'; then
+    printf 'int f(void *context) { return 2; }\n' > two.c
+    clang -g -O2 -target bpf -c two.c -o two.o 2> found/err || complain "two.c: $(cat found/err)"
+    traces 'an object' 0 '-- object two.o\n-- result\n2\n' "$(words 1)" '1..1\nok 1\n'
+fi
+
+# Where the output, or standard error, takes nothing.
+if [ -c /dev/full ]; then
+    printf -- "$covered$none" > covered.test
+    "$program" test --cover-info covered.test > /dev/full 2> found/err
+    echo $? > found/status
+    : > found/out
+    check 'bpfdb test --cover-info with a full output' 2 '' '1..1\nok 1 - none\ncannot write output\n'
+    "$program" test --cover-info covered.test > found/out 2> /dev/full
+    echo $? > found/status
+    : > found/err
+    check 'bpfdb test --cover-info with a full standard error' 2 '' ''
+fi
+
+# What lcov makes of it: rates that are known of the rows above, of a file with two records of the same name that come twice (their lines add up), and pages.
+if has genhtml 'tracefiles by lcov'; then
+    # rates NAME LINES BRANCHES: what genhtml tells of the tracefile cover.info.
+    rates() {
+        count=$((count + 1))
+        genhtml --branch-coverage --output-directory pages cover.info > told 2>&1 || complain "genhtml: $1: $(cat told)"
+        grep -q -F "($2 lines)" told && grep -q -F "($3 branches)" told || complain "genhtml: $1: $(cat told)"
+    }
+    "$program" test --cover-info covered.test > cover.info 2> /dev/null
+    rates 'a program' '4 of 9' '1 of 4'
+    printf -- "$covered$two$three" > covered.test
+    "$program" test --cover-info --only two covered.test > cover.info 2> /dev/null
+    "$program" test --cover-info --only three covered.test >> cover.info 2> /dev/null
+    rates 'records of one file' '6 of 9' '3 of 4'
+    printf -- "${covered}-- name\na\n-- words\n9500000000000000\n-- result\n0\n-- name\nb\n-- listing\nmov r0, 1\nexit\n-- result\n1\n$none" > covered.test
+    "$program" test --cover-info covered.test > cover.info 2> /dev/null
+    rates 'several programs of a file' '6 of 11' '1 of 4'
+    cp "$top"/examples/suite/*.test "$parts"/suites/*.test .
+    for file in *.test; do
+        "$program" test --cover-info "$file" > cover.info 2> /dev/null
+        grep -q '^DA:' cover.info || continue
+        lines=$(awk -F: '$1 == "LF" { found += $2 } $1 == "LH" { hit += $2 } END { print hit " of " found }' cover.info)
+        branches=$(awk -F: '$1 == "BRF" { found += $2 } $1 == "BRH" { hit += $2 } END { print hit " of " found }' cover.info)
+        case $branches in
+        *' of 0')
+            count=$((count + 1))
+            genhtml --branch-coverage --output-directory pages cover.info > told 2>&1 && grep -q -F "($lines lines)" told || complain "genhtml: $file: $(cat told)"
+            ;;
+        *) rates "$file" "$lines" "$branches" ;;
+        esac
+    done
+fi
+
+# Tests at random.
+if has python3 'tracefiles of tests at random'; then
+    python3 "$top/tests/trials/tracefiles.py" "$program" . > told 2>&1 || complain 'tests/trials/tracefiles.py'
+    grep -a -v '^[0-9]* trials$' told
+    failures=$((failures + $(grep -a -c '^FAILED: ' told)))
+    count=$((count + $(sed -n 's/^\([0-9]*\) trials$/\1/p' told)))
+fi
+
+# A program of 65,535 slots, and 10,000 tests of one program and with one each: the tracefile costs what the file is long.
+{
+    printf -- '-- listing\n'
+    yes 'mov r0, 1' | head -n 65534
+    printf 'exit\n'
+    awk 'BEGIN { for (i = 1; i <= 2; i++) print "-- name\nx\n-- result\n1" }'
+} > covered.test
+awk 'BEGIN {
+    print "TN:\nSF:covered.test"
+    for (i = 2; i <= 65536; i++) print "DA:" i ",1"
+    print "LF:65535\nLH:65535\nBRF:0\nBRH:0\nend_of_record"
+}' > wanted/out
+printf '1..2\nok 1 - x\nok 2 - x\n' > wanted/err
+echo 0 > wanted/status
+: > script
+(
+    ulimit -t 3
+    failures=0
+    run test --cover-info covered.test
+    compare 'bpfdb test --cover-info of 65,535 slots'
+    {
+        printf -- '-- listing\n'
+        yes 'mov r0, 1' | head -n 20000
+        printf 'exit\n'
+        awk 'BEGIN { for (i = 1; i <= 10000; i++) print "-- name\nx\n-- listing\nexit\n-- result\n0" }'
+    } > covered.test
+    awk 'BEGIN {
+        for (i = 1; i <= 10000; i++) print "TN:\nSF:covered.test\nDA:" 20000 + 6 * i ",1\nLF:1\nLH:1\nBRF:0\nBRH:0\nend_of_record"
+    }' > wanted/out
+    awk 'BEGIN { print "1..10000"; for (i = 1; i <= 10000; i++) print "ok " i " - x" }' > wanted/err
+    run test --cover-info covered.test
+    compare 'bpfdb test --cover-info of 10,000 programs'
+    exit "$failures"
+)
+failures=$((failures + $?))
+count=$((count + 2))
