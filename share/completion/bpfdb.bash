@@ -76,7 +76,7 @@ _bpfdb() {
     check) words="--maps --listing --object --section --entry --entries --stub --as-compiled -h --help" ;;
     link) words="--section --entry --entries --stub --as-compiled --packet --with --joined -h --help" ;;
     gdb) words="-m --mem --maps --journal --steps --listing --object --registers --section --entry --entries --stub --as-compiled -h --help" ;;
-    test) words="--only --show --cover --anywhere -h --help" ;;
+    test) words="--only --show --cover --cover-info --anywhere -h --help" ;;
     batch) words="--maps --steps -h --help" ;;
     shell) words="-m --mem --maps --journal --steps --listing --object --section --entry --entries --stub --as-compiled --packet -h --help" ;;
     page) words="-m --mem --maps --steps --strict --listing --section --entry --entries --stub --as-compiled --packet -o --output --from --count --title --object -h --help" ;;

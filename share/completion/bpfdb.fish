@@ -93,6 +93,7 @@ complete -c bpfdb -n "__fish_seen_subcommand_from diff" -l writes -d "What both 
 complete -c bpfdb -n "__fish_seen_subcommand_from test" -l only -x -a "(__bpfdb_of_file only)" -d "The tests of this name are run alone"
 complete -c bpfdb -n "__fish_seen_subcommand_from test" -l show -x -a "program context options script" -d "A part of the one test that is asked for is written to standard output"
 complete -c bpfdb -n "__fish_seen_subcommand_from test" -l cover -d "What no test ran is told behind the report"
+complete -c bpfdb -n "__fish_seen_subcommand_from test" -l cover-info -d "What ran is all of standard output"
 complete -c bpfdb -n "__fish_seen_subcommand_from test" -l anywhere -d "Files that tests name may lie outside of the folder of FILE"
 complete -c bpfdb -s h -l help -d "Writes help to standard output"
 complete -c bpfdb-shell -s h -l help -d "Writes help to standard output"
