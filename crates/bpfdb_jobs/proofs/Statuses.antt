@@ -20,7 +20,7 @@ use Rattle.bpfdb_options.specs.declared.subcommand.Subcommand.TheVariants.{Run, 
 use Rattle.bpfdb_options.specs.declared.test_part.TestPart.{TestPart}
 
 -- the status of a report, and of one with which it is told what ran
-number_in : Result ℕ JobFault → ℕ
+abbrev number_in : Result ℕ JobFault → ℕ
 number_in (Ok n) = n
 number_in (Err why) = 0
 

@@ -55,8 +55,8 @@ returns-in-Ok-run_suite-clause-reports g c =
     Reported c.in-Ok-asked_tests.asked o.0 record { sound = s.1; asked_for = rw ts at c.in-Ok-asked_tests.ensures.asked } o.1 (o.3.ok, o.3.same)
     (ap (λ (status : ℕ). Ok status) (c.status_of.ensures.value ∙ ap status_of o.2))
 
-pub returns-in-Err-run_suite-clause-reports : goal.returns-in-Err-run_suite-clause-reports
-returns-in-Err-run_suite-clause-reports g c =
+pub returns-clause-reports : goal.returns-clause-reports
+returns-clause-reports g c =
     let s = c.in-Ok.ensures.ok in
     let ts : c.in-Ok-tests.tests ≡ tests (sections c.args.job.now.file.now) = c.in-Ok-tests.ensures ∙ ap tests s.0 in
     rw c.fault_of_suite.ensures (BrokenOff c.in-Err-run_suite.why c.in-Ok-asked_tests.asked

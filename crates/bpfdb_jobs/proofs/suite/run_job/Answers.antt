@@ -10,12 +10,12 @@ module _ {W E : Type 0} (writer : Stream W) (errors : Stream E) (job : Job) (sta
   traced t b is ends = subst (λ (t : Bool). EndsRun t b job writer errors status) (sym is) ends
 
   covered : (t b : Bool) → t ≡ false → b ≡ true → EndsCovered job writer errors status → EndsRun t b job writer errors status
-  covered t b no is ends =
-      subst (λ (t : Bool). EndsRun t b job writer errors status) (sym no) (subst (λ (b : Bool). EndsRun false b job writer errors status) (sym is) ends)
+  covered t b off is ends =
+      subst (λ (t : Bool). EndsRun t b job writer errors status) (sym off) (subst (λ (b : Bool). EndsRun false b job writer errors status) (sym is) ends)
 
   reported : (t b : Bool) → t ≡ false → b ≡ false → EndsTests job writer errors status → EndsRun t b job writer errors status
-  reported t b no not ends =
-      subst (λ (t : Bool). EndsRun t b job writer errors status) (sym no) (subst (λ (b : Bool). EndsRun false b job writer errors status) (sym not) ends)
+  reported t b off none ends =
+      subst (λ (t : Bool). EndsRun t b job writer errors status) (sym off) (subst (λ (b : Bool). EndsRun false b job writer errors status) (sym none) ends)
 
 pub returns-then-job-clause-does : goal.returns-then-job-clause-does
 returns-then-job-clause-does g c =
