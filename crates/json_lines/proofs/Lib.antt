@@ -1,0 +1,4 @@
+pub mod Cuts
+pub mod Pieces
+pub mod Steps
+pub mod Turns

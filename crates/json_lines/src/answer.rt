@@ -1,0 +1,22 @@
+//! What an answer is of.
+
+/// What was asked, by which lines have their shapes.
+#[derive(Clone, Copy)]
+pub enum Answer {
+    /// What `run` prints.
+    Value,
+    /// What `trace`, `origin`, `whynot` and `diff` print.
+    Run,
+    /// What `trace --profile` prints.
+    Profile,
+    /// What `check` prints.
+    Check,
+    /// What `disasm` prints.
+    Listing,
+    /// What `lines` prints of a listing.
+    Lines,
+    /// What `lines` prints of an object.
+    Sources,
+    /// What `test` prints.
+    Report,
+}
