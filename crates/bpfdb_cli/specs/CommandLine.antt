@@ -168,6 +168,10 @@ cover_info_rule = record (new_rule (codes "cover-info")) { long = Some (codes "c
 abbrev pub anywhere_rule : Rule
 anywhere_rule = record (new_rule (codes "anywhere")) { long = Some (codes "anywhere"); action = Some SetTrue }
 
+-- `--json`: an object of JSON a line.
+abbrev pub json_rule : Rule
+json_rule = record (new_rule (codes "json")) { long = Some (codes "json"); action = Some SetTrue }
+
 -- WHAT, behind FILE: what is asked about.
 abbrev pub what_rule : Rule
 what_rule = record (new_rule (codes "what")) { index = Some 2; value_names = 1 }
@@ -196,11 +200,12 @@ with_file_kinds app = with_link_rules (with_rule (with_rule app listing_rule) ob
 
 -- The subcommands and their options.
 abbrev pub run_app : App
-run_app = with_rule (with_file_kinds (with_rule (with_rule (with_rule (with_rule (new_app (codes "run")) mem_rule) maps_rule) steps_rule) strict_rule)) file_rule
+run_app = with_rule (with_rule (with_file_kinds (with_rule (with_rule (with_rule (with_rule (new_app (codes "run"))
+    mem_rule) maps_rule) steps_rule) strict_rule)) json_rule) file_rule
 
 abbrev pub trace_app : App
-trace_app = with_rule (with_file_kinds (with_rule (with_rule (with_rule (with_rule (with_rule (with_rule (with_rule (with_rule (new_app (codes "trace"))
-    mem_rule) maps_rule) steps_rule) from_rule) count_rule) branches_rule) profile_rule) strict_rule)) file_rule
+trace_app = with_rule (with_rule (with_file_kinds (with_rule (with_rule (with_rule (with_rule (with_rule (with_rule (with_rule (with_rule (new_app (codes "trace"))
+    mem_rule) maps_rule) steps_rule) from_rule) count_rule) branches_rule) profile_rule) strict_rule)) json_rule) file_rule
 
 abbrev pub debug_app : App
 debug_app = with_rule (with_file_kinds (with_rule (with_rule (with_rule (with_rule (new_app (codes "debug"))
@@ -210,21 +215,20 @@ abbrev pub asm_app : App
 asm_app = with_rule (new_app (codes "asm")) file_rule
 
 abbrev pub disasm_app : App
-disasm_app = with_rule (with_file_kinds (with_rule (new_app (codes "disasm")) maps_rule)) file_rule
+disasm_app = with_rule (with_rule (with_file_kinds (with_rule (new_app (codes "disasm")) maps_rule)) json_rule) file_rule
 
 abbrev pub lines_app : App
-lines_app = with_rule (with_rule (with_link_rules (with_rule (new_app (codes "lines")) object_rule)) with_functions_rule) file_rule
+lines_app = with_rule (with_rule (with_rule (with_link_rules (with_rule (new_app (codes "lines")) object_rule)) with_functions_rule) json_rule) file_rule
 
 abbrev pub check_app : App
-check_app = with_rule (with_file_kinds (with_rule (new_app (codes "check")) maps_rule)) file_rule
+check_app = with_rule (with_rule (with_file_kinds (with_rule (new_app (codes "check")) maps_rule)) json_rule) file_rule
 
 abbrev pub link_app : App
 link_app = with_rule (with_rule (with_rule (with_rule (with_link_rules (new_app (codes "link"))) packet_rule) with_functions_rule) joined_rule) file_rule
 
 abbrev pub test_app : App
-test_app =
-    with_rule (with_rule (with_rule (with_rule (with_rule (with_rule (new_app (codes "test")) only_rule) show_rule) cover_rule) cover_info_rule) anywhere_rule)
-    file_rule
+test_app = with_rule (with_rule (with_rule (with_rule (with_rule (with_rule (with_rule (new_app (codes "test"))
+    only_rule) show_rule) cover_rule) cover_info_rule) anywhere_rule) json_rule) file_rule
 
 -- `gdb` opens a session as `debug` does, over a larger journal.
 abbrev pub gdb_app : App
@@ -233,18 +237,18 @@ gdb_app = with_rule (with_rule (with_file_kinds (with_rule (with_rule (with_rule
 
 -- `origin` runs the program as `debug` does, over that journal, too.
 abbrev pub origin_app : App
-origin_app = with_rule (with_rule (with_rule (with_rule (with_rule (with_file_kinds (with_rule (with_rule (with_rule (with_rule (with_rule (new_app (codes "origin"))
-    mem_rule) maps_rule) gdb_journal_rule) steps_rule) script_rule)) lines_rule) addresses_rule) branches_rule) what_rule) file_rule
+origin_app = with_rule (with_rule (with_rule (with_rule (with_rule (with_rule (with_file_kinds (with_rule (with_rule (with_rule (with_rule (with_rule (new_app (codes "origin"))
+    mem_rule) maps_rule) gdb_journal_rule) steps_rule) script_rule)) lines_rule) addresses_rule) branches_rule) json_rule) what_rule) file_rule
 
 -- `whynot` does so, too.
 abbrev pub whynot_app : App
-whynot_app = with_rule (with_rule (with_rule (with_rule (with_rule (with_file_kinds (with_rule (with_rule (with_rule (with_rule (with_rule (new_app (codes "whynot"))
-    mem_rule) maps_rule) gdb_journal_rule) steps_rule) script_rule)) lines_rule) addresses_rule) alone_rule) goal_rule) file_rule
+whynot_app = with_rule (with_rule (with_rule (with_rule (with_rule (with_rule (with_file_kinds (with_rule (with_rule (with_rule (with_rule (with_rule (new_app (codes "whynot"))
+    mem_rule) maps_rule) gdb_journal_rule) steps_rule) script_rule)) lines_rule) addresses_rule) alone_rule) json_rule) goal_rule) file_rule
 
 -- `diff` runs two programs, or one on two contexts or along a trace, as `run` does.
 abbrev pub diff_app : App
-diff_app = with_rule (with_rule (with_file_kinds (with_rule (with_rule (with_rule (with_rule (with_rule (with_rule (new_app (codes "diff"))
-    mem_rule) other_mem_rule) other_trace_rule) maps_rule) steps_rule) writes_rule)) other_rule) file_rule
+diff_app = with_rule (with_rule (with_rule (with_file_kinds (with_rule (with_rule (with_rule (with_rule (with_rule (with_rule (new_app (codes "diff"))
+    mem_rule) other_mem_rule) other_trace_rule) maps_rule) steps_rule) writes_rule)) json_rule) other_rule) file_rule
 
 -- `batch` runs cases as `run` does.
 abbrev pub batch_app : App

@@ -125,6 +125,7 @@ pub record Says (name : Text) (rows : List Row) (plan : Plan) : Type 0 where
   pub counts : map (λ s. s.now) plan.counts.items ≡ counts_in rows
   pub few_counts : length (counts_in rows) ≤ most_counts
   pub options : Chooses rows plan.options
+  pub json : plan.json ≡ is_given (first_of (codes "json") rows)
 
 -- A number that is given is one below 2^64.
 abbrev pub IsNumber : Option Text → Type 0
@@ -163,7 +164,8 @@ abbrev pub writes_fit : List Row → Bool
 writes_fit rows = not (is_given (first_of (codes "writes") rows) && is_some (first_of (codes "trace") rows))
 
 -- Options go together: an object is no listing and has maps of its own, of a link is asked only where an object is linked, `diff` is told
--- of one other side, steps that are counted are those of a run that isn't strict, programs in turn have numbers, and so have maps.
+-- of one other side, steps that are counted are those of a run that isn't strict, programs in turn have numbers, and so have maps, and a part of a
+-- test and a tracefile are written as they are.
 abbrev pub link_fits : Text → List Row → Bool
 link_fits name rows = if is_given (first_of (codes "object") rows)
     then not (is_given (first_of (codes "listing") rows)) && not (is_some (first_of (codes "maps") rows))
@@ -175,8 +177,17 @@ run_fits name rows = if bytes_eq name (codes "diff") then names_other rows && (w
 abbrev pub counts_strictly : List Row → Bool
 counts_strictly rows = is_given (first_of (codes "strict") rows) && is_given (first_of (codes "profile") rows)
 
+abbrev pub shows_json : List Row → Bool
+shows_json rows = is_some (first_of (codes "show") rows) && is_given (first_of (codes "json") rows)
+
+abbrev pub is_json_tracefile : List Row → Bool
+is_json_tracefile rows = is_given (first_of (codes "cover-info") rows) && is_given (first_of (codes "json") rows)
+
+abbrev pub told_fits : Text → List Row → Bool
+told_fits name rows = not (shows_json rows) && (not (is_json_tracefile rows) && run_fits name rows)
+
 abbrev pub go_together : Text → List Row → Bool
-go_together name rows = entries_fit rows && (are_counts (counts_in rows) && (not (counts_strictly rows) && run_fits name rows))
+go_together name rows = entries_fit rows && (are_counts (counts_in rows) && (not (counts_strictly rows) && told_fits name rows))
 
 -- A plan says what a subcommand's matches say, with numbers in their ranges and options that go together.
 pub record IsPlanOf (name : Text) (rows : List Row) (plan : Plan) : Type 0 where

@@ -127,6 +127,7 @@ fn argument_of<'a>(alloc: Global, option: CliOption) -> Arg<'a>
         CliOption::Cover => flag(alloc, "cover", help::COVER),
         CliOption::CoverInfo => flag(alloc, "cover-info", help::COVER_INFO),
         CliOption::Anywhere => flag(alloc, "anywhere", help::ANYWHERE),
+        CliOption::Json => flag(alloc, "json", help::JSON),
         CliOption::What => Arg::new(alloc, "what")
             .index(2)
             .value_name("WHAT")

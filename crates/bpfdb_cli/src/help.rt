@@ -525,6 +525,9 @@ pub const COVER: &str = "Tells which instructions and branches no test ran";
 /// `--cover-info`.
 pub const COVER_INFO: &str = "Writes what ran as lcov reads it, and the report to stderr";
 
+/// `--json`.
+pub const JSON: &str = "Writes an object of JSON for each line";
+
 /// `--anywhere`.
 pub const ANYWHERE: &str = "Reads files that tests name also outside of their folder";
 

@@ -7,7 +7,7 @@ ghost use Rattle.clap.specs.Words.{Row, Text, first_of, found_of, rows_of, subco
 ghost use Rattle.bpfdb_limits.specs.Limits.{IsLimit};
 ghost use Rattle.bpfdb_options.specs.Lines.{most_further};
 ghost use Rattle.bpfdb_cli.specs.Scaffolding.{AskAlike};
-ghost use Rattle.bpfdb_cli.specs.Plans.{AreInRange, Chooses, HasKindIfTold, IsFaultOf, IsPlan, IsPlanOf, NamesPart, NamesRegisters, Says, Tells, asks_of_link, counts_strictly, go_together, is_given, link_fits, names_other, number_or, other_in, run_fits, given_or, NamesPacket, counts_in, entries_fit, further_in, has_offset, most_counts, names_side, writes_fit};
+ghost use Rattle.bpfdb_cli.specs.Plans.{AreInRange, Chooses, HasKindIfTold, IsFaultOf, IsPlan, IsPlanOf, NamesPart, NamesRegisters, Says, Tells, asks_of_link, counts_strictly, go_together, is_given, link_fits, names_other, number_or, other_in, run_fits, given_or, NamesPacket, counts_in, entries_fit, further_in, has_offset, is_json_tracefile, most_counts, names_side, writes_fit, shows_json, told_fits};
 
 use crate::command_line::command_line;
 use crate::plans::{MOST_COUNTS, Plan, PlanFault};
@@ -45,6 +45,10 @@ const NO_OTHER: &str =
     "a second program, '[OTHER]', or '--other-mem <PATH>' or '--trace <PATH>' is needed";
 
 const STRICT_AND_PROFILE: &str = "the argument '--strict' cannot be used with '--profile'";
+
+const SHOW_AND_JSON: &str = "the argument '--show <PART>' cannot be used with '--json'";
+
+const TRACEFILE_AND_JSON: &str = "the argument '--cover-info' cannot be used with '--json'";
 
 const MANY_OBJECTS: &str = "the argument '--with <OBJECT>' is used more than 16 times";
 
@@ -181,6 +185,7 @@ fn plan_in<'a>(name: &'a str, found: &ArgMatches<'a>) -> Result<Plan<'a>, &'stat
         turns,
         counts,
         options,
+        json: is_given(text_of(found, "json")),
     })
 }
 
@@ -199,8 +204,38 @@ fn misfit_in(name: &str, found: &ArgMatches<'_>) -> Option<&'static str>
     if counts_strictly(found) {
         Some(STRICT_AND_PROFILE)
     } else {
+        misfit_of_text(name, found)
+    }
+}
+
+/// Why what is written isn't written as JSON, if it isn't: a part of a test and a tracefile are
+/// written as they are.
+fn misfit_of_text(name: &str, found: &ArgMatches<'_>) -> Option<&'static str>
+    ensures none { IfNone result (told_fits name.now (rows_of (found_of found.now)) ≡ true) }
+    ensures some { OnSome result (told_fits name.now (rows_of (found_of found.now)) ≡ false) }
+{
+    if shows_json(found) {
+        return Some(SHOW_AND_JSON);
+    }
+    if is_json_tracefile(found) {
+        Some(TRACEFILE_AND_JSON)
+    } else {
         misfit_of_run(name, found)
     }
+}
+
+/// Whether a part of a test is to be shown as JSON.
+fn shows_json(found: &ArgMatches<'_>) -> bool
+    ensures { result ≡ shows_json (rows_of (found_of found.now)) }
+{
+    text_of(found, "show").is_some() && is_given(text_of(found, "json"))
+}
+
+/// Whether a tracefile is to be JSON.
+fn is_json_tracefile(found: &ArgMatches<'_>) -> bool
+    ensures { result ≡ is_json_tracefile (rows_of (found_of found.now)) }
+{
+    is_given(text_of(found, "cover-info")) && is_given(text_of(found, "json"))
 }
 
 /// Whether the steps of a strict run are to be counted.

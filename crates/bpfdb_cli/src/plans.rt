@@ -30,6 +30,8 @@ pub struct Plan<'a> {
     /// How many entries maps of the object have, each as `NAME=N`.
     pub counts: ArrayVec<&'a str, MOST_COUNTS>,
     pub options: Options<'a>,
+    /// What is printed is told as objects of JSON, one a line.
+    pub json: bool,
 }
 
 /// Why a command line is no plan.
