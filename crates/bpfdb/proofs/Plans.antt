@@ -1,5 +1,5 @@
 -- The exit status of a plan.
-use Rattle.std.proofs.Common.{ℕ, ◌≡◌, ◌≢◌, ◌∙◌, Bool, true, false, List, Option, subst}
+use Rattle.std.proofs.Common.{ℕ, ◌≡◌, ◌≢◌, ◌∙◌, Bool, true, false, List, Option, Some, None, subst, sym}
 use Rattle.bpfdb_faults.specs.Streams.{Stream}
 use Rattle.bpfdb_cli.specs.declared.plans.Plan.{Plan}
 use Rattle.bpfdb_jobs.specs.Objects.{links_first}
@@ -8,10 +8,26 @@ use Rattle.bpfdb_jobs.proofs.Statuses.{ends_with}
 use Rattle.bpfdb_jobs.specs.declared.job.Job.{Job}
 use Rattle.bpfdb_options.specs.declared.subcommand.Subcommand.{Subcommand}
 use Rattle.bpfdb_options.specs.declared.subcommand.Subcommand.TheVariants.{Debug}
+use Rattle.bpfdb_jobs.specs.Done.{DoesJob}
+use Rattle.json_lines.specs.declared.answer.Answer.{Answer}
+use Rattle.bpfdb.specs.Telling.{DoesJson, DoesTold, ErrLost, Exhausted, OutLost, Tells, Written, answer_of}
 use Rattle.bpfdb.specs.Files.{Contents}
 use Rattle.bpfdb.specs.Done.{DoesCounted, DoesOver, DoesPlan, DoesReplaced, Done, EndsPlanWith, Over, Replaced, Uncounted, Unread, Unreplaced, Unturned, With}
 
--- It is that of the plan's job, unless it is 2.
+-- It is that of the plan's job, unless it is 2, told as JSON or not.
+ends_json_with : {R W E : Type 0} (reader : Stream R) (writer : Stream W) (errors : Stream E) (answer : Answer) (job : Job) (status : ℕ)
+    → DoesJson answer job reader writer errors status → status ≢ 2 → EndsWith job.subcommand job status
+ends_json_with reader writer errors answer job status (Exhausted out told done does kept said two) other = absurd (other two)
+ends_json_with reader writer errors answer job status (Tells text err done tells (OutLost lost said two)) other = absurd (other two)
+ends_json_with reader writer errors answer job status (Tells text err done tells (ErrLost gets lost two)) other = absurd (other two)
+ends_json_with reader writer errors answer job status (Tells text err done tells (Written gets said same)) other =
+    ends_with reader tells.out tells.told job.subcommand job status (subst (λ (s : ℕ). DoesJob job.subcommand job reader tells.out tells.told s) (sym same) tells.does) other
+
+ends_told_with : {R W E : Type 0} (reader : Stream R) (writer : Stream W) (errors : Stream E) (answer : Option Answer) (job : Job) (status : ℕ)
+    → DoesTold answer job reader writer errors status → status ≢ 2 → EndsWith job.subcommand job status
+ends_told_with reader writer errors None job status does other = ends_with reader writer errors job.subcommand job status does other
+ends_told_with reader writer errors (Some answer) job status does other = ends_json_with reader writer errors answer job status does other
+
 ends_over_with : {R W E : Type 0} (reader : Stream R) (writer : Stream W) (errors : Stream E) (at_terminal : Bool) (plan : Plan)
     (of : Contents) (status : ℕ)
     → DoesOver at_terminal plan of reader writer errors status → status ≢ 2 → EndsPlanWith plan status
@@ -21,7 +37,7 @@ ends_over_with reader writer errors at_terminal plan of status (Over bytes job f
   of = record of { file = bytes };
   job = job;
   is = is;
-  ends = ends_with reader writer (record errors { new = does.told }) job.subcommand job status does.does other;
+  ends = ends_told_with reader writer (record errors { new = does.told }) (answer_of plan) job status does.does other;
 }
 
 ends_counted_with : {R W E : Type 0} (reader : Stream R) (writer : Stream W) (errors : Stream E) (at_terminal : Bool) (plan : Plan)

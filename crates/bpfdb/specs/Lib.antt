@@ -4,4 +4,5 @@ pub mod Files
 pub mod Tests
 pub mod Turns
 pub mod Jobs
+pub mod Telling
 pub mod Words

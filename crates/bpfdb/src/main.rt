@@ -15,6 +15,7 @@ mod input;
 mod job;
 mod opening;
 mod prompt;
+mod telling;
 mod tests;
 mod turns;
 mod words;

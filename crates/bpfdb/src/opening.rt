@@ -58,6 +58,7 @@ pub fn first_plan() -> Plan<'static>
         turns: ArrayVec::new(),
         counts: ArrayVec::new(),
         options: NO_OPTIONS,
+        json: false,
     }
 }
 
