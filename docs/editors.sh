@@ -101,7 +101,7 @@ of_jobs() {
             n = split($5, jobs, ", ")
             for (i = 1; i <= n; i++) has[jobs[i]] = has[jobs[i]] names
             if ($5 ~ /debug|link/ && $1 !~ /^(with|joined)/) has["shell"] = has["shell"] names
-            if ($5 ~ /^run|link/ && $1 !~ /^(with|joined|object)/) has["page"] = has["page"] names
+            if ($5 ~ /^run|link/ && $1 !~ /^(with|joined|object|json)/) has["page"] = has["page"] names
         }
         END {
             order[++count] = "shell"
@@ -236,7 +236,7 @@ TEXT
             n = split($5, jobs, ", ")
             for (i = 1; i <= n; i++) has[jobs[i]] = has[jobs[i]] " " one
             if ($5 ~ /debug|link/ && $1 !~ /^(with|joined)/) has["shell"] = has["shell"] " " one
-            if ($5 ~ /^run|link/ && $1 !~ /^(with|joined|object)/) has["page"] = has["page"] " " one
+            if ($5 ~ /^run|link/ && $1 !~ /^(with|joined|object|json)/) has["page"] = has["page"] " " one
         }
         END {
             order[++count] = "shell"
@@ -323,7 +323,7 @@ TEXT
             where = jobs == "each" ? "" : jobs == "bpfdb alone" ? " -n __fish_use_subcommand" : " -n \"__fish_seen_subcommand_from " jobs "\""
             printf "complete -c bpfdb%s%s%s -d \"%s\"\n", where, names, takes, $4
             if (jobs ~ /debug|link|each/ && names !~ /-l (with|joined)/) printf "complete -c bpfdb-shell%s%s -d \"%s\"\n", names, takes, $4
-            if (jobs ~ /^run|link|each/ && names !~ /-l (with|joined|object)/) printf "complete -c bpfdb-page%s%s -d \"%s\"\n", names, takes, $4
+            if (jobs ~ /^run|link|each/ && names !~ /-l (with|joined|object|json)/) printf "complete -c bpfdb-page%s%s -d \"%s\"\n", names, takes, $4
             if (jobs == "each") printf "complete -c bpfdb-dap -f%s%s -d \"%s\"\n", names, takes, $4
         }
     ' "$work/jobs" "$work/options"

@@ -24,6 +24,7 @@ gdb-multiarch gdb-multiarch
 genhtml lcov
 git git
 groff groff-base
+jq jq
 node nodejs
 python3 python3
 tcpdump tcpdump

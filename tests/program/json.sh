@@ -1,0 +1,178 @@
+# Answers as objects of JSON. What is wanted is worked out by hand from the lines that the other parts hold: each kind of line, once. Then the answers of
+# all listings, tests and objects of these folders, and of programs at random, read by Python's json and held against a model of another form, regular
+# expressions over the lines that are printed without --json (tests/trials/jsons.py).
+
+listing p.s 'mov r1, 4;stxdw [r10-8], r1;mov r2, 3;ldxdw r0, [r10-8];add r0, r2;exit'
+tells 0 '{"kind":"result","r0":"0x7"}\n' run --json --listing p.s
+tells 0 '{"kind":"ok","instructions":6,"slots":6}\n' check --listing --json p.s
+tells 0 '{"kind":"step","step":1,"slot":0,"insn":"mov r1, 4","parts":[{"part":"r1","value":"0x4"}]}
+{"kind":"step","step":2,"slot":1,"insn":"stxdw [r10-8], r1","parts":[{"part":"0x2000001f8:8","value":"0x4"}]}
+{"kind":"exited","slot":5,"r0":"0x7"}\n' trace --json --listing --count 2 p.s
+tells 0 '{"kind":"step","step":6,"slot":5,"insn":"exit","parts":[]}
+{"kind":"exited","slot":5,"r0":"0x7"}\n' trace --json --listing --from 6 p.s
+tells 1 '{"kind":"limit","limit":3,"slot":3}\n' trace --json --listing --steps 3 --from 4 p.s
+tells 0 '{"kind":"exited","slot":5,"r0":"0x7"}
+{"kind":"move","moves":2,"slot":4,"insn":"add r0, r2","from":["r0","r2"],"parts":[{"part":"r0","value":"0x7"}]}
+{"kind":"move","moves":3,"slot":3,"insn":"ldxdw r0, [r10-8]","from":["0x2000001f8:8"],"parts":[{"part":"r0","value":"0x4"}]}
+{"kind":"move","moves":4,"slot":2,"insn":"mov r2, 3","parts":[{"part":"r2","value":"0x3"}]}
+{"kind":"move","moves":5,"slot":1,"insn":"stxdw [r10-8], r1","from":["r1"],"parts":[{"part":"0x2000001f8:8","value":"0x4"}]}
+{"kind":"move","moves":6,"slot":0,"insn":"mov r1, 4","parts":[{"part":"r1","value":"0x4"}]}\n' origin --json --listing p.s
+tells 1 '{"kind":"exited","slot":5,"r0":"0x7"}
+{"kind":"move","moves":2,"slot":4,"insn":"add r0, r2","from":["r0","r2"],"parts":[{"part":"r0","value":"0x7"}]}
+{"kind":"text","text":"cut: there are more lines"}\n' origin --json --listing --lines 1 p.s
+
+# What two runs leave.
+listing two.s 'stb [r1+0], 2;exit'
+listing three.s 'stb [r1+0], 3;exit'
+bytes byte 09
+tells 1 '{"kind":"ends","place":"0x100000000:1","here":"0x2","there":"0x3"}
+{"kind":"step","side":"<","step":1,"slot":0,"insn":"stb [r1+0], 2","parts":[{"part":"0x100000000:1","value":"0x2"}]}
+{"kind":"step","side":">","step":1,"slot":0,"insn":"stb [r1+0], 3","parts":[{"part":"0x100000000:1","value":"0x3"}]}
+{"kind":"exited","side":"<","slot":1,"r0":"0x0"}
+{"kind":"exited","side":">","slot":1,"r0":"0x0"}\n' diff --writes --json --listing -m byte two.s three.s
+tells 0 '{"kind":"same"}
+{"kind":"exited","side":"<","slot":1,"r0":"0x0"}
+{"kind":"exited","side":">","slot":1,"r0":"0x0"}\n' diff --writes --json --listing -m byte two.s two.s
+
+# Names of parts with blanks; a part without a value; parts before the slot.
+listing call.s 'mov r1, 7;stdw [r10-8], 0;callf f;atomic_fetch_add64 [r10-8], r1;add r0, r1;exit;f: mov r6, r1;add r6, r1;mov r0, r6;exit'
+tells 0 '{"kind":"step","step":3,"slot":2,"insn":"callf L6","parts":[{"part":"0x200000400:512"}]}
+{"kind":"step","step":4,"slot":6,"insn":"mov r6, r1","parts":[{"part":"r6 at depth 1","value":"0x7"}]}
+{"kind":"exited","slot":5,"r0":"0xe"}\n' trace --json --listing --from 3 --count 2 call.s
+tells 0 '{"kind":"exited","slot":5,"r0":"0xe"}
+{"kind":"move","moves":2,"slot":4,"insn":"add r0, r1","from":["r0","r1"],"parts":[{"part":"r0","value":"0xe"}]}
+{"kind":"move","moves":3,"slot":3,"insn":"atomic_fetch_add64 [r10-8], r1","from":["r1","0x2000001f8:8"],"parts":[{"part":"r1","value":"0x0"},{"part":"0x2000001f8:8","value":"0x7"}]}
+{"kind":"move","moves":5,"slot":8,"insn":"mov r0, r6","from":["r6 at depth 1"],"parts":[{"part":"r0","value":"0xe"}]}
+{"kind":"move","moves":6,"slot":7,"insn":"add r6, r1","from":["r6 at depth 1","r1"],"parts":[{"part":"r6 at depth 1","value":"0xe"}]}
+{"kind":"move","moves":7,"slot":6,"insn":"mov r6, r1","from":["r1"],"parts":[{"part":"r6 at depth 1","value":"0x7"}]}
+{"kind":"move","moves":9,"slot":1,"insn":"stdw [r10-8], 0","parts":[{"part":"0x2000001f8:8","value":"0x0"}]}
+{"kind":"move","moves":10,"slot":0,"insn":"mov r1, 7","parts":[{"part":"r1","value":"0x7"}]}\n' origin --json --listing call.s r0
+
+# Branches, of a trace and of an answer; a byte of the context.
+listing first.s 'jeq r1, 0, none;ldxb r0, [r1+0];exit;none: mov r0, 1;exit'
+bytes context 09
+tells 0 '{"kind":"step","step":1,"slot":0,"insn":"jeq r1, 0, L3","way":"went on","parts":[{"part":"r1","value":"0x100000000"}]}
+{"kind":"exited","slot":2,"r0":"0x9"}\n' trace --json --branches -m context --listing first.s
+tells 0 '{"kind":"exited","slot":2,"r0":"0x9"}
+{"kind":"move","moves":2,"slot":1,"insn":"ldxb r0, [r1+0]","from":["0x100000000:1"],"parts":[{"part":"r0","value":"0x9"}]}
+{"kind":"left","byte":0,"since":"opening","parts":[{"part":"0x100000000","value":"0x9"}]}
+{"kind":"move","moves":3,"slot":0,"insn":"jeq r1, 0, L3","way":"went on","parts":[{"part":"r1","value":"0x100000000"}]}
+{"kind":"text","text":"no other branch; at the opening"}\n' origin --json --branches -m context --listing first.s
+tells 0 '{"kind":"exited","slot":4,"r0":"0x1"}
+{"kind":"move","moves":3,"slot":0,"insn":"jeq r1, 0, L3","way":"jumped","to":3,"parts":[{"part":"r1","value":"0x0"}]}
+{"kind":"at","slot":0,"insn":"jeq r1, 0, L3"}
+{"kind":"left","since":"opening","parts":[{"part":"r1","value":"0x0"}]}\n' whynot --json --listing first.s 1
+tells 0 '{"kind":"exited","slot":4,"r0":"0x1"}\n{"kind":"reached","moves":2}\n' whynot --json --listing first.s none
+tells 0 '{"kind":"at","slot":3,"insn":"mov r0, 1"}\n{"kind":"text","text":"it can still be reached"}\n' whynot --json --listing --steps 1 first.s 3,4
+tells 0 '{"kind":"ran","count":1,"slot":0,"insn":"jeq r1, 0, L3"}
+{"kind":"ran","count":0,"slot":1,"insn":"ldxb r0, [r1+0]"}
+{"kind":"ran","count":0,"slot":2,"insn":"exit"}
+{"kind":"ran","count":1,"slot":3,"insn":"mov r0, 1"}
+{"kind":"ran","count":1,"slot":4,"insn":"exit"}
+{"kind":"exited","slot":4,"r0":"0x1"}\n' trace --json --profile --listing first.s
+tells 0 '{"kind":"insn","insn":"jeq r1, 0, L3"}
+{"kind":"insn","insn":"ldxb r0, [r1+0]"}
+{"kind":"insn","insn":"exit"}
+{"kind":"label","label":"L3"}
+{"kind":"insn","insn":"mov r0, 1"}
+{"kind":"insn","insn":"exit"}\n' disasm --json --listing first.s
+tells 0 '{"kind":"line","slot":0,"line":1,"labels":[]}
+{"kind":"line","slot":1,"line":2,"labels":[]}
+{"kind":"line","slot":2,"line":3,"labels":[]}
+{"kind":"line","slot":3,"line":4,"labels":["none"]}
+{"kind":"line","slot":4,"line":5,"labels":[]}\n' lines --json first.s
+listing labels.s 'a:;b:;c: exit'
+tells 0 '{"kind":"line","slot":0,"line":3,"labels":["a","b","c"]}\n' lines --json labels.s
+
+# Edits, by a script.
+printf 'stepi 1\nset reg r0 5\nset pc 2\n' > edits
+tells 0 '{"kind":"at","slot":2,"insn":"exit"}
+{"kind":"move","moves":2,"way":"edit","parts":[{"part":"r0","value":"0x5"}]}\n' origin --json --script edits --listing first.s
+tells 0 '{"kind":"at","slot":2,"insn":"exit"}
+{"kind":"move","moves":1,"way":"edit","to":2,"parts":[]}\n' whynot --json --script edits --listing first.s none
+
+# Two runs, and a run against traces.
+listing port.s 'ldxb r2, [r1+0];jne r2, 4, out;mov r0, 1;out: exit'
+bytes four 04
+bytes five 05
+tells 1 '{"kind":"parting","step":1,"how":"wrote otherwise"}
+{"kind":"step","side":"<","step":1,"slot":0,"insn":"ldxb r2, [r1+0]","parts":[{"part":"r2","value":"0x4"}]}
+{"kind":"step","side":">","step":1,"slot":0,"insn":"ldxb r2, [r1+0]","parts":[{"part":"r2","value":"0x5"}]}
+{"kind":"parting","step":3,"how":"went elsewhere"}
+{"kind":"step","side":"<","step":3,"slot":2,"insn":"mov r0, 1","parts":[{"part":"r0","value":"0x1"}]}
+{"kind":"step","side":">","step":3,"slot":3,"insn":"exit","parts":[]}
+{"kind":"exited","side":"<","slot":3,"r0":"0x1"}
+{"kind":"exited","side":">","slot":3,"r0":"0x0"}\n' diff --json --listing -m four --other-mem five port.s
+tells 0 '{"kind":"same","steps":4}\n{"kind":"exited","slot":3,"r0":"0x1"}\n' diff --json --listing -m four --other-mem four port.s
+printf '0 0x0 0x100000000 1 0 0 0 0 0 0 0 -\n1 0 0x100000000 5 0 0 0 0 0 0 0 -\n' > registers
+tells 1 '{"kind":"parting","step":2,"how":"is told otherwise"}
+{"kind":"registers","side":"<","slot":1,"registers":["0x0","0x100000000","0x4","0x0","0x0","0x0","0x0","0x0","0x0","0x0","0x200000200"]}
+{"kind":"registers","side":">","slot":1,"registers":["0","0x100000000","5","0","0","0","0","0","0","0","-"]}
+{"kind":"entry","entry":"r2","here":"0x4","there":"0x5","step":1,"slot":0,"insn":"ldxb r2, [r1+0]"}\n' diff --json --listing -m four --trace registers port.s
+
+# Faults and a strict run: lines on standard error stay what they are, and so do refusals.
+listing wild.s 'ldxb r0, [r1+0];exit'
+tells 1 '{"kind":"step","step":1,"slot":0,"insn":"ldxb r0, [r1+0]","parts":[]}\n{"kind":"fault","fault":"access 0x0","slot":0}\n' trace --json --listing wild.s
+stopped 'fault access 0x0 at 0' run --json --listing wild.s
+stopped 'step limit 1 reached at 1' run --json --steps 1 --listing p.s
+listing unread.s 'ldxb r0, [r10-1];exit'
+tells 1 '{"kind":"unwritten","address":"0x2000001ff","slot":0}\n' trace --json --strict --listing unread.s
+listing bad.s 'frob r0'
+refused 'refused A1 at line 1: unknown mnemonic' run --json --listing bad.s
+refused 'cannot read none.s' trace --json --listing none.s
+usage "unexpected argument '--json' found" link --json p.s
+usage "unexpected argument '--json' found" asm --json p.s
+usage "unexpected argument '--json' found" debug --json p.s
+usage "unexpected argument '--json' found" gdb --json p.s
+usage "unexpected argument '--json' found" batch --json
+usage "the argument '--show <PART>' cannot be used with '--json'" test --show program --json p.s
+usage "the argument '--cover-info' cannot be used with '--json'" test --cover-info --json p.s
+
+# A report, whose names have what JSON escapes.
+printf -- '-- listing\nmov r0, 2\njeq r0, 2, out\nmov r0, 3\nout: exit\n-- name\nsays "no" \\ never\n-- result\n3\n-- name\nna\303\257ve\n-- result\n2\n' > t.test
+"$program" test --json --cover t.test > found/out 2> found/err
+echo $? > found/status
+cat > wanted/out <<'END'
+{"kind":"plan","tests":2}
+{"kind":"failed","test":1,"name":"says \"no\" \\ never"}
+{"kind":"place","line":6}
+{"kind":"came","came":"exited at 3: r0 0x2"}
+{"kind":"wanted","wanted":"result 3"}
+{"kind":"debug","debug":"bpfdb-show 'says \"no\" \\ never' 't.test'"}
+{"kind":"passed","test":2,"name":"naïve"}
+{"kind":"cover","line":1,"ran":3,"instructions":4,"both":0,"branches":1}
+{"kind":"missed","never":"went on","slot":1,"insn":"jeq r0, 2, L3"}
+{"kind":"missed","never":"ran","slot":2,"insn":"mov r0, 3"}
+END
+echo 1 > wanted/status
+: > wanted/err
+compare 'a report as objects of JSON'
+
+# All that these folders have, and programs at random.
+if has python3 'answers as objects of JSON'; then
+    mkdir all
+    cp "$parts"/listings/*.s "$parts"/suites/*.test all
+    for file in "$top"/examples/*/*.s "$top"/examples/*/*.test; do
+        cp "$file" "all/$(basename "$(dirname "$file")")-$(basename "$file")"
+    done
+    if has_clang 'lines of objects as objects of JSON'; then
+        for source in "$parts"/c/*.c; do
+            name=$(basename "$source" .c)
+            clang -g -O2 -target bpf -c "$source" -o "all/$name.o" 2> found/err || rm -f "all/$name.o"
+        done
+    fi
+    python3 "$top/tests/trials/jsons.py" "$program" all 1 60 > trial 2>&1
+    echo $? > found/status
+    sed -n 's/^[0-9]* answers, [0-9]* lines, .*/held/p' trial > found/out
+    : > found/err
+    check 'answers as objects of JSON' 0 'held\n' '' || cat trial
+fi
+
+# jq reads them.
+if has jq 'answers read by jq'; then
+    "$program" trace --json --listing p.s | jq -r 'select(.kind == "step") | "\(.step) \(.slot): \(.insn)\(.parts | map("; \(.part) = \(.value)") | add // "")"' > found/out 2> found/err
+    "$program" trace --listing p.s | sed '$d' > wanted/out
+    echo 0 | tee found/status > wanted/status
+    : > wanted/err
+    compare 'lines of a trace, made again by jq'
+fi
