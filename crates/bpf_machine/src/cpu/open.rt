@@ -1,12 +1,13 @@
 //! Opening a machine.
 ghost use Rattle.std.specs.Prelude.{◌≡◌, ◌==◌, ◌∷◌, IfOk, IfErr, OnErr, OnOk, if◌then◌else◌, length, replicate, slice_index, take};
+ghost use Rattle.bpf_isa.specs.Checker.{IsAccepted};
 ghost use Rattle.bpf_steps.specs.Opening.{Opened, Refused};
 ghost use Rattle.bpf_steps.specs.Platform.{context_base, frame_pointer as frame_pointer_of};
 
 use super::Cpu;
 use arrayvec::ArrayVec;
 use bpf_entries::Status;
-use bpf_isa::Program;
+use bpf_isa::{MapTable, Program};
 use bpf_steps::platform::{CONTEXT_BASE, frame_pointer};
 use bpf_steps::{Memory, OpenFault, flats_of};
 use std::alloc::Global;
@@ -40,19 +41,39 @@ impl Cpu {
         })
     }
 
-    /// Opens the machine again on its program, with another context. Its memory is new, and what was
-    /// made of the program stays, so this takes no time in the program's length. A machine that
-    /// isn't opened stays as it was.
+    /// Opens the machine again on its program, with another context, as `reopen_with` does with the
+    /// program's own maps.
     pub fn reopen(&mut self, alloc: Global, context: &[u8]) -> Result<(), OpenFault>
         ensures ok { OnOk result (Opened self.old.program context.now self.new) }
         ensures err { IfErr result (Refused context.now) }
         ensures same { OnErr result (self.new ≡ self.old) }
     {
         self.invariant();
-        let memory = match Memory::open(alloc, self.program.maps(), context) {
+        let maps = self.program.maps().copied();
+        self.reopen_with(alloc, maps, context)
+    }
+
+    /// Opens the machine again on its program with other maps, with which the checker accepts its
+    /// words, and with a context. Its memory is new, and what was made of the program stays, so this
+    /// takes no time in the program's length. A machine that isn't opened stays as it was.
+    pub fn reopen_with(
+        &mut self,
+        alloc: Global,
+        maps: MapTable,
+        context: &[u8],
+    ) -> Result<(), OpenFault>
+        requires { IsAccepted self.old.program.bytes maps }
+        ensures ok { OnOk result
+            (Opened (record self.old.program { maps = maps }) context.now self.new) }
+        ensures err { IfErr result (Refused context.now) }
+        ensures same { OnErr result (self.new ≡ self.old) }
+    {
+        self.invariant();
+        let memory = match Memory::open(alloc, &maps, context) {
             Ok(memory) => memory,
             Err(fault) => return Err(fault),
         };
+        self.program.set_maps(maps);
         self.memory = memory;
         self.pc = 0;
         self.registers = opening_registers(context);
