@@ -83,6 +83,8 @@ def moved(text):
             told["to"] = int(m[1])
         elif m := re.fullmatch(r"jumped to (\d+)", piece):
             told |= {"way": "jumped", "to": int(m[1])}
+        elif m := re.fullmatch(r"in (.*)", piece):
+            told["name"] = m[1]
         elif m := re.fullmatch(r"byte (\d+) of the context", piece):
             told["byte"] = int(m[1])
         elif m := re.fullmatch(r"(?:at|before) the (.*)", piece):

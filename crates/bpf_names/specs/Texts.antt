@@ -47,7 +47,7 @@ told_in names line =
 -- The name stands behind the line.
 abbrev pub told_text : Names → Option Located → List ℕ
 told_text names None = []
-told_text names (Some at) = codes "; " ++ name_text names at
+told_text names (Some at) = codes "; in " ++ name_text names at
 
 unfoldable pub named_line : Names → List ℕ → List ℕ
 named_line names line = line ++ told_text names (told_in names line) ++ codes "\n"

@@ -82,7 +82,7 @@ fn put_told<W: Write>(
 {
     match told {
         Some(at) => {
-            let parted = put(writer, so_far, b"; ");
+            let parted = put(writer, so_far, b"; in ");
             put_name(writer, parted, names, at)
         }
         None => so_far,

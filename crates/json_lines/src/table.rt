@@ -7,7 +7,7 @@ use crate::answer::Answer;
 use crate::shape::{Field, Rest, Shape};
 
 /// What is told of a move besides its parts.
-const PIECES: [Shape; 6] = [
+const PIECES: [Shape; 7] = [
     Shape {
         kind: b"",
         begin: b"",
@@ -18,6 +18,12 @@ const PIECES: [Shape; 6] = [
         kind: b"",
         begin: b"then at ",
         fields: &[Field::Count(b"to", b"")],
+        rest: Rest::Nothing,
+    },
+    Shape {
+        kind: b"",
+        begin: b"in ",
+        fields: &[Field::Text(b"name", b"")],
         rest: Rest::Nothing,
     },
     Shape {
