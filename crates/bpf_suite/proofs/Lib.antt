@@ -8,6 +8,7 @@ pub mod Programs
 pub mod RegValues
 pub mod Reporting
 pub mod Shares
+pub mod Stocks
 pub mod Tests
 pub mod Told
 pub mod Trimming

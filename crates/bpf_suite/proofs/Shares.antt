@@ -111,13 +111,13 @@ cells-shared own shared has t is none same =
     ap cells_of (sym (body_for-shared part.Cells own shared (sym is ∙ none))) ∙ ap (λ (u : Setting). u.cells) (sym same)
 
 -- a bench behind a test that was run on it
-pub bench-after : {n : ℕ} (own shared : List Section) (read : List ℕ) (words : Result (List ℕ) AsmFault) (given after : List CellLine) (kept kept' : Option Image)
+pub bench-after : {n : ℕ} (own shared : List Section) (read : List ℕ) (words words' : Result (List ℕ) AsmFault) (given after : List CellLine) (kept kept' : Option Image)
     (before mine : Option (List ℕ)) (old new : Outcome) (t : Setting)
     → shares_program own ≡ true → IsBench shared read words given after kept before old → HasImage (cells shared) kept' → mine ≡ maps own → t ≡ limited n (setting (own ++ shared))
-    → Loads t new → IsBench shared read words given after kept' mine new
-bench-after {n = n} own shared read words given after kept kept' before mine old new t e bench image is same loads = record {
+    → Loads t new → words' ≡ words → IsBench shared read words' given after kept' mine new
+bench-after {n = n} own shared read words words' given after kept kept' before mine old new t e bench image is same loads alike = record {
   text = bench.text;
-  reads = bench.reads;
+  reads = subst (Reads (has_listing shared) (program shared)) (sym alike) bench.reads;
   values = bench.values;
   wanted = bench.wanted;
   image = image;

@@ -12,5 +12,6 @@ pub mod Refusals
 pub mod Regs
 pub mod Reports
 pub mod Shown
+pub mod Stocks
 pub mod Tests
 pub mod Verdicts

@@ -9,6 +9,7 @@ ghost use Rattle.bpf_suite.specs.Covers.{Finds, IsFound, Notes};
 ghost use Rattle.bpf_suite.specs.Images.{HasImage};
 ghost use Rattle.bpf_suite.specs.Outcomes.{Comes, Reads};
 ghost use Rattle.bpf_suite.specs.Reports.{AreTold};
+ghost use Rattle.bpf_suite.specs.Stocks.{StandsOn};
 ghost use Rattle.bpf_suite.specs.Tests.{body_for, cells as cells_of, has_listing, limit, limited, program as program_of, program_line, setting};
 ghost use Rattle.bpf_suite.specs.Verdicts.{wrong_cells};
 ghost use Rattle.bpf_suite.specs.declared.cells.Cell.{Cell};
@@ -25,6 +26,7 @@ use crate::outcome::{loaded, outcome_by_image, outcome_on};
 use crate::refusal::Refusal;
 use crate::section::{Section, Text, are_same};
 use crate::setting::{Setting, setting_of};
+use crate::stock::Stock;
 use crate::test::{Test, has_part, lines_in, maps_in};
 use crate::values::{WrongCells, wrong_cells};
 use crate::words::{Words, words_of};
@@ -42,7 +44,8 @@ pub struct Bench<'b, 'a> {
     shared: &'b [Section<'a>],
     /// A listing, or the bytes of words.
     program: Vec<u8>,
-    words: Result<Words, AsmFault>,
+    /// Its words.
+    stock: Stock,
     /// The cells that get values, and what is wanted of cells.
     cells: Vec<CellLine<'a>>,
     wanted: Wanted<'a>,
@@ -63,7 +66,7 @@ impl<'b, 'a> Model for Bench<'b, 'a> {
 
     ghost view = { λ b. record { sections = b.shared.now; machine = b.machine } };
 
-    ghost invariant = { λ b. IsBench b.shared.now b.program.items b.words b.cells.items
+    ghost invariant = { λ b. IsBench b.shared.now b.program.items b.stock b.cells.items
         b.wanted b.image b.maps b.machine };
 }
 
@@ -81,7 +84,7 @@ impl<'b, 'a> Bench<'b, 'a> {
         Ok(Bench {
             shared,
             program,
-            words,
+            stock: Stock::of(words),
             cells,
             wanted: Wanted::of(wanted),
             image: None,
@@ -210,8 +213,8 @@ impl<'b, 'a> Bench<'b, 'a> {
         Ok(found)
     }
 
-    /// Runs a test of the shared program, for at most so many steps, on the machine, which is made
-    /// anew where it has other maps than the test before.
+    /// Runs a test of the shared program, for at most so many steps, on the machine, which gets the
+    /// test's maps where the test before had others.
     fn run_for(
         &mut self,
         alloc: Global,
@@ -239,7 +242,7 @@ impl<'b, 'a> Bench<'b, 'a> {
         );
         let maps = maps_in(own.sections);
         let stands = are_same(&self.maps, &maps);
-        bring(alloc, &mut self.machine, stands, &setting, &self.words)?;
+        bring(alloc, &mut self.machine, stands, &setting, &mut self.stock)?;
         self.maps = maps;
         let shares = gets_shared(has_own, self.cells.as_slice());
         run_on(alloc, &mut self.machine, &setting, shares, &mut self.image)
@@ -387,17 +390,19 @@ fn bring(
     machine: &mut Result<Cpu, Refusal>,
     stands: bool,
     setting: &Setting<'_, '_>,
-    words: &Result<Words, AsmFault>,
+    stock: &mut Stock,
 ) -> Result<(), AllocError>
-    requires words { Reads setting.now.is_listing setting.now.program words.now }
+    requires words { Reads setting.now.is_listing setting.now.program stock.old }
+    requires machine { StandsOn stock.old machine.old }
     requires stands { stands ≡ true → Loads setting.now machine.old }
     ensures ok { OnOk result (Loads setting.now machine.new) }
     ensures err { OnErr result (machine.new ≡ machine.old) }
+    ensures same { stock.new ≡ stock.old }
 {
-    if !stands {
-        *machine = loaded(alloc, setting, words)?;
+    if stands {
+        return Ok(());
     }
-    Ok(())
+    stock.bring(alloc, machine, setting)
 }
 
 /// What a program comes to on a machine of its own.

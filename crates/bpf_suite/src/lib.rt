@@ -17,6 +17,7 @@ mod report;
 mod section;
 mod setting;
 mod shown;
+mod stock;
 mod suite;
 mod test;
 mod values;

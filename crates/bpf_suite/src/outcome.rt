@@ -28,7 +28,7 @@ use std::alloc::{AllocError, Global};
 use std::io::{Write, sink};
 
 /// The map table.
-fn maps_of(setting: &Setting<'_, '_>) -> Result<MapTable, Refusal>
+pub fn maps_of(setting: &Setting<'_, '_>) -> Result<MapTable, Refusal>
     ensures ok { IfOk result (HasMaps setting.now.maps) }
     ensures err { IfErr result (RefusesProgram setting.now) }
 {

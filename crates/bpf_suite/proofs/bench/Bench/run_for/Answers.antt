@@ -7,6 +7,7 @@ use Rattle.bpf_suite.specs.Images.{HasImage}
 use Rattle.bpf_suite.specs.Tests.{body_for, cells, limited, maps, program, setting}
 use Rattle.bpf_suite.specs.declared.kind.Part.TheVariants as part
 use Rattle.bpf_suite.proofs.Shares.{bench-after, cells-shared, lines-chosen, loads-again, shared-program, words-again}
+use Rattle.bpf_suite.proofs.Stocks.{stands-on}
 use Rattle.bpf_suite.proofs.bench.Bench.run_for.Goals as goal
 
 pub setting_of-setting-requires-clause-program : goal.setting_of-setting-requires-clause-program
@@ -37,6 +38,9 @@ bring-requires-clause-words c =
     let test : c.test-test.result ≡ own ++ shared = c.test-test.ensures ∙ ap (λ s. own ++ s) (sym here) in
     let same = c.setting_of-setting.ensures ∙ ap (λ s. limited c.args.limit (setting s)) test in
     words-again own shared _ _ _ _ _ _ _ _ c.requires c.self.invariant same
+
+pub bring-requires-clause-machine : goal.bring-requires-clause-machine
+bring-requires-clause-machine c = stands-on c.self.inside.shared.now _ _ _ _ _ _ _ c.self.invariant
 
 pub bring-requires-clause-stands : goal.bring-requires-clause-stands
 bring-requires-clause-stands c =
@@ -69,4 +73,5 @@ invariant_of-self-2 c =
     let has = c.has_part-has_own.ensures ∙ ap (has_part part.Cells) c.own.view_is in
     let same = c.setting_of-setting.ensures ∙ ap (λ s. limited c.args.limit (setting s)) test in
     let image = c.run_on.ensures.image (cells shared) (λ yes. cells-shared own shared _ _ has (c.gets_shared-shares.ensures yes) same) c.self.invariant.image in
-    bench-after own shared _ _ _ _ _ _ _ _ _ _ _ c.requires c.self.invariant image (c.maps_in-maps.ensures ∙ ap maps c.own.view_is) same c.run_on.ensures.loads
+    bench-after own shared _ _ _ _ _ _ _ _ _ _ _ _ c.requires c.self.invariant image (c.maps_in-maps.ensures ∙ ap maps c.own.view_is) same c.run_on.ensures.loads
+    c.in_ok-bring.ensures.same
