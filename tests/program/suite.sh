@@ -43,6 +43,12 @@ for file in "$top"/examples/suite/*.test; do
     tested "bpfdb test examples/suite/$(basename "$file")" 0 "$file"
 done
 
+# Tests with maps of their own over one program, at random, and what they come to by a model that looks at the program's pieces from the front.
+if command -v python3 > /dev/null; then
+    python3 "$top/tests/trials/mapped.py" "$program" 500 > found/trials 2>&1 || complain "mapped.py: $(tail -n 20 found/trials)"
+    count=$((count + $(sed -n 's/^500 files, \([0-9]*\) tests, .*/\1/p' found/trials)))
+fi
+
 # Files that are refused, before anything is run.
 sed '/^#/d' "$parts/suites/refusals.txt" > rows
 while IFS= read -r wanted; do
