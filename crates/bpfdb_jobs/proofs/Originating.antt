@@ -9,6 +9,8 @@ use Rattle.bpf_journal.specs.Runs.{history_after}
 use Rattle.bpf_journal.specs.Timelines.{Moment}
 use Rattle.bpf_journal.specs.Tracks.{RingHolds, Track, ring_room}
 use Rattle.bpf_ring.specs.declared.keeper.RingKeeper.{RingKeeper}
+use Rattle.bpf_link.specs.declared.fault.LinkFault.{LinkFault}
+use Rattle.bpf_names.specs.declared.names.Names.{Names}
 use Rattle.bpf_steps.specs.State.{State, initial}
 use Rattle.bpf_origin.specs.Answers.{Answer}
 use Rattle.bpf_origin.specs.Asked.{answer_about, parts_asked}
@@ -22,10 +24,10 @@ use Rattle.bpf_session.specs.Plain.{plain_end, plain_steps}
 use Rattle.bpf_session.specs.Points.{Bounds, Point}
 use Rattle.bpf_session.specs.Sessions.{HasPast, SessionValue, bounds_of, track_at}
 use Rattle.bpfdb_commands.specs.declared.refusal.Refusal.{Refusal}
-use Rattle.bpfdb_jobs.specs.Jobs.{Prints, arrival_of, origin_print, start_of}
+use Rattle.bpfdb_jobs.specs.Jobs.{Prints, arrival_of, named_print, section_of, start_of}
 use Rattle.bpfdb_jobs.specs.Obeying.{ObeysScript, arrived}
 use Rattle.bpfdb_jobs.specs.Openings.{AreAskedParts, HasArrived, HasTail, IsOpening, IsStart}
-use Rattle.bpfdb_jobs.specs.Origins.{Asks, IsTail, RefusesWhat, arrival, bounds, followed_by, obeyed, question_by, run_arrival, run_history}
+use Rattle.bpfdb_jobs.specs.Origins.{AreNamesOf, Asks, IsTail, RefusesNames, RefusesWhat, arrival, bounds, followed_by, obeyed, question_by, run_arrival, run_history}
 use Rattle.bpfdb_jobs.specs.Refusals.{RefusesArrival, RefusesAs}
 use Rattle.bpfdb_jobs.specs.declared.job.Job.{Job}
 use Rattle.bpfdb_faults.specs.declared.refusal.JobRefusal.TheVariants as jobs
@@ -102,27 +104,36 @@ module _ (job : Job) (moment : Moment RingKeeper) (n : ℕ) (a : HasArrived job 
   pub origin-prints : (q : Question) (what : Option What) (parts : List Part) → q ≡ question job a.at.point.history n
       → Asks job.options.what moment.state what → parts ≡ parts_asked moment.state what
       → (tail : Answer) → IsTail job.options.only_branches (question_by job.options a.at) parts a.at.point tail
-      → Prints Origin job (origin_print moment.state (followed_by (answer_about q parts a.at.point.history moment.state) tail))
-  origin-prints q what parts asks-as asks is tail behind = (
+      → (names : Option Names) → AreNamesOf job.object (section_of job) names
+      → Prints Origin job (named_print names moment.state (followed_by (answer_about q parts a.at.point.history moment.state) tail))
+  origin-prints q what parts asks-as asks is tail behind names known = (
     a.code,
     a.at,
     what,
     tail,
+    names,
     a.opens,
     a.arrives,
     subst (λ (x : State). Asks job.options.what x what) a.state asks,
     subst (λ (ps : List Part). IsTail job.options.only_branches (question_by job.options a.at) ps a.at.point tail)
         (is ∙ ap (λ (x : State). parts_asked x what) a.state) behind,
-    ap (λ (z : Question). origin_print moment.state (followed_by (answer_about z parts a.at.point.history moment.state) tail))
+    known,
+    ap (λ (z : Question). named_print names moment.state (followed_by (answer_about z parts a.at.point.history moment.state) tail))
         (asks-as ∙ ap (question job a.at.point.history) a.counted)
-        ∙ ap (λ (ps : List Part). origin_print moment.state (followed_by (answer_about (question_by job.options a.at) ps a.at.point.history moment.state) tail)) is
-        ∙ ap (λ (x : State). origin_print x (followed_by (answer_about (question_by job.options a.at) (parts_asked x what) a.at.point.history x) tail)) a.state,
+        ∙ ap (λ (ps : List Part). named_print names moment.state (followed_by (answer_about (question_by job.options a.at) ps a.at.point.history moment.state) tail)) is
+        ∙ ap (λ (x : State). named_print names x (followed_by (answer_about (question_by job.options a.at) (parts_asked x what) a.at.point.history x) tail)) a.state,
   )
 
   -- and so is what it refuses
   pub origin-refuses : (fault : WhatFault) → RefusesWhat job.options.what moment.state fault → RefusesAs Origin job (jobs.What fault)
   origin-refuses fault refuses =
       (a.code, a.at, a.opens, a.arrives, subst (λ (x : State). RefusesWhat job.options.what x fault) a.state refuses)
+
+  -- and where nothing is known of the names in maps
+  pub names-refuse : (parts : List Part) → AreAskedParts job moment.state parts → (fault : LinkFault) (name : Bor (List ℕ))
+      → RefusesNames job.object (section_of job) fault name.now → RefusesAs Origin job (jobs.Object fault name)
+  names-refuse parts asked fault name lacks =
+      (a.code, a.at, asked.0, a.opens, a.arrives, subst (λ (x : State). Asks job.options.what x asked.0) a.state asked.1, lacks)
 
   -- behind it are the branches that were found
   pub branches-behind : (q : Question) (parts : List Part) (found : Found) → AreAskedParts job moment.state parts → job.options.only_branches ≡ true

@@ -40,7 +40,7 @@ DoesPlain subcommand job reader writer errors status = (reader.new ≡ reader.ol
 -- Over an object: that was linked, and the job over its words with its maps was done; or it was refused, and nothing was read and written.
 pub data DoesLinked {R W E : Type 0} (subcommand : Subcommand) (job : Job) (reader : Stream R) (writer : Stream W) (errors : Stream E) (status : ℕ)
     : Type 0 where
-  Over : (program : Linked) → (over : Job) → LinksTo job program → IsOver job program.words.items program.shapes.items over
+  Over : (program : Linked) → (over : Job) → LinksTo job program → IsOver job program over
       → DoesPlain subcommand over reader writer errors status → DoesLinked subcommand job reader writer errors status
   Unlinked : (why : LinkFault) → (name : Bor (List ℕ)) → RefusesLinking job why → name.now ≡ fault_names job.file.now (section_of job) why
       → reader.new ≡ reader.old → writer.new ≡ writer.old → Told errors (line_of (fault.Refused (Object why name))) → status ≡ 2

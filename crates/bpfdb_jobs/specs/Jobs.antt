@@ -22,6 +22,7 @@ use Rattle.bpf_link.specs.declared.linker.Linked.{Linked}
 use Rattle.bpf_link.specs.declared.stubs.Stub.{Stub}
 use Rattle.bpf_lines.specs.Objects.{AreBehind, AreLinesOf, program_table}
 use Rattle.bpf_lines.specs.declared.objects.ObjectLines.{ObjectLines}
+use Rattle.bpf_names.specs.declared.names.Names.{Names}
 use Rattle.bpf_places.specs.Lookups.{AreListingSlots}
 use Rattle.bpf_places.specs.Places.{is_place}
 use Rattle.bpf_steps.specs.Platform.{context_limit}
@@ -50,7 +51,7 @@ use Rattle.bpf_whynot.specs.declared.fault.GoalFault.{GoalFault}
 use Rattle.bpfdb_commands.specs.declared.refusal.Refusal.{Refusal}
 use Rattle.bpfdb_replies.specs.Texts.{place}
 use Rattle.bpfdb_jobs.specs.MapLines.{linked_told}
-use Rattle.bpfdb_jobs.specs.Origins.{Arrival, Asks, IsTail, answer_by, arrival, followed_by, found_text, question_by, status_of_extent}
+use Rattle.bpfdb_jobs.specs.Origins.{Arrival, AreNamesOf, Asks, IsTail, answer_by, arrival, followed_by, found_text, named_by, question_by, status_of_extent}
 use Rattle.bpfdb_jobs.specs.declared.job.Job.{Job}
 use Rattle.bpfdb_options.specs.declared.subcommand.Subcommand.{Subcommand}
 use Rattle.bpfdb_options.specs.declared.subcommand.Subcommand.TheVariants.{Run, Trace, Debug, Origin, Whynot, Diff, Gdb, Asm, Disasm, Lines, Check, Link, Test, Batch}
@@ -223,6 +224,9 @@ arrival_of job code = arrival job.other job.options (initial code job.context.no
 abbrev pub origin_print : State → Answer → Print
 origin_print end answer = record (printed (found_text end answer)) { status = status_of_extent answer.extent }
 
+abbrev pub named_print : Option Names → State → Answer → Print
+named_print names end answer = record (printed (named_by names (found_text end answer))) { status = status_of_extent answer.extent }
+
 -- `whynot`: where the machine stands, and why it did not come to the slots that are asked about.
 abbrev pub asked_of : Job → List ℕ
 asked_of job = name_or_empty job.options.what
@@ -345,10 +349,10 @@ Prints Run job a = (code : Checked) × Opens job code × (a ≡ run_or_stopped (
 Prints Trace job a = (code : Checked) × Opens job code
     × (a ≡ trace_or_stopped (unwritten_in job (initial code job.context.now)) job (initial code job.context.now) (run_end job code))
 Prints Debug job a = ⊥
-Prints Origin job a = (code : Checked) × (at : Arrival) × (what : Option What) × (tail : Answer) × OpensSession job code
+Prints Origin job a = (code : Checked) × (at : Arrival) × (what : Option What) × (tail : Answer) × (names : Option Names) × OpensSession job code
     × (arrival_of job code ≡ Ok at) × Asks job.options.what at.point.state what
     × IsTail job.options.only_branches (question_by job.options at) (parts_asked at.point.state what) at.point tail
-    × (a ≡ origin_print at.point.state (followed_by (answer_by job.options what at) tail))
+    × AreNamesOf job.object (section_of job) names × (a ≡ named_print names at.point.state (followed_by (answer_by job.options what at) tail))
 Prints Whynot job a = (code : Checked) × (at : Arrival) × (goals : List ℕ) × (can : ℕ → List ℕ → Bool) × OpensSession job code
     × (arrival_of job code ≡ Ok at) × AsksGoals job at.point.state.program (Ok goals)
     × TellsReach at.point.state.program goals can × (a ≡ whynot_print job goals can at)

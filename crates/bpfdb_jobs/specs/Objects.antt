@@ -1,7 +1,6 @@
 -- A job over an object: what that is linked to, why it isn't, and the job that is done then.
 use Rattle.std.specs.Prelude.{◌≡◌, ◌⊎◌, ◌&&◌, ℕ, Bool, true, false, List, Option, Some, None, Ok, option_map}
 use Rattle.std.specs.Borrow.{Bor}
-use Rattle.bpf_isa.specs.declared.maps.MapShape.{MapShape}
 use Rattle.bpf_lines.specs.Objects.{IsLinesRefusal}
 use Rattle.bpf_link.specs.Programs.{IsLinkedAs}
 use Rattle.bpf_link.specs.declared.fault.LinkFault.{LinkFault}
@@ -12,6 +11,7 @@ use Rattle.bpf_places.specs.Places.{is_place}
 use Rattle.bpfdb_jobs.specs.Jobs.{asked_of, link_of, section_of, stubs_of}
 use Rattle.bpfdb_jobs.specs.Refusals.{RefusesLink, RefusesStubs}
 use Rattle.bpfdb_jobs.specs.declared.job.Job.{Job}
+use Rattle.bpfdb_jobs.specs.declared.job.LinkedObject.{LinkedObject}
 use Rattle.bpfdb_options.specs.declared.subcommand.Subcommand.{Subcommand}
 use Rattle.bpfdb_options.specs.declared.subcommand.Subcommand.TheVariants.{Asm, Batch, Lines, Link, Test, Whynot}
 
@@ -55,14 +55,21 @@ HasPlace false job words goals = goals ≡ None
 HasPlace true job words None = ⊥
 HasPlace true job words (Some goals) = AreObjectSlots job.file.now (section_of job) words (asked_of job) goals.now
 
--- The job over a program's words, with its maps, and the slots that are asked about where that is a place.
-pub record IsOver (job : Job) (words : List ℕ) (shapes : List MapShape) (over : Job) : Type 0 where
-  pub file : over.file.now ≡ words
-  pub maps : option_map (λ s. s.now) over.shapes ≡ Some shapes
-  pub goals : HasPlace (asks_place job) job words over.goals
+-- It is known what the program was linked of.
+abbrev pub IsLinkedOf : Job → Linked → Option LinkedObject → Type 0
+IsLinkedOf job program None = ⊥
+IsLinkedOf job program (Some object) = (object.bytes.now ≡ job.file.now) × (object.program.now ≡ program)
+
+-- The job over the program's words, with its maps, with that, and with the slots that are asked about where that is a place.
+pub record IsOver (job : Job) (program : Linked) (over : Job) : Type 0 where
+  pub file : over.file.now ≡ program.words.items
+  pub maps : option_map (λ s. s.now) over.shapes ≡ Some program.shapes.items
+  pub goals : HasPlace (asks_place job) job program.words.items over.goals
+  pub object : IsLinkedOf job program over.object
   pub rest : over ≡ record job {
     file = over.file;
     shapes = over.shapes;
     goals = over.goals;
+    object = over.object;
     options = record job.options { is_object = false };
   }

@@ -1,19 +1,23 @@
 -- Scaffolding: a session, or a machine with its journal, that was just opened for a job.
-use Rattle.std.specs.Prelude.{ℕ, ◌≡◌, List, [], Option, Ok, false, true}
+use Rattle.std.specs.Prelude.{ℕ, ◌≡◌, List, [], Option, Ok, false, option_map, true}
+use Rattle.std.specs.Borrow.{Bor}
 use Rattle.bpf_isa.specs.Programs.{Checked}
-use Rattle.bpf_journal.specs.Histories.{StandsFor}
+use Rattle.bpf_journal.specs.Histories.{Record, StandsFor}
 use Rattle.bpf_journal.specs.Timelines.{Moment}
 use Rattle.bpf_journal.specs.Tracks.{RingHolds, ring_room}
 use Rattle.bpf_ring.specs.declared.keeper.RingKeeper.{RingKeeper}
 use Rattle.bpf_origin.specs.Answers.{Answer}
-use Rattle.bpf_origin.specs.Asked.{parts_asked}
+use Rattle.bpf_origin.specs.Asked.{answer_about, parts_asked}
 use Rattle.bpf_origin.specs.declared.place.Part.{Part}
+use Rattle.bpf_origin.specs.declared.question.Extent.TheVariants.{Whole}
+use Rattle.bpf_origin.specs.declared.question.Question.{Question}
 use Rattle.bpf_origin.specs.declared.what.What.{What}
+use Rattle.bpf_names.specs.declared.names.Names.{Names}
 use Rattle.bpf_steps.specs.State.{State, initial}
 use Rattle.bpf_session.specs.Sessions.{SessionValue}
 use Rattle.bpfdb_jobs.specs.Connections.{Begins}
 use Rattle.bpfdb_jobs.specs.Jobs.{IsOtherRun, Opens, OpensSession, arrival_of}
-use Rattle.bpfdb_jobs.specs.Origins.{Arrival, Asks, IsTail, question_by}
+use Rattle.bpfdb_jobs.specs.Origins.{Arrival, Asks, IsTail, followed_by, found_text, named_by, question_by}
 use Rattle.bpfdb_jobs.specs.declared.job.Job.{Job}
 
 -- A machine stands at the opening of the job's program.
@@ -59,3 +63,11 @@ pub record HasTail (job : Job) (moment : Moment RingKeeper) (moves : ℕ) (parts
   pub arrived : HasArrived job moment moves
   pub asked : AreAskedParts job moment.state parts
   pub is : IsTail job.options.only_branches (question_by job.options arrived.at) parts arrived.at.point tail
+
+-- What is written where the machine stands: the answer about these parts, and a text behind it.
+abbrev pub asked_text : Question → List Part → List Record → State → List ℕ → List ℕ
+asked_text q parts h x tail = found_text x (followed_by (answer_about q parts h x) (record { text = tail; extent = Whole }))
+
+-- With the names of places in maps, where they are known.
+abbrev pub told_text : Option (Bor Names) → Question → List Part → List Record → State → List ℕ → List ℕ
+told_text names q parts h x tail = named_by (option_map (λ n. n.now) names) (asked_text q parts h x tail)

@@ -14,6 +14,11 @@ use Rattle.bpf_origin.specs.declared.question.Extent.{Extent}
 use Rattle.bpf_origin.specs.declared.question.Extent.TheVariants.{Whole}
 use Rattle.bpf_origin.specs.declared.question.Question.{Question}
 use Rattle.bpf_origin.specs.declared.what.What.{What}
+use Rattle.bpf_link.specs.Names.{fault_names}
+use Rattle.bpf_link.specs.declared.fault.LinkFault.{LinkFault}
+use Rattle.bpf_names.specs.Maps.{AreNames, IsNamesRefusal}
+use Rattle.bpf_names.specs.Texts.{named_text}
+use Rattle.bpf_names.specs.declared.names.Names.{Names}
 use Rattle.bpf_remote.specs.Moves.{moves_after}
 use Rattle.bpf_session.specs.Meaning.{does}
 use Rattle.bpf_session.specs.Outcomes.{Outcome}
@@ -24,6 +29,7 @@ use Rattle.bpfdb_commands.specs.Commands.{command_of}
 use Rattle.bpfdb_commands.specs.Commands as commands
 use Rattle.bpfdb_commands.specs.declared.command.Command.{Command}
 use Rattle.bpfdb_commands.specs.declared.refusal.Refusal.{Refusal}
+use Rattle.bpfdb_jobs.specs.declared.job.LinkedObject.{LinkedObject}
 use Rattle.bpfdb_options.specs.declared.options.Options.{Options}
 use Rattle.bpfdb_replies.specs.Texts.{place}
 use Rattle.counted_io.specs.Lines.{lines}
@@ -108,6 +114,29 @@ followed_by first second = record { text = first.text ++ second.text; extent = b
 -- What is written of it: where the machine stands, and the answer.
 abbrev pub found_text : State → Answer → List ℕ
 found_text end answer = place end ++ codes "\n" ++ answer.text
+
+-- The names in the maps of a program that was linked; they stand in it where they are known.
+abbrev pub AreNamesOf : Option LinkedObject → List ℕ → Option Names → Type 0
+AreNamesOf None section names = names ≡ None
+AreNamesOf (Some object) section None = ⊥
+AreNamesOf (Some object) section (Some names) =
+    AreNames object.bytes.now section object.program.now.maps object.program.now.shapes.items object.program.now.names.items names
+
+abbrev pub named_by : Option Names → List ℕ → List ℕ
+named_by None text = text
+named_by (Some names) text = named_text names text
+
+-- Why nothing is known of them, with the names that are told then.
+abbrev pub LacksNames : Option LinkedObject → List ℕ → LinkFault → Type 0
+LacksNames None section fault = ⊥
+LacksNames (Some object) section fault = IsNamesRefusal object.bytes.now section fault
+
+abbrev pub bytes_of : Option LinkedObject → List ℕ
+bytes_of None = []
+bytes_of (Some object) = object.bytes.now
+
+abbrev pub RefusesNames : Option LinkedObject → List ℕ → LinkFault → List ℕ → Type 0
+RefusesNames object section fault name = (name ≡ fault_names (bytes_of object) section fault) × LacksNames object section fault
 
 -- The exit status: 1 where the answer is cut.
 abbrev pub status_of_extent : Extent → ℕ

@@ -25,6 +25,7 @@ use Rattle.bpf_suite.specs.declared.refusal.Refusal.{Refusal}
 use Rattle.bpf_suite.specs.declared.refusal.Refusal.TheVariants as program
 use Rattle.bpf_suite.specs.declared.section.Section.{Section}
 use Rattle.bpf_suite.specs.declared.fault.FileFault.TheVariants.{Line}
+use Rattle.bpf_origin.specs.declared.what.What.{What as Asked}
 use Rattle.bpf_steps.specs.Opening.{Refused}
 use Rattle.bpf_ring.specs.Opening.{RefusesSize}
 use Rattle.bpf_places.specs.Places.{is_place}
@@ -32,7 +33,7 @@ use Rattle.bpf_whynot.specs.declared.fault.GoalFault.{GoalFault}
 use Rattle.bpf_whynot.specs.declared.fault.GoalFault.TheVariants.{NoInstruction, NoSlot}
 use Rattle.trace_lines.specs.Faults.{bad_line}
 use Rattle.bpfdb_jobs.specs.Jobs.{AsksGoals, HasMaps, HasWords, IsObjectOf, IsProgramOf, ListsStubs, IsOtherRun, Opens, OpensSession, arrival_of, asked_of, link_of, other_bytes, others_of, section_of, stubs_of}
-use Rattle.bpfdb_jobs.specs.Origins.{Arrival, RefusesWhat}
+use Rattle.bpfdb_jobs.specs.Origins.{Arrival, Asks, RefusesNames, RefusesWhat}
 use Rattle.bpfdb_jobs.specs.declared.job.Job.{Job}
 use Rattle.bpfdb_faults.specs.declared.refusal.JobRefusal.{JobRefusal}
 use Rattle.bpfdb_faults.specs.declared.refusal.JobRefusal.TheVariants.{Maps, Listing, Load, Open, OtherRun, TraceLine, Journal, What, Goal, NoPlace, Object, Functions, Tests, NoTest, ManyTests, Script}
@@ -76,7 +77,8 @@ abbrev pub RefusesMachine : Job → JobRefusal → Type 0
 RefusesMachine job (Journal fault) = ⊥
 RefusesMachine job refusal = Refuses job refusal
 
--- `origin` and `whynot` look at a session's, then at the lines of its script, and then at what is asked about there.
+-- `origin` and `whynot` look at a session's, then at the lines of its script, and then at what is asked about there; `origin` last at the names in
+-- maps.
 abbrev pub RefusesArrival : Job → JobRefusal → Type 0
 RefusesArrival job (Script refusal) = (code : Checked) × OpensSession job code × (arrival_of job code ≡ Err refusal)
 RefusesArrival job refusal = Refuses job refusal
@@ -84,6 +86,8 @@ RefusesArrival job refusal = Refuses job refusal
 abbrev pub RefusesOrigin : Job → JobRefusal → Type 0
 RefusesOrigin job (What fault) = (code : Checked) × (at : Arrival) × OpensSession job code × (arrival_of job code ≡ Ok at)
     × RefusesWhat job.options.what at.point.state fault
+RefusesOrigin job (Object fault name) = (code : Checked) × (at : Arrival) × (what : Option Asked) × OpensSession job code
+    × (arrival_of job code ≡ Ok at) × Asks job.options.what at.point.state what × RefusesNames job.object (section_of job) fault name.now
 RefusesOrigin job refusal = RefusesArrival job refusal
 
 -- (A place that has no slot is refused by its name.)

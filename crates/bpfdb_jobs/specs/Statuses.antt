@@ -40,7 +40,7 @@ EndsPlainWith subcommand job status = (a : Print) × Prints subcommand job a × 
 -- Where FILE is an object it was linked, and that of the job over its words counts.
 abbrev pub EndsAs : Bool → Subcommand → Job → ℕ → Type 0
 EndsAs false subcommand job status = EndsPlainWith subcommand job status
-EndsAs true subcommand job status = (program : Linked) × (over : Job) × LinksTo job program × IsOver job program.words.items program.shapes.items over
+EndsAs true subcommand job status = (program : Linked) × (over : Job) × LinksTo job program × IsOver job program over
     × EndsPlainWith subcommand over status
 
 abbrev pub EndsWith : Subcommand → Job → ℕ → Type 0

@@ -1,5 +1,6 @@
 //! What `tool` is given to do.
 use bpf_isa::MapShape;
+use bpf_link::Linked;
 use bpfdb_options::{Options, Subcommand};
 
 /// A subcommand, with the bytes of its files and its options.
@@ -25,5 +26,14 @@ pub struct Job<'a> {
     /// The slots of the place of that object which `whynot` asks about, where it is one: numbers with
     /// commas between. Without them what the options ask about counts.
     pub goals: Option<&'a [u8]>,
+    /// That object, where it is known.
+    pub object: Option<LinkedObject<'a>>,
     pub options: Options<'a>,
+}
+
+/// An object, and the program to which it was linked.
+#[derive(Clone, Copy)]
+pub struct LinkedObject<'a> {
+    pub bytes: &'a [u8],
+    pub program: &'a Linked,
 }

@@ -32,4 +32,4 @@ mod whynot;
 pub use debug::debug_job;
 pub use dispatch::tool;
 pub use hint::add_hint;
-pub use job::Job;
+pub use job::{Job, LinkedObject};

@@ -7,10 +7,9 @@ ghost use Rattle.bpfdb_limits.specs.Limits.{IsLimit};
 ghost use Rattle.bpfdb_faults.specs.Streams.{stream};
 
 use crate::dispatch::plain_tool;
-use crate::job::Job;
+use crate::job::{Job, LinkedObject};
 use crate::object::{linked_from, refuse, section_of, stubs_of};
 use crate::whynot::asked;
-use bpf_isa::MapShape;
 use bpf_link::{LinkFault, Linked};
 use bpf_places::{is_place, object_slots};
 use bpfdb_options::{Options, Subcommand};
@@ -95,40 +94,38 @@ fn do_linked<R: Read, W: Write, E: Write>(
         (stream W.contents writer.old writer.new) (stream E.contents errors.old errors.new) result }
     ensures status { result ≤ 2 }
 {
-    let words = linked.words.as_slice();
-    let shapes = linked.shapes.as_slice();
     if !asks_place(job) {
-        return do_over(alloc, job, words, shapes, None, reader, writer, errors);
+        return do_over(alloc, job, linked, None, reader, writer, errors);
     }
+    let words = linked.words.as_slice();
     let what = asked(job).as_bytes();
     match object_slots(alloc, job.file, section_of(job), words, what) {
         Ok(slots) => {
             let goals = Some(slots.as_slice());
-            do_over(alloc, job, words, shapes, goals, reader, writer, errors)
+            do_over(alloc, job, linked, goals, reader, writer, errors)
         }
         Err(why) => refuse(job, job.file, errors, why),
     }
 }
 
-/// Does a job over the words of its object, with the maps of that, and the slots of the place.
+/// Does a job over the program to which its object is linked, and the slots of the place.
 fn do_over<R: Read, W: Write, E: Write>(
     alloc: Global,
     job: &Job<'_>,
-    words: &[u8],
-    shapes: &[MapShape],
+    linked: &Linked,
     goals: Option<&[u8]>,
     reader: &mut Counted<R>,
     writer: &mut Counted<W>,
     errors: &mut Counted<E>,
 ) -> u8
     requires limit { IsLimit job.now.options.limit }
-    requires goals { HasPlace (asks_place job.now) job.now words.now goals }
-    ensures does { (over : Over) × IsOver job.now words.now shapes.now over
+    requires goals { HasPlace (asks_place job.now) job.now linked.now.words.items goals }
+    ensures does { (over : Over) × IsOver job.now linked.now over
         × DoesPlain job.now.subcommand over (stream R.remaining reader.old reader.new)
         (stream W.contents writer.old writer.new) (stream E.contents errors.old errors.new) result }
     ensures status { result ≤ 2 }
 {
-    let over = job_over(job, words, shapes, goals);
+    let over = job_over(job, linked, goals);
     plain_tool(alloc, &over, reader, writer, errors)
 }
 
@@ -144,20 +141,20 @@ fn linked_file(alloc: Global, job: &Job<'_>) -> Result<Linked, LinkFault>
     }
 }
 
-/// The job over the words of an object, with its maps, and the slots of the place.
-fn job_over<'a>(
-    job: &Job<'a>,
-    words: &'a [u8],
-    shapes: &'a [MapShape],
-    goals: Option<&'a [u8]>,
-) -> Job<'a>
-    requires { HasPlace (asks_place job.now) job.now words.now goals }
-    ensures { IsOver job.now words.now shapes.now result }
+/// The job over the words of its object, with its maps, the slots of the place, and what they come
+/// from.
+fn job_over<'a>(job: &Job<'a>, linked: &'a Linked, goals: Option<&'a [u8]>) -> Job<'a>
+    requires { HasPlace (asks_place job.now) job.now linked.now.words.items goals }
+    ensures { IsOver job.now linked.now result }
 {
     Job {
-        file: words,
-        shapes: Some(shapes),
+        file: linked.words.as_slice(),
+        shapes: Some(linked.shapes.as_slice()),
         goals,
+        object: Some(LinkedObject {
+            bytes: job.file,
+            program: linked,
+        }),
         options: Options {
             is_object: false,
             ..job.options

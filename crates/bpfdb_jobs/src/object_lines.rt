@@ -3,6 +3,7 @@ ghost use Rattle.std.specs.Prelude.{◌≡◌, ◌≤◌, List, None, Ok, Option
 ghost use Rattle.bpfdb_faults.specs.Streams.{stream};
 ghost use Rattle.bpfdb_jobs.specs.Endings.{EndsPrinted};
 ghost use Rattle.bpfdb_jobs.specs.Jobs.{IsLinkedTo, stubs_of};
+ghost use Rattle.bpfdb_jobs.specs.ObjectJobs.{IsObjectJob};
 ghost use Rattle.bpfdb_options.specs.declared.subcommand.Subcommand.TheVariants.{Lines};
 
 use crate::job::Job;
@@ -47,8 +48,7 @@ fn own_lines<W: Write, E: Write>(
     writer: &mut Counted<W>,
     errors: &mut Counted<E>,
 ) -> u8
-    requires object { job.now.options.is_object ≡ true }
-    requires alone { job.now.other ≡ None }
+    requires job { IsObjectJob job.now None }
     requires stubs { stubs_of job.now ≡ Ok stubs.now }
     ensures does { EndsPrinted Lines job.now (stream W.contents writer.old writer.new)
         (stream E.contents errors.old errors.new) result }
@@ -78,8 +78,7 @@ fn joined_lines<W: Write, E: Write>(
     writer: &mut Counted<W>,
     errors: &mut Counted<E>,
 ) -> u8
-    requires object { job.now.options.is_object ≡ true }
-    requires other { job.now.other ≡ Some functions }
+    requires job { IsObjectJob job.now (Some functions) }
     requires stubs { stubs_of job.now ≡ Ok stubs.now }
     ensures does { EndsPrinted Lines job.now (stream W.contents writer.old writer.new)
         (stream E.contents errors.old errors.new) result }
@@ -113,8 +112,7 @@ fn joined_table<W: Write, E: Write>(
     writer: &mut Counted<W>,
     errors: &mut Counted<E>,
 ) -> u8
-    requires object { job.now.options.is_object ≡ true }
-    requires other { job.now.other ≡ Some functions }
+    requires job { IsObjectJob job.now (Some functions) }
     requires linked { (object : List ℕ) × (counted : Option ℕ)
         × IsLinkedTo job.now object counted linked.now }
     ensures does { EndsPrinted Lines job.now (stream W.contents writer.old writer.new)

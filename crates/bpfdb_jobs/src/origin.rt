@@ -1,24 +1,27 @@
 //! What a job of `origin` does.
-ghost use Rattle.std.specs.Prelude.{◌≡◌, ◌≤◌, ◌==◌, true, length, IfErr, IfOk, List, None, Some};
+ghost use Rattle.std.specs.Prelude.{◌≡◌, ◌≤◌, ◌==◌, true, length, IfErr, IfOk, OnErr, List, None, Some};
 ghost use Rattle.bpf_journal.specs.Histories.{Record, StandsFor};
 ghost use Rattle.bpf_journal.specs.Tracks.{RingHolds};
-ghost use Rattle.bpf_origin.specs.Asked as spec;
-ghost use Rattle.bpf_origin.specs.declared.question.Extent.TheVariants.{Whole};
+ghost use Rattle.bpf_origin.specs.Asked.{answer_about};
 ghost use Rattle.counted_io.specs.Writing.{Writes};
 ghost use Rattle.bpfdb_jobs.specs.Endings.{EndsPrinted};
-ghost use Rattle.bpfdb_jobs.specs.Openings.{AreAskedParts, HasArrived, HasTail};
-ghost use Rattle.bpfdb_jobs.specs.Origins.{RefusesWhat, both_extents, followed_by, found_text, status_of_extent};
+ghost use Rattle.bpfdb_jobs.specs.Jobs.{section_of};
+ghost use Rattle.bpfdb_jobs.specs.Openings.{AreAskedParts, HasArrived, HasTail, asked_text, told_text};
+ghost use Rattle.bpfdb_jobs.specs.Origins.{AreNamesOf, LacksNames, RefusesWhat, both_extents, bytes_of, status_of_extent};
 ghost use Rattle.bpfdb_jobs.specs.Refusals.{RefusesArrival};
 ghost use Rattle.bpfdb_limits.specs.Limits.{IsLimit};
 ghost use Rattle.bpfdb_options.specs.declared.subcommand.Subcommand.TheVariants.{Origin};
 ghost use Rattle.bpfdb_faults.specs.Streams.{stream};
 
 use crate::job::Job;
+use crate::object::{refuse, section_of};
 use crate::opening::{session_of, timeline_of, wanted_of};
 use crate::script::obey_script;
 use bpf_branches::{Found, find_branches};
 use bpf_journal::{JournalFault, Keeper, RingKeeper, Timeline};
+use bpf_link::LinkFault;
 use bpf_machine::Cpu;
+use bpf_names::{Names, map_names, put_named};
 use bpf_origin::{
     Extent, Part, Parts, Question, Told, Wanted, What, WhatFault, parts_asked, put_answer,
 };
@@ -26,7 +29,7 @@ use bpf_session::run_kept;
 use bpfdb_faults::{JobFault, JobRefusal, flush_after, give_up};
 use bpfdb_replies::write_place;
 use counted_io::{Counted, WriteFault, put};
-use std::alloc::Global;
+use std::alloc::{AllocError, Global};
 use std::io::Write;
 
 /// A machine with its journal, where it is asked.
@@ -37,6 +40,20 @@ pub(crate) struct Arrived {
     pub(crate) moves: u64,
     /// The memory for the answer.
     pub(crate) wanted: Wanted,
+}
+
+/// What stands behind an answer, and how far it goes.
+#[derive(Clone, Copy)]
+struct Tail<'a> {
+    text: &'a [u8],
+    extent: Extent,
+}
+
+/// An answer in memory, and what is told of it.
+#[derive(Drop)]
+struct FoundText {
+    text: Vec<u8>,
+    told: Told,
 }
 
 /// Runs the program to its end or to the limit, or obeys the script where there is one, and writes
@@ -78,15 +95,11 @@ fn ask<W: Write, E: Write>(
     if job.options.only_branches {
         ask_branches(alloc, job, arrived, parts.as_slice(), writer, errors)
     } else {
-        tell(
-            job,
-            arrived,
-            parts.as_slice(),
-            &[],
-            Extent::Whole,
-            writer,
-            errors,
-        )
+        let tail = Tail {
+            text: &[],
+            extent: Extent::Whole,
+        };
+        tell(alloc, job, arrived, parts.as_slice(), tail, writer, errors)
     }
 }
 
@@ -124,7 +137,11 @@ fn ask_branches<W: Write, E: Write>(
                 moves,
                 wanted,
             };
-            tell(job, arrived, parts, text.as_slice(), extent, writer, errors)
+            let tail = Tail {
+                text: text.as_slice(),
+                extent,
+            };
+            tell(alloc, job, arrived, parts, tail, writer, errors)
         }
         Err(_) => give_up(
             errors,
@@ -215,33 +232,76 @@ fn arrive_at_end(alloc: Global, job: &Job<'_>) -> Result<Arrived, JobRefusal<'st
 /// Writes where the machine stands, where the values of these parts came from, and what else is
 /// asked.
 fn tell<W: Write, E: Write>(
+    alloc: Global,
     job: &Job<'_>,
     arrived: Arrived,
     parts: &[Part],
-    tail: &[u8],
-    tail_extent: Extent,
+    tail: Tail<'_>,
     writer: &mut Counted<W>,
     errors: &mut Counted<E>,
 ) -> u8
     requires { HasTail job.now arrived.timeline arrived.moves parts.now
-        (record { text = tail.now; extent = tail_extent }) }
+        (record { text = tail.text.now; extent = tail.extent }) }
     ensures does { EndsPrinted Origin job.now (stream W.contents writer.old writer.new)
         (stream E.contents errors.old errors.new) result }
     ensures status { result ≤ 2 }
 {
+    let names = match names_of(alloc, job) {
+        Ok(names) => names,
+        Err(why) => return refuse(job, bytes_of(job), errors, why),
+    };
     let question = question_of(job, &arrived);
     let mut arrived = arrived;
-    let told = put_found(
-        &mut arrived.timeline,
-        &mut arrived.wanted,
+    match put_told(
+        alloc,
+        names.as_ref(),
+        &mut arrived,
         parts,
         question,
-        tail,
+        tail.text,
         writer,
-    );
-    match told.written {
-        Ok(()) => status_of(both_of(told.extent, tail_extent)),
-        Err(WriteFault) => give_up(errors, &JobFault::Output),
+    ) {
+        Ok(told) => match told.written {
+            Ok(()) => status_of(both_of(told.extent, tail.extent)),
+            Err(WriteFault) => give_up(errors, &JobFault::Output),
+        },
+        Err(AllocError) => give_up(
+            errors,
+            &JobFault::Refused(JobRefusal::Journal(JournalFault::OutOfMemory)),
+        ),
+    }
+}
+
+/// The names in the maps of the object that the job's words come from, if they come from one. What
+/// that needs of the stack is given back before the answer is looked for.
+#[inline(never)]
+fn names_of<'a>(alloc: Global, job: &Job<'a>) -> Result<Option<Names<'a>>, LinkFault>
+    ensures ok { IfOk result (AreNamesOf job.now.object (section_of job.now)) }
+    ensures err { IfErr result (LacksNames job.now.object (section_of job.now)) }
+{
+    let Some(object) = job.object else {
+        return Ok(None);
+    };
+    match map_names(
+        alloc,
+        object.bytes,
+        section_of(job),
+        object.program.maps,
+        object.program.shapes.as_slice(),
+        object.program.names.as_slice(),
+    ) {
+        Ok(names) => Ok(Some(names)),
+        Err(why) => Err(why),
+    }
+}
+
+/// The bytes of that object: none where there isn't one.
+fn bytes_of<'a>(job: &Job<'a>) -> &'a [u8]
+    ensures { result.now ≡ bytes_of job.now.object }
+{
+    match job.object {
+        Some(object) => object.bytes,
+        None => b"",
     }
 }
 
@@ -270,12 +330,11 @@ fn put_found<K: Keeper, W: Write>(
 ) -> Told
     ensures text { (h : List Record) →
         StandsFor K.holds timeline.old.keeper timeline.old.state h →
-        Writes W.contents writer.old writer.new result.written (found_text timeline.old.state
-        (followed_by (spec.answer_about question parts.now h timeline.old.state)
-        (record { text = tail.now; extent = Whole }))) }
+        Writes W.contents writer.old writer.new result.written
+        (asked_text question parts.now h timeline.old.state tail.now) }
     ensures extent { (h : List Record) →
         StandsFor K.holds timeline.old.keeper timeline.old.state h →
-        result.extent ≡ (spec.answer_about question parts.now h timeline.old.state).extent }
+        result.extent ≡ (answer_about question parts.now h timeline.old.state).extent }
 {
     let placed = write_place(timeline.cpu(), writer);
     let ended = put(writer, placed, b"\n");
@@ -285,6 +344,85 @@ fn put_found<K: Keeper, W: Write>(
         written: flush_after(writer, all),
         extent: told.extent,
         moves: told.moves,
+    }
+}
+
+/// Writes the same with the names of places in maps, where these are known. Then the text is in
+/// memory before anything is written.
+fn put_told<W: Write>(
+    alloc: Global,
+    names: Option<&Names<'_>>,
+    arrived: &mut Arrived,
+    parts: &[Part],
+    question: Question,
+    tail: &[u8],
+    writer: &mut Counted<W>,
+) -> Result<Told, AllocError>
+    ensures text { (h : List Record) →
+        StandsFor RingHolds arrived.old.timeline.keeper arrived.old.timeline.state h →
+        IfOk result (λ told. Writes W.contents writer.old writer.new told.written
+        (told_text names.entry question parts.now h arrived.old.timeline.state tail.now)) }
+    ensures extent { (h : List Record) →
+        StandsFor RingHolds arrived.old.timeline.keeper arrived.old.timeline.state h →
+        IfOk result (λ told. told.extent ≡
+        (answer_about question parts.now h arrived.old.timeline.state).extent) }
+    ensures same { OnErr result (writer.new ≡ writer.old) }
+{
+    let Some(names) = names else {
+        return Ok(put_found(
+            &mut arrived.timeline,
+            &mut arrived.wanted,
+            parts,
+            question,
+            tail,
+            writer,
+        ));
+    };
+    let found = match text_found(
+        alloc,
+        &mut arrived.timeline,
+        &mut arrived.wanted,
+        parts,
+        question,
+        tail,
+    ) {
+        Ok(found) => found,
+        Err(error) => return Err(error),
+    };
+    let named = put_named(writer, Ok(()), names, found.text.as_slice());
+    Ok(Told {
+        written: flush_after(writer, named),
+        extent: found.told.extent,
+        moves: found.told.moves,
+    })
+}
+
+/// The same without names, in memory.
+fn text_found<K: Keeper>(
+    alloc: Global,
+    timeline: &mut Timeline<K>,
+    wanted: &mut Wanted,
+    parts: &[Part],
+    question: Question,
+    tail: &[u8],
+) -> Result<FoundText, AllocError>
+    ensures text { (h : List Record) →
+        StandsFor K.holds timeline.old.keeper timeline.old.state h →
+        IfOk result (λ found.
+        found.text.items ≡ asked_text question parts.now h timeline.old.state tail.now) }
+    ensures extent { (h : List Record) →
+        StandsFor K.holds timeline.old.keeper timeline.old.state h →
+        IfOk result (λ found.
+        found.told.extent ≡ (answer_about question parts.now h timeline.old.state).extent) }
+{
+    let mut writer = Counted::new(Vec::new(alloc));
+    let told = put_found(timeline, wanted, parts, question, tail, &mut writer);
+    match told.written {
+        Ok(()) => Ok(FoundText {
+            text: writer.into_inner(),
+            told,
+        }),
+        Err(WriteFault) => Err(AllocError),
     }
 }
 

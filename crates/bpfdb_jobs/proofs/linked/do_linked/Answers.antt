@@ -9,22 +9,22 @@ pub do_over-requires-in-Ok-clause-goals : goal.do_over-requires-in-Ok-clause-goa
 do_over-requires-in-Ok-clause-goals g c =
     let asks = sym (sym c.asks_place.ensures ∙ c.if-not-asks_place.false) in
     let job = c.args.job.now in
-    let words = c.as_slice-words.result.now in
+    let words = c.args.linked.now.words.items in
     let what : c.as_bytes-what.result.now ≡ asked_of job = c.as_bytes-what.ensures.value ∙ c.asked.ensures in
     subst (λ (b : Bool). HasPlace b job words (Some c.as_slice.result)) asks
     (rw c.as_slice.ensures.value
     (subst (λ (text : List ℕ). AreObjectSlots job.file.now (section_of job) words text c.in-Ok.slots.items) what
-    (rw c.section_of.ensures at c.in-Ok.ensures.ok)))
+    (rw (c.section_of.ensures, c.as_slice-words.ensures.value) at c.in-Ok.ensures.ok)))
 
 pub returns-then-not-asks_place-clause-does : goal.returns-then-not-asks_place-clause-does
 returns-then-not-asks_place-clause-does g c =
     let does = c.do_over.ensures.does in
-    Over c.args.linked.now does.0 c.requires.linked (rw c.as_slice-shapes.ensures.value at (rw c.as_slice-words.ensures.value at does.1)) does.2
+    Over c.args.linked.now does.0 c.requires.linked does.1 does.2
 
 pub returns-in-Ok-clause-does : goal.returns-in-Ok-clause-does
 returns-in-Ok-clause-does g c =
     let does = c.do_over-in-Ok.ensures.does in
-    Over c.args.linked.now does.0 c.requires.linked (rw c.as_slice-shapes.ensures.value at (rw c.as_slice-words.ensures.value at does.1)) does.2
+    Over c.args.linked.now does.0 c.requires.linked does.1 does.2
 
 pub returns-in-Err-clause-does : goal.returns-in-Err-clause-does
 returns-in-Err-clause-does g c =

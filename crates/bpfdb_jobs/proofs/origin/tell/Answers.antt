@@ -1,41 +1,62 @@
--- The answer is printed, or a beginning of it.
+-- The answer is printed, or a beginning of it; or memory runs out before, or nothing is known of the names in maps.
 use Rattle.std.proofs.Common.{◌∙◌, ap, refl}
 use Rattle.bpf_origin.specs.Answers.{Answer}
 use Rattle.bpf_origin.specs.Asked.{answer_about}
 use Rattle.bpf_origin.specs.declared.question.Extent.{Extent}
-use Rattle.bpfdb_jobs.specs.Endings.{OutLost, Printed}
-use Rattle.bpfdb_jobs.specs.Jobs.{origin_print}
+use Rattle.bpf_ring.specs.declared.fault.JournalFault.TheVariants.{OutOfMemory}
+use Rattle.bpfdb_faults.specs.declared.refusal.JobRefusal.TheVariants.{Journal, Object}
+use Rattle.bpfdb_jobs.specs.Endings.{OutLost, Printed, Refused}
+use Rattle.bpfdb_jobs.specs.Jobs.{named_print}
 use Rattle.bpfdb_jobs.specs.Origins.{both_extents, followed_by, status_of_extent}
-use Rattle.bpfdb_jobs.proofs.Originating.{origin-prints}
+use Rattle.bpfdb_jobs.proofs.Originating.{names-refuse, origin-prints}
+use Rattle.bpfdb_jobs.proofs.Refusing.{arrival-origin, no-places, session-arrival}
 use Rattle.bpfdb_jobs.proofs.origin.tell.Goals as goal
 
-pub returns-in-Ok-clause-does : goal.returns-in-Ok-clause-does
-returns-in-Ok-clause-does g c =
+pub returns-in-Err-clause-does : goal.returns-in-Err-clause-does
+returns-in-Err-clause-does g c =
+    let at = c.args.arrived in
+    let told = c.refuse.ensures.told in
+    Refused (Object c.in-Err.why told.0)
+    (names-refuse c.args.job.now at.timeline at.moves c.requires.arrived c.args.parts.now c.requires.asked c.in-Err.why told.0
+    (rw c.bytes_of.ensures at told.1, c.in-Err.ensures.err))
+    refl told.2 c.refuse.ensures.value
+
+pub returns-in-Ok-written-clause-does : goal.returns-in-Ok-written-clause-does
+returns-in-Ok-written-clause-does g c =
     let job = c.args.job.now in
     let at = c.args.arrived in
     let x = at.timeline.state in
     let a = c.requires.arrived in
     let h = a.at.point.history in
     let q = c.question_of-question.result in
-    let tail : Answer = record { text = c.args.tail.now; extent = c.args.tail_extent } in
+    let tail : Answer = record { text = c.args.tail.text.now; extent = c.args.tail.extent } in
     let asked = c.requires.asked in
-    let w = rw c.in-Ok.is at c.put_found-told.ensures.text h a.held in
-    let extent = c.put_found-told.ensures.extent h a.held in
-    Printed (origin_print x (followed_by (answer_about q c.args.parts.now h x) tail))
-    (origin-prints job at.timeline at.moves a q asked.0 c.args.parts.now (c.question_of-question.ensures h a.held) asked.1 asked.2 tail c.requires.is)
-    (w.ok, w.same) refl (c.status_of.ensures ∙ ap status_of_extent (c.both_of.ensures ∙ ap (λ (e : Extent). both_extents e c.args.tail_extent) extent))
+    let w = rw (c.in-Ok-written.is, c.as_ref.ensures.value) at c.in-Ok-put_told.ensures.text h a.held in
+    let extent = c.in-Ok-put_told.ensures.extent h a.held in
+    Printed (named_print c.in-Ok.names x (followed_by (answer_about q c.args.parts.now h x) tail))
+    (origin-prints job at.timeline at.moves a q asked.0 c.args.parts.now (c.question_of-question.ensures h a.held) asked.1 asked.2 tail c.requires.is
+    c.in-Ok.names c.in-Ok.ensures.ok)
+    (w.ok, w.same) refl (c.status_of.ensures ∙ ap status_of_extent (c.both_of.ensures ∙ ap (λ (e : Extent). both_extents e c.args.tail.extent) extent))
+
+pub returns-in-Ok-put_told-clause-does : goal.returns-in-Ok-put_told-clause-does
+returns-in-Ok-put_told-clause-does g c =
+    let job = c.args.job.now in
+    let at = c.args.arrived in
+    let x = at.timeline.state in
+    let a = c.requires.arrived in
+    let h = a.at.point.history in
+    let q = c.question_of-question.result in
+    let tail : Answer = record { text = c.args.tail.text.now; extent = c.args.tail.extent } in
+    let asked = c.requires.asked in
+    let w = rw (c.in-Err-written.is, c.as_ref.ensures.value) at c.in-Ok-put_told.ensures.text h a.held in
+    OutLost (named_print c.in-Ok.names x (followed_by (answer_about q c.args.parts.now h x) tail))
+    (origin-prints job at.timeline at.moves a q asked.0 c.args.parts.now (c.question_of-question.ensures h a.held) asked.1 asked.2 tail c.requires.is
+    c.in-Ok.names c.in-Ok.ensures.ok)
+    (w.err, w.fault) c.give_up.ensures.told c.give_up.ensures.value
 
 pub returns-clause-does : goal.returns-clause-does
 returns-clause-does g c =
     let job = c.args.job.now in
-    let at = c.args.arrived in
-    let x = at.timeline.state in
     let a = c.requires.arrived in
-    let h = a.at.point.history in
-    let q = c.question_of-question.result in
-    let tail : Answer = record { text = c.args.tail.now; extent = c.args.tail_extent } in
-    let asked = c.requires.asked in
-    let w = rw c.in-Err.is at c.put_found-told.ensures.text h a.held in
-    OutLost (origin_print x (followed_by (answer_about q c.args.parts.now h x) tail))
-    (origin-prints job at.timeline at.moves a q asked.0 c.args.parts.now (c.question_of-question.ensures h a.held) asked.1 asked.2 tail c.requires.is)
-    (w.err, w.fault) c.give_up.ensures.told c.give_up.ensures.value
+    Refused (Journal OutOfMemory) (arrival-origin job (Journal OutOfMemory) (session-arrival job (Journal OutOfMemory) (no-places job a.code (Journal OutOfMemory) a.opens refl)))
+    c.in-Err-put_told.ensures.same c.give_up-in-Err-put_told.ensures.told c.give_up-in-Err-put_told.ensures.value
