@@ -1,0 +1,84 @@
+# origin --object: the names of places in maps (tests/program/names/). Some stand here by hand; each byte of each map of these and of other objects is held
+# against another reader of symbols and BTF (tests/trials/names.py).
+
+# held WHAT ARGUMENT..: what tests/trials/names.py holds.
+held() {
+    python3 "$top/tests/trials/names.py" "$program" "$@" > found/trial 2>&1 || complain "names.py $*: $(tail -n 3 found/trial)"
+    grep -q ' held$' found/trial && count=$((count + $(sed -n 's/^\([0-9]*\) held$/\1/p' found/trial)))
+}
+
+# map_of NAME: the number of a map of places.o.
+map_of() {
+    sed -n "s/^map \([0-9]*\): $1\$/\1/p" told
+}
+
+# named MAP OFFSET NAME: the name of a byte of a map, at the opening.
+named() {
+    address=$(printf '0x%x' $((0x300000000 + 0x100000 * $(map_of "$1") + $2)))
+    "$program" origin --script empty --object places.o "$address" > found/out 2> found/err
+    count=$((count + 1))
+    case $(tail -n 1 found/out) in
+        "left $address = "*"; at the opening; in $3") ;;
+        *) complain "$1 at $2: $(cat found/out found/err), and not $3" ;;
+    esac
+}
+
+: > empty
+compilers=''
+if has_clang 'origin --object'; then
+    compilers=clang
+    command -v clang-19 > found/which && compilers='clang clang-19'
+fi
+for compiler in $compilers; do
+    "$compiler" -g -O2 -target bpf -c "$parts/names/places.c" -o places.o 2> found/err || complain "$compiler: places.c: $(cat found/err)"
+    "$program" link places.o > words 2> told || complain "places.o: $(cat told)"
+    # struct class has 80 bytes: packets at 0, flag at 8, limits (of 8 bytes each) at 12, state at 28, the union at 32, parts at 36, bits at 44, next at 48, and
+    # matrix at 56.
+    named classes 0 'classes[0].packets'
+    named classes 240 'classes[3].packets'
+    named classes 244 'classes[3].packets+4'
+    named classes 248 'classes[3].flag'
+    named classes 249 'classes[3].flag+1'
+    named classes 252 'classes[3].limits[0].rate'
+    named classes 256 'classes[3].limits[0].burst'
+    named classes 260 'classes[3].limits[1].rate'
+    named classes 266 'classes[3].limits[1].on'
+    named classes 267 'classes[3].limits[1].on+1'
+    named classes 268 'classes[3].state'
+    named classes 273 'classes[3].word+1'
+    named classes 276 'classes[3].parts[0].low'
+    named classes 282 'classes[3].parts[1].high'
+    # (bits from 0, 3 and 12 on)
+    named classes 284 'classes[3].second'
+    named classes 285 'classes[3].third'
+    named classes 287 'classes[3].third+2'
+    named classes 288 'classes[3].next'
+    named classes 316 'classes[3].matrix[1][2]'
+    named counters 16 'counters[2]'
+    named counters 17 'counters[2]+1'
+    named flows 12 'flows[1]'
+    named flows 17 'flows[1]+5'
+    named .data.one 12 'one.limits[0].rate'
+    # What the program wrote and read: a name a line.
+    "$program" origin --object places.o "$(printf '0x%x:4' $((0x300000000 + 260)))" > found/out 2> found/err
+    count=$((count + 4))
+    grep -q '^-[0-9]* 0x300000104:4 = 0xf; .*; from r[0-9]; in classes\[3\]\.limits\[1\]\.rate$' found/out || complain "a store: $(cat found/out found/err)"
+    grep -q '^-[0-9]* r[0-9] = 0x7; .*; from 0x[0-9a-f]*:8; in seed$' found/out || complain "a load: $(cat found/out)"
+    grep -q '^-[0-9]* r[0-9] = 0x5; .*; from 0x[0-9a-f]*:4; in level$' found/out || complain "a load: $(cat found/out)"
+    grep -q '^-[0-9]* 0x[0-9a-f]*:8 = 0x3; .*; from r4; in slow\.rate$' found/out || complain "what the setup stores: $(cat found/out)"
+    # As JSON a name is a member.
+    "$program" origin --json --script empty --object places.o "$(printf '0x%x' $((0x300000000 + 260)))" > found/out 2> found/err
+    count=$((count + 1))
+    [ "$(tail -n 1 found/out)" = '{"kind":"left","since":"opening","name":"classes[3].limits[1].rate","parts":[{"part":"0x300000104","value":"0x0"}]}' ] ||
+        complain "a name as JSON: $(cat found/out found/err)"
+    # Without BTF the names are those of symbols, and without an object there are none.
+    "$compiler" -O2 -target bpf -c "$parts/c/table.c" -o plain.o 2> found/err || complain "table.c: $(cat found/err)"
+    held whole plain.o
+    # shellcheck disable=SC2046
+    "$program" origin --script empty $(sed -n '1p' told) words 0x300000000 > found/out 2> found/err
+    count=$((count + 1))
+    [ "$(tail -n 1 found/out)" = 'left 0x300000000 = 0x0; at the opening' ] || complain "raw words: $(cat found/out found/err)"
+    has python3 'names of places in maps' || continue
+    held whole places.o
+    held turned places.o 7
+done
