@@ -1,5 +1,3 @@
-pub mod Grouping
 pub mod Making
 pub mod Marks
-pub mod Placing
 pub mod Records
