@@ -1,5 +1,4 @@
-//! Places of a program by their names: the slots of a label, of a function, of a line of C; and by
-//! slot: the line of C where each stands.
+//! Places of a program by their names: the slots of a label, of a function, of a line of C.
 #![tactic(auto)]
 
 mod listing;
@@ -7,8 +6,7 @@ mod object;
 mod place;
 mod row;
 mod slots;
-mod texts;
 
 pub use listing::listing_slots;
-pub use object::{object_places, object_slots};
+pub use object::object_slots;
 pub use place::is_place;
