@@ -27,11 +27,7 @@ use Rattle.bpfdb_commands.specs.declared.refusal.Refusal.{Refusal}
 use Rattle.bpfdb_jobs.specs.Jobs.{Prints, arrival_of, named_print, section_of, start_of}
 use Rattle.bpfdb_jobs.specs.Obeying.{ObeysScript, arrived}
 use Rattle.bpfdb_jobs.specs.Openings.{AreAskedParts, HasArrived, HasTail, IsOpening, IsStart}
-<<<<<<< ours
 use Rattle.bpfdb_jobs.specs.Origins.{AreNamesOf, Asks, IsTail, RefusesNames, RefusesWhat, arrival, bounds, followed_by, obeyed, question_by, run_arrival, run_history}
-=======
-use Rattle.bpfdb_jobs.specs.Origins.{Asks, IsTail, RefusesWhat, arrival, bounds, branches_by, followed_by, obeyed, question_by, run_arrival, run_history}
->>>>>>> theirs
 use Rattle.bpfdb_jobs.specs.Refusals.{RefusesArrival, RefusesAs}
 use Rattle.bpfdb_jobs.specs.declared.job.Job.{Job}
 use Rattle.bpfdb_faults.specs.declared.refusal.JobRefusal.TheVariants as jobs
@@ -107,16 +103,10 @@ module _ (job : Job) (moment : Moment RingKeeper) (n : ℕ) (a : HasArrived job 
   -- the answer about it is printed
   pub origin-prints : (q : Question) (what : Option What) (parts : List Part) → q ≡ question job a.at.point.history n
       → Asks job.options.what moment.state what → parts ≡ parts_asked moment.state what
-<<<<<<< ours
       → (tail : Answer) → IsTail job.options.only_branches (question_by job.options a.at) parts a.at.point tail
       → (names : Option Names) → AreNamesOf job.object (section_of job) names
       → Prints Origin job (named_print names moment.state (followed_by (answer_about q parts a.at.point.history moment.state) tail))
   origin-prints q what parts asks-as asks is tail behind names known = (
-=======
-      → (tail : Answer) → IsTail job.options.only_branches (branches_by job.known.places job.options a.at) parts a.at.point tail
-      → Prints Origin job (named_print job.known.names moment.state (followed_by (answer_about q parts a.at.point.history moment.state) tail))
-  origin-prints q what parts asks-as asks is tail behind = (
->>>>>>> theirs
     a.code,
     a.at,
     what,
@@ -125,7 +115,7 @@ module _ (job : Job) (moment : Moment RingKeeper) (n : ℕ) (a : HasArrived job 
     a.opens,
     a.arrives,
     subst (λ (x : State). Asks job.options.what x what) a.state asks,
-    subst (λ (ps : List Part). IsTail job.options.only_branches (branches_by job.known.places job.options a.at) ps a.at.point tail)
+    subst (λ (ps : List Part). IsTail job.options.only_branches (question_by job.options a.at) ps a.at.point tail)
         (is ∙ ap (λ (x : State). parts_asked x what) a.state) behind,
     known,
     ap (λ (z : Question). named_print names moment.state (followed_by (answer_about z parts a.at.point.history moment.state) tail))
@@ -146,10 +136,10 @@ module _ (job : Job) (moment : Moment RingKeeper) (n : ℕ) (a : HasArrived job 
       (a.code, a.at, asked.0, a.opens, a.arrives, subst (λ (x : State). Asks job.options.what x asked.0) a.state asked.1, lacks)
 
   -- behind it are the branches that were found
-  pub branches-behind : (z : Question) (parts : List Part) (found : Found) → AreAskedParts job moment.state parts → job.options.only_branches ≡ true
-      → z ≡ question job a.at.point.history n → IsFound (record { question = z; places = job.known.places }) parts a.at.point.history moment.state found
+  pub branches-behind : (q : Question) (parts : List Part) (found : Found) → AreAskedParts job moment.state parts → job.options.only_branches ≡ true
+      → q ≡ question job a.at.point.history n → IsFound q parts a.at.point.history moment.state found
       → HasTail job found.timeline n parts (record { text = found.text.items; extent = found.extent })
-  branches-behind z parts found asked given asks-as is = record {
+  branches-behind q parts found asked given asks-as is = record {
     arrived = record {
       code = a.code;
       at = a.at;
@@ -160,11 +150,11 @@ module _ (job : Job) (moment : Moment RingKeeper) (n : ℕ) (a : HasArrived job 
       counted = a.counted;
     };
     asked = subst (λ (x : State). AreAskedParts job x parts) (sym is.state) asked;
-    is = subst (λ (b : Bool). IsTail b (branches_by job.known.places job.options a.at) parts a.at.point (record { text = found.text.items; extent = found.extent })) (sym given)
-        (subst (λ (z : Question). AreBranches (record { question = z; places = job.known.places }) parts a.at.point.history a.at.point.state (record { text = found.text.items; extent = found.extent }))
+    is = subst (λ (b : Bool). IsTail b (question_by job.options a.at) parts a.at.point (record { text = found.text.items; extent = found.extent })) (sym given)
+        (subst (λ (z : Question). AreBranches z parts a.at.point.history a.at.point.state (record { text = found.text.items; extent = found.extent }))
         (asks-as ∙ ap (question job a.at.point.history) a.counted)
-        (subst (λ (x : State). AreBranches (record { question = z; places = job.known.places }) parts a.at.point.history x (record { text = found.text.items; extent = found.extent })) a.state
-        (subst (λ (answer : Answer). AreBranches (record { question = z; places = job.known.places }) parts a.at.point.history moment.state answer) (same is.text is.extent) is.is)));
+        (subst (λ (x : State). AreBranches q parts a.at.point.history x (record { text = found.text.items; extent = found.extent })) a.state
+        (subst (λ (z : Answer). AreBranches q parts a.at.point.history moment.state z) (same is.text is.extent) is.is)));
   }
     where
       same : {text : List ℕ} {extent : Extent} {other : Answer} → text ≡ other.text → extent ≡ other.extent → other ≡ record { text = text; extent = extent }
@@ -176,5 +166,5 @@ module _ (job : Job) (moment : Moment RingKeeper) (n : ℕ) (a : HasArrived job 
   nothing-behind parts asked without = record {
     arrived = a;
     asked = asked;
-    is = subst (λ (b : Bool). IsTail b (branches_by job.known.places job.options a.at) parts a.at.point (record { text = []; extent = Whole })) (sym without) refl;
+    is = subst (λ (b : Bool). IsTail b (question_by job.options a.at) parts a.at.point (record { text = []; extent = Whole })) (sym without) refl;
   }

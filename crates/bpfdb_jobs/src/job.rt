@@ -2,7 +2,6 @@
 use bpf_isa::MapShape;
 use bpf_link::Linked;
 use bpfdb_options::{Options, Subcommand};
-use slot_texts::SlotTexts;
 
 /// A subcommand, with the bytes of its files and its options.
 #[derive(Clone, Copy)]
@@ -34,31 +33,7 @@ pub struct Job<'a> {
 
 /// An object, and the program to which it was linked.
 #[derive(Clone, Copy)]
-<<<<<<< ours
 pub struct LinkedObject<'a> {
     pub bytes: &'a [u8],
     pub program: &'a Linked,
-=======
-pub struct Known<'a> {
-    /// The slots of the place that `whynot` asks about, where it is one: numbers with commas
-    /// between. Without them what the options ask about counts.
-    pub goals: Option<&'a [u8]>,
-    /// The names of what lies in its maps, for `origin`. Without them places have addresses alone.
-    pub names: Option<&'a Names<'a>>,
-    /// Where its slots stand in C, for the lines of branches. Without them these end as they do.
-    pub places: SlotTexts<'a>,
-}
-
-impl<'a> Known<'a> {
-    /// Nothing: as of words that don't come from an object.
-    pub fn nothing() -> Known<'a>
-        ensures { result ≡ nothing_known }
-    {
-        Known {
-            goals: None,
-            names: None,
-            places: None,
-        }
-    }
->>>>>>> theirs
 }

@@ -1,14 +1,8 @@
 //! Jobs over an object: it is linked, and the job is done over its words, with its maps.
-<<<<<<< ours
 ghost use Rattle.std.specs.Prelude.{◌≡◌, ◌≤◌, IfErr, IfOk};
 ghost use Rattle.bpfdb_jobs.specs.Done.{DoesLinked, DoesPlain};
 ghost use Rattle.bpfdb_jobs.specs.Objects.{HasPlace, IsOver, LinksTo, RefusesLinking, asks_place, is_check, is_whynot, links_first};
 ghost use Rattle.bpfdb_jobs.specs.declared.job.Job.{Job as Over};
-=======
-ghost use Rattle.std.specs.Prelude.{◌≡◌, ◌≤◌, IfErr, IfOk, map, option_map};
-ghost use Rattle.bpfdb_jobs.specs.Done.{DoesLinked};
-ghost use Rattle.bpfdb_jobs.specs.Objects.{HasMapNames, HasPlace, HasPlaces, IsKnown, IsOver, LinksTo, RefusesLinking, RefusesMapNames, RefusesPlaces, asks_place, is_check, is_origin, is_whynot, links_first, tells_branches};
->>>>>>> theirs
 ghost use Rattle.bpfdb_limits.specs.Limits.{IsLimit};
 ghost use Rattle.bpfdb_faults.specs.Streams.{stream};
 
@@ -17,12 +11,7 @@ use crate::job::{Job, LinkedObject};
 use crate::object::{linked_from, refuse, section_of, stubs_of};
 use crate::whynot::asked;
 use bpf_link::{LinkFault, Linked};
-<<<<<<< ours
 use bpf_places::{is_place, object_slots};
-=======
-use bpf_names::{Names, map_names};
-use bpf_places::{is_place, object_places, object_slots};
->>>>>>> theirs
 use bpfdb_options::{Options, Subcommand};
 use counted_io::Counted;
 use std::alloc::Global;
@@ -105,36 +94,6 @@ fn do_linked<R: Read, W: Write, E: Write>(
         (stream W.contents writer.old writer.new) (stream E.contents errors.old errors.new) result }
     ensures status { result ≤ 2 }
 {
-<<<<<<< ours
-=======
-    let goals = match goals_of(alloc, job, linked) {
-        Ok(goals) => goals,
-        Err(why) => return refuse(job, job.file, errors, why),
-    };
-    let names = match names_of(alloc, job, linked) {
-        Ok(names) => names,
-        Err(why) => return refuse(job, job.file, errors, why),
-    };
-    let places = match places_of(alloc, job, linked) {
-        Ok(places) => places,
-        Err(why) => return refuse(job, job.file, errors, why),
-    };
-    let known = Known {
-        goals: goals.as_deref(),
-        names: names.as_ref(),
-        places: places.as_deref(),
-    };
-    let over = job_over(job, linked, known);
-    plain_tool(alloc, &over, reader, writer, errors)
-}
-
-/// The slots of the place of the object that the job asks about, if it does.
-fn goals_of(alloc: Global, job: &Job<'_>, linked: &Linked) -> Result<Option<Vec<u8>>, LinkFault>
-    ensures ok { IfOk result (λ goals. HasPlace (asks_place job.now) job.now linked.now.words.items
-        (option_map (λ slots. slots.items) goals)) }
-    ensures err { IfErr result (RefusesPlaces job.now) }
-{
->>>>>>> theirs
     if !asks_place(job) {
         return do_over(alloc, job, linked, None, reader, writer, errors);
     }
@@ -149,40 +108,8 @@ fn goals_of(alloc: Global, job: &Job<'_>, linked: &Linked) -> Result<Option<Vec<
     }
 }
 
-<<<<<<< ours
 /// Does a job over the program to which its object is linked, and the slots of the place.
 fn do_over<R: Read, W: Write, E: Write>(
-=======
-/// Whether a job tells branches.
-fn tells_branches(job: &Job<'_>) -> bool
-    ensures { result ≡ tells_branches job.now }
-{
-    is_whynot(job.subcommand) || job.options.only_branches
-}
-
-/// Where the slots of the object stand in C, if the job tells branches.
-fn places_of(
-    alloc: Global,
-    job: &Job<'_>,
-    linked: &Linked,
-) -> Result<Option<Vec<Vec<u8>>>, LinkFault>
-    ensures ok { IfOk result (λ places.
-        HasPlaces (tells_branches job.now) job.now linked.now.words.items
-        (option_map (λ texts. map (λ text. text.items) texts.items) places)) }
-    ensures err { IfErr result (RefusesPlaces job.now) }
-{
-    if !tells_branches(job) {
-        return Ok(None);
-    }
-    match object_places(alloc, job.file, section_of(job), linked.words.as_slice()) {
-        Ok(places) => Ok(Some(places)),
-        Err(why) => Err(why),
-    }
-}
-
-/// The names of what lies in the maps of the object, if the job tells them.
-fn names_of<'a>(
->>>>>>> theirs
     alloc: Global,
     job: &Job<'_>,
     linked: &Linked,

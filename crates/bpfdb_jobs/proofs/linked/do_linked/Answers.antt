@@ -29,19 +29,5 @@ returns-in-Ok-clause-does g c =
 pub returns-in-Err-clause-does : goal.returns-in-Err-clause-does
 returns-in-Err-clause-does g c =
     let told = c.refuse.ensures.told in
-<<<<<<< ours
     let asks = sym c.asks_place.ensures ∙ c.if-not-asks_place.false in
     Unlinked c.in-Err.why told.0 (inr (inr (asks, rw c.section_of.ensures at c.in-Err.ensures.err))) told.1 refl refl told.2 c.refuse.ensures.value
-=======
-    Unlinked c.in-Err.why told.0 (inr (inr (inl c.in-Err.ensures.err))) told.1 refl refl told.2 c.refuse.ensures.value
-
-pub returns-in-Err-places_of-clause-does : goal.returns-in-Err-places_of-clause-does
-returns-in-Err-places_of-clause-does g c =
-    let told = c.refuse-in-Err-places_of.ensures.told in
-    Unlinked c.in-Err-places_of.why told.0 (inr (inr (inl c.in-Err-places_of.ensures.err))) told.1 refl refl told.2 c.refuse-in-Err-places_of.ensures.value
-
-pub returns-in-Err-names_of-clause-does : goal.returns-in-Err-names_of-clause-does
-returns-in-Err-names_of-clause-does g c =
-    let told = c.refuse-in-Err-names_of.ensures.told in
-    Unlinked c.in-Err-names_of.why told.0 (inr (inr (inr c.in-Err-names_of.ensures.err))) told.1 refl refl told.2 c.refuse-in-Err-names_of.ensures.value
->>>>>>> theirs
