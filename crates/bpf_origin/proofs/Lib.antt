@@ -18,4 +18,3 @@ mod EachAtomic
 mod EachHelper
 mod EachMatters
 pub mod Passing
-mod Joining

@@ -1,4 +1,4 @@
 pub mod Cuts
-pub mod FirstPieces
+pub mod Pieces
 pub mod Steps
 pub mod Turns

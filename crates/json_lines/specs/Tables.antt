@@ -68,7 +68,6 @@ piece_shapes =
     ∷ shape [] (codes "byte ") (count (codes "byte") (codes " of the context") ∷ []) Nothing
     ∷ shape [] (codes "at the ") (text (codes "since") [] ∷ []) Nothing
     ∷ shape [] (codes "before the ") (text (codes "since") [] ∷ []) Nothing
-    ∷ shape [] (codes "not written since the ") (text (codes "since") [] ∷ []) Nothing
     ∷ []
 
 -- The result of `run`.

@@ -11,5 +11,4 @@ mod string;
 mod table;
 
 pub use answer::Answer;
-pub use cut::{Pieces, begins, behind, cut_at};
 pub use object::json_of;

@@ -1,5 +1,0 @@
-pub mod Parts
-pub mod Lines
-pub mod Links
-pub mod Graphs
-pub mod Writers
