@@ -185,7 +185,7 @@ fn plan_in<'a>(name: &'a str, found: &ArgMatches<'a>) -> Result<Plan<'a>, &'stat
         turns,
         counts,
         options,
-        json: is_given(found, "json"),
+        json: is_given(text_of(found, "json")),
     })
 }
 
@@ -228,21 +228,21 @@ fn misfit_of_text(name: &str, found: &ArgMatches<'_>) -> Option<&'static str>
 fn shows_json(found: &ArgMatches<'_>) -> bool
     ensures { result ≡ shows_json (rows_of (found_of found.now)) }
 {
-    has_text(found, "show") && is_given(found, "json")
+    text_of(found, "show").is_some() && is_given(text_of(found, "json"))
 }
 
 /// Whether a tracefile is to be JSON.
 fn is_json_tracefile(found: &ArgMatches<'_>) -> bool
     ensures { result ≡ is_json_tracefile (rows_of (found_of found.now)) }
 {
-    is_given(found, "cover-info") && is_given(found, "json")
+    is_given(text_of(found, "cover-info")) && is_given(text_of(found, "json"))
 }
 
 /// Whether the steps of a strict run are to be counted.
 fn counts_strictly(found: &ArgMatches<'_>) -> bool
     ensures { result ≡ counts_strictly (rows_of (found_of found.now)) }
 {
-    is_given(found, "strict") && is_given(found, "profile")
+    is_given(text_of(found, "strict")) && is_given(text_of(found, "profile"))
 }
 
 /// Why what is asked of runs and of a link doesn't go together, if it doesn't.
@@ -268,7 +268,7 @@ fn misfit_of_writes(name: &str, found: &ArgMatches<'_>) -> Option<&'static str>
     ensures some { OnSome result ((writes_fit (rows_of (found_of found.now))
         && link_fits name.now (rows_of (found_of found.now))) ≡ false) }
 {
-    if is_given(found, "writes") && has_text(found, "trace") {
+    if is_given(text_of(found, "writes")) && text_of(found, "trace").is_some() {
         Some(WRITES_AND_TRACE)
     } else {
         misfit_of_link(name, found)
@@ -308,12 +308,12 @@ fn counts_fit(found: &ArgMatches<'_>) -> bool
 fn misfit_of_other(found: &ArgMatches<'_>) -> Option<&'static str>
     ensures { is_some result ≡ not (names_other (rows_of (found_of found.now))) }
 {
-    if has_text(found, "other") {
-        if has_text(found, "other-mem") {
+    if text_of(found, "other").is_some() {
+        if text_of(found, "other-mem").is_some() {
             Some(TWO_OTHERS)
-        } else if has_text(found, "trace") {
+        } else if text_of(found, "trace").is_some() {
             Some(OTHER_AND_TRACE)
-        } else if is_given(found, "object") {
+        } else if is_given(text_of(found, "object")) {
             Some(OBJECT_AND_OTHER)
         } else {
             None
@@ -327,7 +327,10 @@ fn misfit_of_other(found: &ArgMatches<'_>) -> Option<&'static str>
 fn misfit_of_side(found: &ArgMatches<'_>) -> Option<&'static str>
     ensures { is_some result ≡ not (names_side (rows_of (found_of found.now))) }
 {
-    match (has_text(found, "other-mem"), has_text(found, "trace")) {
+    match (
+        text_of(found, "other-mem").is_some(),
+        text_of(found, "trace").is_some(),
+    ) {
         (true, true) => Some(CONTEXT_AND_TRACE),
         (false, false) => Some(NO_OTHER),
         _ => None,
@@ -339,7 +342,7 @@ fn misfit_of_link(name: &str, found: &ArgMatches<'_>) -> Option<&'static str>
     ensures none { IfNone result (link_fits name.now (rows_of (found_of found.now)) ≡ true) }
     ensures some { OnSome result (link_fits name.now (rows_of (found_of found.now)) ≡ false) }
 {
-    if is_given(found, "object") {
+    if is_given(text_of(found, "object")) {
         misfit_with_object(found)
     } else if name == "link" {
         None
@@ -355,9 +358,9 @@ fn misfit_with_object(found: &ArgMatches<'_>) -> Option<&'static str>
     ensures { is_some result ≡ not (not (is_given (first_of (codes "listing") (rows_of (found_of found.now))))
         && not (is_some (first_of (codes "maps") (rows_of (found_of found.now))))) }
 {
-    if is_given(found, "listing") {
+    if is_given(text_of(found, "listing")) {
         Some(OBJECT_AND_LISTING)
-    } else if has_text(found, "maps") {
+    } else if text_of(found, "maps").is_some() {
         Some(OBJECT_AND_MAPS)
     } else {
         None
@@ -366,7 +369,7 @@ fn misfit_with_object(found: &ArgMatches<'_>) -> Option<&'static str>
 
 /// What is said of something that is asked of a link where no object is linked.
 fn without_object(found: &ArgMatches<'_>) -> &'static str {
-    if has_text(found, "with") {
+    if text_of(found, "with").is_some() {
         WITH_NO_OBJECT
     } else {
         NO_OBJECT
@@ -377,10 +380,10 @@ fn without_object(found: &ArgMatches<'_>) -> &'static str {
 fn asks_of_link(found: &ArgMatches<'_>) -> bool
     ensures { result ≡ asks_of_link (rows_of (found_of found.now)) }
 {
-    let chooses = has_text(found, "section") || has_text(found, "entry");
-    let adds = has_text(found, "with") || has_text(found, "entries");
-    let leaves = is_given(found, "as-compiled") || adds;
-    chooses || (has_text(found, "stub") || leaves)
+    let chooses = text_of(found, "section").is_some() || text_of(found, "entry").is_some();
+    let adds = text_of(found, "with").is_some() || text_of(found, "entries").is_some();
+    let leaves = is_given(text_of(found, "as-compiled")) || adds;
+    chooses || (text_of(found, "stub").is_some() || leaves)
 }
 
 /// The options of a subcommand's matches. None where a number is out of its range, or a name none
@@ -412,30 +415,30 @@ fn options_in<'a>(found: &ArgMatches<'a>) -> Option<Options<'a>>
         limit,
         from,
         count,
-        only_branches: is_given(found, "branches"),
-        is_profile: is_given(found, "profile"),
-        is_strict: is_given(found, "strict"),
-        is_listing: is_given(found, "listing"),
-        is_object: is_given(found, "object"),
+        only_branches: is_given(text_of(found, "branches")),
+        is_profile: is_given(text_of(found, "profile")),
+        is_strict: is_given(text_of(found, "strict")),
+        is_listing: is_given(text_of(found, "listing")),
+        is_object: is_given(text_of(found, "object")),
         section: text_of(found, "section"),
         entry: text_of(found, "entry"),
         stubs: text_of(found, "stub"),
-        as_compiled: is_given(found, "as-compiled"),
+        as_compiled: is_given(text_of(found, "as-compiled")),
         packet,
-        is_joined: is_given(found, "joined"),
+        is_joined: is_given(text_of(found, "joined")),
         registers,
         what: text_of(found, "what"),
         lines,
-        addresses: is_given(found, "addresses"),
-        alone: is_given(found, "alone"),
-        other_is_context: has_text(found, "other-mem"),
-        other_is_trace: has_text(found, "trace"),
-        compares_writes: is_given(found, "writes"),
+        addresses: is_given(text_of(found, "addresses")),
+        alone: is_given(text_of(found, "alone")),
+        other_is_context: text_of(found, "other-mem").is_some(),
+        other_is_trace: text_of(found, "trace").is_some(),
+        compares_writes: is_given(text_of(found, "writes")),
         only: text_of(found, "only"),
         show,
-        covers: is_given(found, "cover"),
-        is_tracefile: is_given(found, "cover-info"),
-        anywhere: is_given(found, "anywhere"),
+        covers: is_given(text_of(found, "cover")),
+        is_tracefile: is_given(text_of(found, "cover-info")),
+        anywhere: is_given(text_of(found, "anywhere")),
     })
 }
 
@@ -591,18 +594,11 @@ fn number_or(text: Option<&str>, default: u64) -> Option<u64>
     }
 }
 
-/// Whether an argument has a text.
-fn has_text(found: &ArgMatches<'_>, id: &str) -> bool
-    ensures { result ≡ is_some (first_of id.now (rows_of (found_of found.now))) }
-{
-    text_of(found, id).is_some()
-}
-
 /// Whether a flag was given.
-fn is_given(found: &ArgMatches<'_>, id: &str) -> bool
-    ensures { result ≡ is_given (first_of id.now (rows_of (found_of found.now))) }
+fn is_given(text: Option<&str>) -> bool
+    ensures { result ≡ is_given (option_map (λ t. t.now) text.entry) }
 {
-    match text_of(found, id) {
+    match text {
         None => false,
         Some(text) => text == "true",
     }
