@@ -21,6 +21,7 @@ emacs emacs-nox elpa-dap-mode node-vscode-debugprotocol
 fish fish
 gdb gdb
 gdb-multiarch gdb-multiarch
+dot graphviz
 genhtml lcov
 git git
 groff groff-base

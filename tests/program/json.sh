@@ -55,9 +55,18 @@ tells 0 '{"kind":"step","step":1,"slot":0,"insn":"jeq r1, 0, L3","way":"went on"
 {"kind":"exited","slot":2,"r0":"0x9"}\n' trace --json --branches -m context --listing first.s
 tells 0 '{"kind":"exited","slot":2,"r0":"0x9"}
 {"kind":"move","moves":2,"slot":1,"insn":"ldxb r0, [r1+0]","from":["0x100000000:1"],"parts":[{"part":"r0","value":"0x9"}]}
-{"kind":"left","byte":0,"since":"opening","parts":[{"part":"0x100000000","value":"0x9"}]}
+{"kind":"left","byte":0,"since":"opening","parts":[{"part":"0x100000000:1","value":"0x9"}]}
 {"kind":"move","moves":3,"slot":0,"insn":"jeq r1, 0, L3","way":"went on","parts":[{"part":"r1","value":"0x100000000"}]}
 {"kind":"text","text":"no other branch; at the opening"}\n' origin --json --branches -m context --listing first.s
+# Bytes of the first frame, and of one that a call entered, that nothing wrote.
+listing unset.s 'ldxw r0, [r10-4];exit'
+tells 0 '{"kind":"exited","slot":1,"r0":"0x0"}
+{"kind":"move","moves":2,"slot":0,"insn":"ldxw r0, [r10-4]","from":["0x2000001fc:4"],"parts":[{"part":"r0","value":"0x0"}]}
+{"kind":"left","since":"call","parts":[{"part":"0x2000001fc:4","value":"0x0"}]}\n' origin --json --listing unset.s
+listing called.s 'callf f;exit;f: ldxb r0, [r10-1];exit'
+tells 0 '{"kind":"exited","slot":1,"r0":"0x0"}
+{"kind":"move","moves":3,"slot":2,"insn":"ldxb r0, [r10-1]","from":["0x2000005ff:1"],"parts":[{"part":"r0","value":"0x0"}]}
+{"kind":"move","moves":4,"slot":0,"insn":"callf L2","since":"call","parts":[{"part":"0x200000400:512"}]}\n' origin --json --listing called.s
 tells 0 '{"kind":"exited","slot":4,"r0":"0x1"}
 {"kind":"move","moves":3,"slot":0,"insn":"jeq r1, 0, L3","way":"jumped","to":3,"parts":[{"part":"r1","value":"0x0"}]}
 {"kind":"at","slot":0,"insn":"jeq r1, 0, L3"}

@@ -121,7 +121,7 @@ done
 wants "$plain$a7$c13$o2$j2" 0 '' '' debug --listing program.s
 wants "$plain$a7$c13$o2$j2" 0 'exited at 1: r0 0x2a\n-2 r0 = 0x2a; 0: mov r0, 42\n' '' origin --listing program.s
 wants "$plain$a7$c13$o2$j2" 0 'exited at 1: r0 0x2a\n-2 r0 = 0x2a; 0: mov r0, 42\nno other branch; at the opening\n' '' origin --branches --listing program.s
-wants "$plain$c13$o2$j2" 0 'exited at 1: r0 0x2a\nleft 0x200000000 = 0x0; at the opening\n' '' origin -m context --maps 8x2 --journal 1024 program 0x200000000
+wants "$plain$c13$o2$j2" 0 'exited at 1: r0 0x2a\nleft 0x200000000:1 = 0x0; not written since the call\n' '' origin -m context --maps 8x2 --journal 1024 program 0x200000000
 printf 'stepi\nset reg r0 7\nundo\nredo\n' > obeyed
 wants "$plain$a7$c13$o2$j2" 0 'at 1: exit\n-1 r0 = 0x7; edit\n' '' origin --script obeyed --listing program.s
 wants "$plain$c13$o2$j2" 0 'at 1: exit\n-1 r0 = 0x7; edit\n' '' origin -m context --maps 8x2 --journal 1024 --script obeyed program r0

@@ -38,19 +38,36 @@ listing deep.s 'f: callf f;exit'
 tells 0 'fault depth at 0\nleft r0 = 0x0; at the opening\n' origin --listing deep.s
 
 # Bytes: of the context, with their place there; of a frame; of a map. Decimal and hexadecimal, with leading zeros, 1 to 256 of them.
-tells 0 'exited at 1: r0 0x2a\nleft 0x100000000 = 0x2a; byte 0 of the context; at the opening\nleft 0x100000001 = 0x1; byte 1 of the context; at the opening\nleft 0x100000002 = 0x0; byte 2 of the context; at the opening\n' \
+tells 0 'exited at 1: r0 0x2a\nleft 0x100000000:3 = 0x12a; byte 0 of the context; at the opening\n' \
     origin -m context --listing load.s 0x100000000:3
 for what in 0x100000001 0x100000001:1 4294967297 4294967297:0x1 0x0100000001:01; do
-    tells 0 'exited at 1: r0 0x2a\nleft 0x100000001 = 0x1; byte 1 of the context; at the opening\n' origin -m context --listing load.s $what
+    tells 0 'exited at 1: r0 0x2a\nleft 0x100000001:1 = 0x1; byte 1 of the context; at the opening\n' origin -m context --listing load.s $what
 done
 listing store.s 'stw [r10-8], 0x1234;stb [r10-7], 7;mov r0, 0;exit'
 tells 0 'exited at 3: r0 0x0\n-3 0x2000001f9:1 = 0x7; 1: stb [r10-7], 7\n-4 0x2000001f8:4 = 0x1234; 0: stw [r10-8], 4660\n' origin --listing store.s 0x2000001f8:2
-tells 0 'exited at 3: r0 0x0\n-4 0x2000001f8:4 = 0x1234; 0: stw [r10-8], 4660\nleft 0x2000001fc = 0x0; at the opening\n' origin --listing store.s 0x2000001fb:2
+tells 0 'exited at 3: r0 0x0\n-4 0x2000001f8:4 = 0x1234; 0: stw [r10-8], 4660\nleft 0x2000001fc:1 = 0x0; not written since the call\n' origin --listing store.s 0x2000001fb:2
 listing cell.s 'ldmapval r1, 0, 8;ldxb r0, [r1+7];exit'
-tells 0 'exited at 3: r0 0x0\n-2 r0 = 0x0; 2: ldxb r0, [r1+7]; from 0x30000000f:1\nleft 0x30000000f = 0x0; at the opening\n' origin --maps 8x2 --listing cell.s
-whole=$(awk 'BEGIN { for (i = 0; i < 256; i++) printf "left 0x2000000%02x = 0x0; at the opening\\n", i }')
+tells 0 'exited at 3: r0 0x0\n-2 r0 = 0x0; 2: ldxb r0, [r1+7]; from 0x30000000f:1\nleft 0x30000000f:1 = 0x0; at the opening\n' origin --maps 8x2 --listing cell.s
+whole=$(awk 'BEGIN { for (i = 0; i < 256; i += 8) printf "left 0x2000000%02x:8 = 0x0; not written since the call\\n", i }')
 tells 0 "exited at 1: r0 0x1\n$whole" origin --listing one.s 0x200000000:256
 tells 0 "exited at 1: r0 0x1\n$whole" origin --listing one.s 0x200000000:0x100
+
+# Bytes that are left stand on one line where each follows the one before, at most eight of them: nine; four of which one is missing between, and the
+# lower two come to be wanted last; and four that two loads read.
+bytes row 01 02 03 04 05 06 07 08 09
+tells 0 'exited at 1: r0 0x1\nleft 0x100000000:8 = 0x807060504030201; byte 0 of the context; at the opening\nleft 0x100000008:1 = 0x9; byte 8 of the context; at the opening\n' \
+    origin -m row --listing one.s 0x100000000:9
+listing apart.s 'ldxh r0, [r1+0];ldxh r2, [r1+3];add r0, r2;exit'
+tells 0 'exited at 3: r0 0x705\n-2 r0 = 0x705; 2: add r0, r2; from r0 r2\n-3 r2 = 0x504; 1: ldxh r2, [r1+3]; from 0x100000003:2\n-4 r0 = 0x201; 0: ldxh r0, [r1+0]; from 0x100000000:2\nleft 0x100000003:2 = 0x504; byte 3 of the context; at the opening\nleft 0x100000000:2 = 0x201; byte 0 of the context; at the opening\n' \
+    origin -m row --listing apart.s
+listing halves.s 'ldxh r2, [r1+2];ldxh r0, [r1+0];add r0, r2;exit'
+tells 0 'exited at 3: r0 0x604\n-2 r0 = 0x604; 2: add r0, r2; from r0 r2\n-3 r0 = 0x201; 1: ldxh r0, [r1+0]; from 0x100000000:2\n-4 r2 = 0x403; 0: ldxh r2, [r1+2]; from 0x100000002:2\nleft 0x100000000:4 = 0x4030201; byte 0 of the context; at the opening\n' \
+    origin -m row --listing halves.s
+# A byte of the first frame that nothing wrote, and of a frame that a call entered; where a journal has dropped moves nobody knows.
+listing unset.s 'ldxw r0, [r10-4];exit'
+tells 0 'exited at 1: r0 0x0\n-2 r0 = 0x0; 0: ldxw r0, [r10-4]; from 0x2000001fc:4\nleft 0x2000001fc:4 = 0x0; not written since the call\n' origin --listing unset.s
+listing late.s 'ldxw r0, [r10-4];l: add r2, 1;jlt r2, 60, l;exit'
+tells 0 'exited at 3: r0 0x0\nleft 0x2000001fc:4 = 0x0; before the kept history\n' origin --journal 1024 --listing late.s 0x2000001fc:4
 
 # What names nothing, and what isn't there. It is looked at last.
 v1='refused V1: neither r0 to r9 nor ADDRESS:COUNT'
@@ -106,7 +123,7 @@ loads() {
         }
         if (lines == most) { print "cut: there are more lines"; exit }
         printf "-%d r0 = 0x0; 0: ldxdw r0, [r1+0]; from 0x100000000:8\n", steps
-        for (i = n - 1; i >= 0; i--) for (k = 8 * i; k < 8 * i + 8; k++) printf "left 0x1%08x = 0x0; byte %d of the context; at the opening\n", k, k
+        for (i = n - 1; i >= 0; i--) printf "left 0x1%08x:8 = 0x0; byte %d of the context; at the opening\n", 8 * i, 8 * i
     }' > told
 }
 
@@ -135,7 +152,7 @@ tells_loads 1 513 1023 --lines 1023
 # A part of more places than are wanted, and of fewer: a call that clears 512 bytes, of which one is wanted, with no other place and with 600 bytes
 # of the context.
 listing few.s 'callf f;exit;f: ldxb r0, [r10-1];exit'
-tells 0 'exited at 1: r0 0x0\n-3 r0 = 0x0; 2: ldxb r0, [r10-1]; from 0x2000005ff:1\n-4 0x200000400:512; 0: callf L2\n' origin --listing few.s
+tells 0 'exited at 1: r0 0x0\n-3 r0 = 0x0; 2: ldxb r0, [r10-1]; from 0x2000005ff:1\n-4 0x200000400:512; 0: callf L2; not written since the call\n' origin --listing few.s
 awk 'BEGIN {
     printf "callf f\nexit\nf: ldxb r0, [r10-1]\n"
     for (i = 0; i < 75; i++) printf "ldxdw r2, [r1+%d]\nadd r0, r2\n", 8 * i
@@ -148,8 +165,8 @@ awk 'BEGIN {
         printf "-%d r2 = 0x0; %d: ldxdw r2, [r1+%d]; from 0x1%08x:8\n", 152 - 2 * i, 2 * i + 3, 8 * i, 8 * i
     }
     print "-153 r0 = 0x0; 2: ldxb r0, [r10-1]; from 0x2000005ff:1"
-    print "-154 0x200000400:512; 0: callf L2"
-    for (i = 74; i >= 0; i--) for (k = 8 * i; k < 8 * i + 8; k++) printf "left 0x1%08x = 0x0; byte %d of the context; at the opening\n", k, k
+    print "-154 0x200000400:512; 0: callf L2; not written since the call"
+    for (i = 74; i >= 0; i--) printf "left 0x1%08x:8 = 0x0; byte %d of the context; at the opening\n", 8 * i, 8 * i
 }' > told
 run origin -m page --listing many.s
 echo 0 > wanted/status
@@ -171,7 +188,7 @@ awk 'BEGIN {
     }
     for (i = 487; i >= 0; i--) {
         if (i == 0) print "left r0 = 0x0; at the opening"
-        for (k = 8 * i; k < 8 * i + 8; k++) printf "left 0x1%08x = 0x0; byte %d of the context; at the opening\n", k, k
+        printf "left 0x1%08x:8 = 0x0; byte %d of the context; at the opening\n", 8 * i, 8 * i
     }
 }' > told
 (
@@ -207,7 +224,7 @@ tells 1 'exited at 3: r0 0x0\n-2 r0 = 0x0; 2: ldxdw r0, [r2-8]; from 0x2000001f8
 
 # Functions: each has r6 to r9 of its own, which begin as the caller's; a frame that is entered is zero.
 listing calls.s 'mov r6, 5;callf other;callf sum;exit;sum: mov r0, r6;ldxdw r2, [r10-8];add r0, r2;exit;other: mov r6, 7;stdw [r10-8], 3;exit'
-tells 0 'exited at 3: r0 0x5\n-3 r0 = 0x5; 6: add r0, r2; from r0 r2\n-4 r2 = 0x0; 5: ldxdw r2, [r10-8]; from 0x2000005f8:8\n-5 r0 = 0x5; 4: mov r0, r6; from r6 at depth 1\n-6 0x200000400:512; 2: callf L4\n-11 r6 = 0x5; 0: mov r6, 5\n' \
+tells 0 'exited at 3: r0 0x5\n-3 r0 = 0x5; 6: add r0, r2; from r0 r2\n-4 r2 = 0x0; 5: ldxdw r2, [r10-8]; from 0x2000005f8:8\n-5 r0 = 0x5; 4: mov r0, r6; from r6 at depth 1\n-6 0x200000400:512; 2: callf L4; not written since the call\n-11 r6 = 0x5; 0: mov r6, 5\n' \
     origin --listing calls.s
 tells 0 'exited at 3: r0 0x5\n-11 r6 = 0x5; 0: mov r6, 5\n' origin --listing calls.s r6
 tells 0 'at 9: stdw [r10-8], 3\n-1 r6 at depth 1 = 0x7; 8: mov r6, 7\n' origin --listing --steps 3 calls.s r6
@@ -232,13 +249,13 @@ tells 0 'exited at 7: r0 0x1\n-2 r0 = 0x1; 6: ldxb r0, [r1+0]; from 0x300000008:
 # A name of nine letters is copied to seven bytes and a zero: the last two fall on the pointer.
 listing name.s 'stxdw [r10-8], r1;mov r3, r10;add r3, -16;copy: ldxb r4, [r1+0];stxb [r3+0], r4;add r1, 1;add r3, 1;jne r4, 0, copy;ldxdw r1, [r10-8];ldxb r0, [r1+15];exit'
 printf 'localhost\0\0\0\0\0\0\1' > name
-tells 0 'fault access 0x100000083 at 9\n-2 r1 = 0x100000074; 8: ldxdw r1, [r10-8]; from 0x2000001f8:8\n-6 0x2000001f9:1 = 0x0; 4: stxb [r3+0], r4; from r4\n-7 r4 = 0x0; 3: ldxb r4, [r1+0]; from 0x100000009:1\n-11 0x2000001f8:1 = 0x74; 4: stxb [r3+0], r4; from r4\n-12 r4 = 0x74; 3: ldxb r4, [r1+0]; from 0x100000008:1\n-55 0x2000001f8:8 = 0x100000000; 0: stxdw [r10-8], r1; from r1\nleft 0x100000009 = 0x0; byte 9 of the context; at the opening\nleft 0x100000008 = 0x74; byte 8 of the context; at the opening\nleft r1 = 0x100000000; at the opening\n' \
+tells 0 'fault access 0x100000083 at 9\n-2 r1 = 0x100000074; 8: ldxdw r1, [r10-8]; from 0x2000001f8:8\n-6 0x2000001f9:1 = 0x0; 4: stxb [r3+0], r4; from r4\n-7 r4 = 0x0; 3: ldxb r4, [r1+0]; from 0x100000009:1\n-11 0x2000001f8:1 = 0x74; 4: stxb [r3+0], r4; from r4\n-12 r4 = 0x74; 3: ldxb r4, [r1+0]; from 0x100000008:1\n-55 0x2000001f8:8 = 0x100000000; 0: stxdw [r10-8], r1; from r1\nleft 0x100000009:1 = 0x0; byte 9 of the context; at the opening\nleft 0x100000008:1 = 0x74; byte 8 of the context; at the opening\nleft r1 = 0x100000000; at the opening\n' \
     origin -m name --listing name.s
 
 # The numbers of three records are added up; the third one's length leads out of the context.
 listing records.s 'next: ldxb r3, [r1+0];jeq r3, 0, done;ldxb r4, [r1+1];add r0, r4;add r1, r3;ja next;done: exit'
 printf '\2\5\4\7\0\2\11\0' > records
-tells 0 'fault access 0x10000000f at 0\n-4 r0 = 0xc; 3: add r0, r4; from r0 r4\n-5 r4 = 0x0; 2: ldxb r4, [r1+1]; from 0x100000007:1\n-10 r0 = 0xc; 3: add r0, r4; from r0 r4\n-11 r4 = 0x7; 2: ldxb r4, [r1+1]; from 0x100000003:1\n-16 r0 = 0x5; 3: add r0, r4; from r0 r4\n-17 r4 = 0x5; 2: ldxb r4, [r1+1]; from 0x100000001:1\nleft 0x100000007 = 0x0; byte 7 of the context; at the opening\nleft 0x100000003 = 0x7; byte 3 of the context; at the opening\nleft r0 = 0x0; at the opening\nleft 0x100000001 = 0x5; byte 1 of the context; at the opening\n' \
+tells 0 'fault access 0x10000000f at 0\n-4 r0 = 0xc; 3: add r0, r4; from r0 r4\n-5 r4 = 0x0; 2: ldxb r4, [r1+1]; from 0x100000007:1\n-10 r0 = 0xc; 3: add r0, r4; from r0 r4\n-11 r4 = 0x7; 2: ldxb r4, [r1+1]; from 0x100000003:1\n-16 r0 = 0x5; 3: add r0, r4; from r0 r4\n-17 r4 = 0x5; 2: ldxb r4, [r1+1]; from 0x100000001:1\nleft 0x100000007:1 = 0x0; byte 7 of the context; at the opening\nleft 0x100000003:1 = 0x7; byte 3 of the context; at the opening\nleft r0 = 0x0; at the opening\nleft 0x100000001:1 = 0x5; byte 1 of the context; at the opening\n' \
     origin -m records --listing records.s r0
 
 # A compare-exchange reads r0, the source and the word.
@@ -259,9 +276,8 @@ added='-3 r1 = 0x301; 0x2000001f8:8 = 0x303; 3: atomic_fetch_add64 [r10-8], r1; 
 for what in r1 0x2000001ff; do
     tells 0 "exited at 5: r0 0x0\n$added" origin --listing fetch.s $what
 done
-for what in r2 0x2000001f7; do
-    tells 0 "exited at 5: r0 0x0\nleft $what = 0x0; at the opening\n" origin --listing fetch.s $what
-done
+tells 0 'exited at 5: r0 0x0\nleft r2 = 0x0; at the opening\n' origin --listing fetch.s r2
+tells 0 'exited at 5: r0 0x0\nleft 0x2000001f7:1 = 0x0; not written since the call\n' origin --listing fetch.s 0x2000001f7
 listing match.s 'mov r0, 1;stdw [r10-8], 1;mov r3, 7;atomic_cmpxchg64 [r10-8], r3;exit'
 matched='-2 r0 = 0x1; 0x2000001f8:8 = 0x7; 3: atomic_cmpxchg64 [r10-8], r3; from r0 r3 0x2000001f8:8\n-3 r3 = 0x7; 2: mov r3, 7\n-4 0x2000001f8:8 = 0x1; 1: stdw [r10-8], 1\n-5 r0 = 0x1; 0: mov r0, 1\n'
 for what in r0 0x2000001f8; do
@@ -273,16 +289,19 @@ updated='-2 r0 = 0x0; 0x300000008:8 = 0x2a; 9: call 2; from r1 0x2000001fc:4 r4 
 for what in r0 0x300000008 0x30000000f; do
     tells 0 "exited at 10: r0 0x0\n$updated" origin --maps 8x3 --listing update.s $what
 done
-for what in r5 0x300000007 0x300000010; do
+for what in r5 0x300000007:1 0x300000010:1; do
     tells 0 "exited at 10: r0 0x0\nleft $what = 0x0; at the opening\n" origin --maps 8x3 --listing update.s $what
 done
 listing word.s 'mov r1, 9;call 64;exit'
 tells 0 'exited at 2: r0 0x0\n-2 r0 = 0x0; word 0 = 0x9; 1: call 64; from r1\n-3 r1 = 0x9; 0: mov r1, 9\n' origin --listing word.s r0
 tells 0 'exited at 2: r0 0x0\n-3 r1 = 0x9; 0: mov r1, 9\n' origin --listing word.s r1
 for what in 0x200000400:1 0x2000005f8 0x2000005ff; do
-    tells 0 'exited at 3: r0 0x5\n-6 0x200000400:512; 2: callf L4\n' origin --listing calls.s $what
+    tells 0 'exited at 3: r0 0x5\n-6 0x200000400:512; 2: callf L4; not written since the call\n' origin --listing calls.s $what
 done
-for what in 0x200000000 0x2000001ff 0x200000800 0x2000009f8; do
+for what in 0x200000000:1 0x2000001ff:1; do
+    tells 0 "exited at 3: r0 0x5\nleft $what = 0x0; not written since the call\n" origin --listing calls.s $what
+done
+for what in 0x200000800:1 0x2000009f8:1; do
     tells 0 "exited at 3: r0 0x5\nleft $what = 0x0; at the opening\n" origin --listing calls.s $what
 done
 tells 0 'at 10: exit\n-1 0x2000005f8:8 = 0x3; 9: stdw [r10-8], 3\n' origin --listing --steps 4 calls.s 0x2000005ff
@@ -314,7 +333,7 @@ tells 1 'exited at 2: r0 0x3\n-3 r0 = 0x3; 0: add r0, 1; from r0\ncut: there are
 tells 0 'fault access 0x5 at 1\n-2 r3 = 0x5; 0: mov r3, 5\n' origin --script path --listing far.s
 tells 0 'exited at 3: r0 0x0\n-2 r0 = 0x0; 2: ldxdw r0, [r2-8]; from 0x2000001f8:8 r2\n-3 r2 = 0x200000200; 1: mov r2, r10\n-4 0x2000001f8:8 = 0x0; 0: stxdw [r10-8], r1; from r1\nleft r1 = 0x0; at the opening\n' \
     origin --addresses --script path --listing pointer.s
-tells 0 'exited at 1: r0 0x2a\n-2 r0 = 0x2a; 0: ldxb r0, [r1+0]; from 0x100000000:1\nleft 0x100000000 = 0x2a; byte 0 of the context; at the opening\n' \
+tells 0 'exited at 1: r0 0x2a\n-2 r0 = 0x2a; 0: ldxb r0, [r1+0]; from 0x100000000:1\nleft 0x100000000:1 = 0x2a; byte 0 of the context; at the opening\n' \
     origin -m context --script path --listing load.s
 script path 'stepi 3\n'
 tells 0 'at 9: stdw [r10-8], 3\n-1 r6 at depth 1 = 0x7; 8: mov r6, 7\n' origin --listing --script path calls.s r6
@@ -326,7 +345,7 @@ tells 0 'at 2: exit\n-2 r0 = 0x3; 0: add r0, 1; from r0\n-4 r0 = 0x2; 0: add r0,
 # Edits write and read nothing; one of the pc has no line.
 listing word-of-frame.s 'ldxdw r0, [r10-8];exit'
 script path 'set mem 0x2000001f8 01000000\nstepi 2\nset pc 0\nstepi\n'
-tells 0 'at 1: exit\n-1 r0 = 0x1; 0: ldxdw r0, [r10-8]; from 0x2000001f8:8\n-5 0x2000001f8:4 = 0x1; edit\nleft 0x2000001fc = 0x0; at the opening\nleft 0x2000001fd = 0x0; at the opening\nleft 0x2000001fe = 0x0; at the opening\nleft 0x2000001ff = 0x0; at the opening\n' \
+tells 0 'at 1: exit\n-1 r0 = 0x1; 0: ldxdw r0, [r10-8]; from 0x2000001f8:8\n-5 0x2000001f8:4 = 0x1; edit\nleft 0x2000001fc:4 = 0x0; not written since the call\n' \
     origin --script path --listing word-of-frame.s
 script path 'stepi 2\nset reg r0 5\ncontinue\n'
 five='exited at 2: r0 0x6\n-3 r0 = 0x6; 0: add r0, 1; from r0\n-4 r0 = 0x5; edit\n'
@@ -368,7 +387,7 @@ for edge in $edges; do
     tells 0 "at 1: exit\n-$back $edge:1 = 0x77; edit\n" origin -m largest --maps $sixteen --script path --listing one.s $edge
     back=$((back - 1))
 done
-tells 0 'at 1: exit\n-10 0x10000ffff:1 = 0x77; edit\nleft 0x10000fffe = 0x0; byte 65534 of the context; at the opening\n' \
+tells 0 'at 1: exit\n-10 0x10000ffff:1 = 0x77; edit\nleft 0x10000fffe:1 = 0x0; byte 65534 of the context; at the opening\n' \
     origin -m largest --maps $sixteen --script path --listing one.s 0x10000fffe:2
 script path 'stepi 2\nset reg r6 1\ncontinue\n'
 tells 0 'exited at 3: r0 0x5\n-12 r6 = 0x5; 0: mov r6, 5\n' origin --script path --listing calls.s r6

@@ -235,7 +235,7 @@ PYTHON
     mkfifo pipe
     cat context.bin > pipe &
     plainly 'a context by a pipe' 0 'c\norigin r0\n' '105 forward; end; fault access 0x10077656d at 25\n-9 r0 = 0x77; 19: ldxb r0, [r0+0]; from 0x10000000c:1\n'\
-'left 0x10000000c = 0x77; byte 12 of the context; at the opening\n' '' -m pipe overrun.o
+'left 0x10000000c:1 = 0x77; byte 12 of the context; at the opening\n' '' -m pipe overrun.o
     cat overrun.o > pipe &
     plainly 'an object by a pipe' 0 'b copy\nc\norigin r7\n' 'ok\n10 forward; break; at 13: jeq r3, 0, L23\nleft r7 = 0x0; at the opening\n' '' --mem=context.bin pipe
     rm pipe

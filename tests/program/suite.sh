@@ -278,7 +278,7 @@ line=$(sed -n 's/^# debug: //p' found/out)
 typed 'bpfdb-show of a test that failed' 0 'cat parts/script - | bpfdb debug --steps=1000000 -m parts/context parts/program\nbpfdb origin --steps=1000000 -m parts/context --script parts/script parts/program\n' '' "$line parts"
 cp found/out lines
 typed 'the line of bpfdb debug' 0 '3 forward; end; exited at 2: r0 0x8\n3 back; done; at 0: ldxb r0, [r1+2]\n' '' "echo undo | $(sed -n 1p lines)"
-typed 'the line of bpfdb origin' 0 'exited at 2: r0 0x8\n-2 r0 = 0x8; 1: add r0, 1; from r0\n-3 r0 = 0x7; 0: ldxb r0, [r1+2]; from 0x100000002:1\nleft 0x100000002 = 0x7; byte 2 of the context; at the opening\n' '' "$(sed -n 2p lines)"
+typed 'the line of bpfdb origin' 0 'exited at 2: r0 0x8\n-2 r0 = 0x8; 1: add r0, 1; from r0\n-3 r0 = 0x7; 0: ldxb r0, [r1+2]; from 0x100000002:1\nleft 0x100000002:1 = 0x7; byte 2 of the context; at the opening\n' '' "$(sed -n 2p lines)"
 # (a character of the file's name that steers a terminal is told as `?`, so that the report stays a line a remark)
 for octal in '\001' '\012' '\033' '\177' '\302\233' '\342\200\256'; do
     odd=$(printf "odd${octal}file")
@@ -299,7 +299,7 @@ b
 ' '$(touch pwned)`touch pwned`;#'; do
     (PATH=$PWD/bin:$PATH && unset BPFDB && bpfdb-show a shown.test "$dir" > lines && sed 's/^bpfdb origin/echo; &/' lines | sh) > found/out 2> found/err < script
     echo $? > found/status
-    check "bpfdb-show into '$dir'" 0 'ok\nok\n2 forward; end; exited at 1: r0 0xff\n\nexited at 1: r0 0xff\n-2 r0 = 0xff; 0: ldxb r0, [r1+1]; from 0x100000001:1\nleft 0x100000001 = 0xff; byte 1 of the context; at the opening\n' ''
+    check "bpfdb-show into '$dir'" 0 'ok\nok\n2 forward; end; exited at 1: r0 0xff\n\nexited at 1: r0 0xff\n-2 r0 = 0xff; 0: ldxb r0, [r1+1]; from 0x100000001:1\nleft 0x100000001:1 = 0xff; byte 1 of the context; at the opening\n' ''
 done
 printf -- '-- listing\nexit\n-- maps\n8x2\\047; touch pwned; \\047\n-- result\n0\n' > maps.test
 typed 'bpfdb-show of a list of maps that is none' 2 '' 'refused M5: malformed map list\n' "bpfdb-show '' maps.test maps > shown; status=\$?; sh shown; exit \$status"

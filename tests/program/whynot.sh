@@ -34,8 +34,8 @@ tells 0 'exited at 3: r0 0x0\n-2 0: jgt r10, 5, L3; jumped to 3\n' whynot --list
 bytes context 2a
 listing load.s 'ldxb r0, [r1+0];jeq r0, 1, one;exit;one: mov r0, 7;exit'
 decided='exited at 2: r0 0x2a\n-2 1: jeq r0, 1, L3; r0 = 0x2a; went on\nat 1: jeq r0, 1, L3\n-1 r0 = 0x2a; 0: ldxb r0, [r1+0]; from 0x100000000:1'
-tells 0 "$decided\nleft 0x100000000 = 0x2a; byte 0 of the context; at the opening\n" whynot -m context --listing load.s 3
-tells 0 "$decided r1\nleft 0x100000000 = 0x2a; byte 0 of the context; at the opening\nleft r1 = 0x100000000; at the opening\n" whynot -m context --addresses --listing load.s 3
+tells 0 "$decided\nleft 0x100000000:1 = 0x2a; byte 0 of the context; at the opening\n" whynot -m context --listing load.s 3
+tells 0 "$decided r1\nleft 0x100000000:1 = 0x2a; byte 0 of the context; at the opening\nleft r1 = 0x100000000; at the opening\n" whynot -m context --addresses --listing load.s 3
 
 # Calls: what a function calls, one of its registers, what it never returns to, and what only returns lead to.
 listing calls.s 'callf f;exit;g: mov r0, 9;exit;f: jeq r0, 0, out;callf g;out: exit'

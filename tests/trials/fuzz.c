@@ -418,7 +418,8 @@ static char *make_question(struct places *asked) {
 
 /* Whether the lines of an answer are the moves and the places that the second machine found; of each place its value at the opening. */
 static int tells(const struct origins *wanted_origins, u64 steps, const char *text) {
-    u64 last = 0, moves = 0, left_places = 0, i;
+    u64 last = 0, moves = 0, left_places = 0, behind = 0, i, count, value;
+    const char *said;
     int at;
     for (; *text; text = strchr(text, '\n') + 1) {
         if (*text == '-') {
@@ -429,13 +430,24 @@ static int tells(const struct origins *wanted_origins, u64 steps, const char *te
             moves++;
         } else {
             at = strncmp(text, "left ", 5) ? -1 : place_named(&machine, text + 5);
-            if (at < 0 || !has(wanted_origins->left, at))
-                return fails("origin leaves a place that the value doesn't depend on");
-            i = at == 1 && machine.context_length ? 0x100000000 : at == 2 ? machine.context_length
-                : at >= FIRST_BYTE && at < FIRST_FRAME ? machine.context[at - FIRST_BYTE] : 0;
-            if (number_at(strstr(text, " = ") + 3) != i)
+            count = at < FIRST_BYTE ? 1 : (u64)(strchr(text, ':')[1] - '0');
+            if (at < 0 || count < 1 || count > 8)
+                return fails("origin leaves something else than a place");
+            if (at >= FIRST_BYTE && number_at(text + 5) == behind)
+                return fails("origin leaves bytes that follow one another on two lines");
+            for (i = 0, value = 0; i < count; i++) {
+                if (!has(wanted_origins->left, at + (int)i))
+                    return fails("origin leaves a place that the value doesn't depend on");
+                value |= (at == 1 && machine.context_length ? 0x100000000 : at == 2 ? machine.context_length
+                    : at >= FIRST_BYTE && at < FIRST_FRAME ? machine.context[at - FIRST_BYTE + (int)i] : 0) << 8 * i;
+            }
+            if (number_at(strstr(text, " = ") + 3) != value)
                 return fails("origin leaves a place with another value than at the opening");
-            left_places++;
+            said = at >= FIRST_FRAME && at < FIRST_FRAME + 512 ? "; not written since the call\n" : "; at the opening\n";
+            if (strncmp(strchr(text, '\n') + 1 - strlen(said), said, strlen(said)))
+                return fails("origin tells otherwise since when a place that is left has its value");
+            behind = at >= FIRST_BYTE && count < 8 ? number_at(text + 5) + count : 0;
+            left_places += count;
         }
     }
     for (i = 0; i < MOST_MOVES; i++)

@@ -87,7 +87,7 @@ def moved(text):
             told["name"] = m[1]
         elif m := re.fullmatch(r"byte (\d+) of the context", piece):
             told["byte"] = int(m[1])
-        elif m := re.fullmatch(r"(?:at|before) the (.*)", piece):
+        elif m := re.fullmatch(r"(?:at|before|not written since) the (.*)", piece):
             told["since"] = m[1]
         else:
             told["way"] = piece

@@ -210,7 +210,7 @@ static void put_asked(const struct machine *m, struct places *some) {
         put_register(m, some, 0);
 }
 
-/* The place that a line of what is left names, -1 where it names none. */
+/* The place that a line of what is left names, of bytes the first one; -1 where it names none. */
 static int place_named(const struct machine *m, const char *text) {
     u64 n = 0;
     int digit;
@@ -220,5 +220,5 @@ static int place_named(const struct machine *m, const char *text) {
         return -1;
     for (text += 2; (digit = strchr("0123456789abcdef", *text) && *text ? *text <= '9' ? *text - '0' : *text - 'a' + 10 : -1) >= 0; text++)
         n = n << 4 | (u64)digit;
-    return *text == ' ' ? byte_place(m, n) : -1;
+    return *text == ':' ? byte_place(m, n) : -1;
 }

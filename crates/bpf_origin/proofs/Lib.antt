@@ -18,3 +18,4 @@ mod EachAtomic
 mod EachHelper
 mod EachMatters
 pub mod Passing
+mod Joining

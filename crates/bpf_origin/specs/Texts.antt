@@ -1,10 +1,13 @@
 -- The text of where values came from. bpfdb's own choice.
-use Rattle.std.specs.Prelude.{ℕ, ◌-◌, is_some, nat_lt, ◌==◌, ◌&&◌, if◌then◌else◌, List, [], ◌∷◌, ◌++◌, decimal, flat_map, Bool}
+use Rattle.std.specs.Prelude.{ℕ, ◌+◌, ◌-◌, is_some, nat_le, nat_lt, ◌==◌, ◌&&◌, if◌then◌else◌, List, [], ◌∷◌, ◌++◌, Option, Some, decimal, flat_map, Bool, false, true}
 use lib.Chars.{codes}
 use Rattle.std.specs.Option.{option_map_or}
 use Rattle.byteorder.specs.Endian.{little_number}
 use Rattle.counted_io.specs.Writing.{hexadecimal}
-use Rattle.bpf_steps.specs.Platform.{context_base, frame_base}
+use Rattle.bpf_isa.specs.Programs.{insn_at}
+use Rattle.bpf_isa.specs.declared.instruction.Insn.{Insn}
+use Rattle.bpf_isa.specs.declared.instruction.Insn.TheVariants as insn
+use Rattle.bpf_steps.specs.Platform.{context_base, frame_base, frame_len}
 use Rattle.bpf_steps.specs.Regions.{run_at}
 use Rattle.bpf_steps.specs.State.{State}
 use Rattle.bpf_machine.specs.declared.moves.Move.{Move}
@@ -56,6 +59,18 @@ abbrev pub move_text : State → Move → List ℕ
 move_text x move.Step = text_at x.program x.pc
 move_text x (move.Edit e) = codes "edit"
 
+-- A local call makes each byte of the frame that it enters zero, and writes nothing else: so it is told of bytes that no move wrote since.
+abbrev pub is_call : Option Insn → Bool
+is_call (Some (insn.CallLocal distance)) = true
+is_call _ = false
+
+abbrev pub call_text : State → List ℕ
+call_text x = if is_call (insn_at x.program x.pc) then codes "; not written since the call" else []
+
+abbrev pub unwritten_text : State → Move → List ℕ
+unwritten_text x move.Step = call_text x
+unwritten_text x (move.Edit e) = []
+
 -- What it read.
 unfoldable pub read_text : Part → List ℕ
 read_text p = codes " " ++ part_name p
@@ -69,18 +84,39 @@ unfoldable pub head : ℕ → State → List Part → List ℕ
 head k y wrote = codes "-" ++ decimal k ++ codes " " ++ flat_map (written_text y) wrote
 
 unfoldable pub tail : State → Move → List Part → List ℕ
-tail x m read = move_text x m ++ reads_text read ++ codes "\n"
+tail x m read = move_text x m ++ unwritten_text x m ++ reads_text read ++ codes "\n"
 
 abbrev pub line : ℕ → State → Move → State → List Part → List Part → List ℕ
 line k x m y wrote read = head k y wrote ++ tail x m read
 
--- A place that is left, with its value, where it lies in the context, and whether that is the opening.
-abbrev pub place_name : Place → List ℕ
-place_name (place.Register d r) = register_name d r
-place_name (place.Word i) = word_name i
-place_name (place.Byte a) = hexadecimal a
+-- A place that is left, as a part.
+abbrev pub part_of : Place → Part
+part_of (place.Register d r) = part.Register d r
+part_of (place.Word i) = part.Word i
+part_of (place.Byte a) = part.Bytes a 1
 
--- Addresses below the first frame that have a byte are the context's.
+-- Whether a place is the byte behind fewer than eight bytes, and these with it; the part that another place is.
+abbrev pub is_behind : Part → Place → Bool
+is_behind (part.Bytes a n) (place.Byte b) = b == a + n && nat_lt n 8
+is_behind _ _ = false
+
+abbrev pub longer : Part → Part
+longer (part.Bytes a n) = part.Bytes a (n + 1)
+longer p = p
+
+abbrev pub next_run : Part → Place → Part
+next_run run p = if is_behind run p then longer run else part_of p
+
+-- Places that are left, as parts: bytes that follow one another are one part, of at most eight.
+unfoldable pub joined : Part → List Place → List Part
+joined run [] = run ∷ []
+joined run (p ∷ ps) = if is_behind run p then joined (next_run run p) ps else run ∷ joined (next_run run p) ps
+
+abbrev pub parts_left : List Place → List Part
+parts_left [] = []
+parts_left (p ∷ ps) = joined (part_of p) ps
+
+-- Where bytes begin in the context. Addresses below the first frame that have a byte are the context's.
 abbrev pub in_context : State → ℕ → Bool
 in_context x a = nat_lt a (frame_base 0) && is_some (run_at x.memory a 1)
 
@@ -88,19 +124,26 @@ abbrev pub offset_text : State → ℕ → List ℕ
 offset_text x a =
     if in_context x a then codes "; byte " ++ decimal (a - context_base) ++ codes " of the context" else []
 
-abbrev pub context_text : State → Place → List ℕ
-context_text x (place.Byte a) = offset_text x a
+abbrev pub context_text : State → Part → List ℕ
+context_text x (part.Bytes a n) = offset_text x a
 context_text x _ = []
 
-abbrev pub since_text : Bool → List ℕ
-since_text opening = if opening then codes "; at the opening\n" else codes "; before the kept history\n"
+-- Since when a part that is left holds its value. No call enters the first frame: it is zero at the opening.
+abbrev pub in_first_frame : Part → Bool
+in_first_frame (part.Bytes a n) = nat_le (frame_base 0) a && nat_lt a (frame_base 0 + frame_len)
+in_first_frame _ = false
 
-unfoldable pub left_line : Bool → State → Place → List ℕ
-left_line opening x p =
-    codes "left " ++ place_name p ++ value_text (value x p) ++ context_text x p ++ since_text opening
+abbrev pub opening_text : Part → List ℕ
+opening_text p = if in_first_frame p then codes "; not written since the call\n" else codes "; at the opening\n"
+
+abbrev pub since_text : Bool → Part → List ℕ
+since_text opening p = if opening then opening_text p else codes "; before the kept history\n"
+
+unfoldable pub left_line : Bool → State → Part → List ℕ
+left_line opening x p = codes "left " ++ part_text x p ++ context_text x p ++ since_text opening p
 
 abbrev pub left_text : Bool → State → List Place → List ℕ
-left_text opening x wanted = flat_map (left_line opening x) wanted
+left_text opening x wanted = flat_map (left_line opening x) (parts_left wanted)
 
 -- Why an answer ends before its end.
 abbrev pub lines_text : List ℕ

@@ -1,11 +1,11 @@
 //! The text of the places that are left at an answer's end.
-ghost use Rattle.std.specs.Prelude.{◌≡◌, ◌≤◌, ◌<◌, ◌+◌, ◌++◌, flat_map, codes, if◌then◌else◌, length};
+ghost use Rattle.std.specs.Prelude.{◌≡◌, ◌≤◌, ◌<◌, ◌+◌, ◌++◌, [], flat_map, codes, if◌then◌else◌, length};
 ghost use Rattle.counted_io.specs.Writing.{WritesAfter};
 ghost use Rattle.bpf_origin.specs.Texts as spec;
 
-use crate::line::{put_part_name, put_value, value_at};
+use crate::line::put_part;
 use crate::place::{Part, Place};
-use bpf_entries::frame_base;
+use bpf_entries::{FRAME_BASE, FRAME_LEN, frame_base};
 use bpf_machine::Cpu;
 use counted_io::{Counted, WriteFault, put, put_decimal, put_hexadecimal};
 use std::io::Write;
@@ -13,7 +13,8 @@ use std::io::Write;
 /// The address of the context's first byte.
 const CONTEXT_BASE: u64 = 0x1_0000_0000;
 
-/// Writes the lines of the places that are left, in a machine's state.
+/// Writes the lines of the places that are left, in a machine's state: bytes that follow one
+/// another are one line.
 pub fn put_left<W: Write>(
     writer: &mut Counted<W>,
     so_far: Result<(), WriteFault>,
@@ -24,60 +25,121 @@ pub fn put_left<W: Write>(
     ensures { WritesAfter W.contents writer.old so_far writer.new result
         (spec.left_text opening cpu.now places.now) }
 {
-    let mut told = so_far;
-    for place in places {
-        told = put_left_line(writer, told, opening, cpu, *place);
+    match places.split_first() {
+        Some((first, others)) => put_joined(writer, so_far, opening, cpu, *first, others),
+        None => so_far,
     }
-    told
 }
 
-/// Writes the line of a place that is left.
+/// Writes the lines of the first of some places and of the others.
+fn put_joined<W: Write>(
+    writer: &mut Counted<W>,
+    so_far: Result<(), WriteFault>,
+    opening: bool,
+    cpu: &Cpu,
+    first: Place,
+    others: &[Place],
+) -> Result<(), WriteFault>
+    ensures { WritesAfter W.contents writer.old so_far writer.new result
+        (flat_map (spec.left_line opening cpu.now)
+        (spec.joined (spec.part_of first) others.now)) }
+{
+    let mut told = so_far;
+    let mut run = part_of(first);
+    for place in others {
+        told = put_unless_behind(writer, told, opening, cpu, run, *place);
+        run = next_run(run, *place);
+    }
+    put_left_line(writer, told, opening, cpu, run)
+}
+
+/// A place as a part.
+fn part_of(place: Place) -> Part
+    ensures { result ≡ spec.part_of place }
+{
+    match place {
+        Place::Register { depth, number } => Part::Register { depth, number },
+        Place::Word { index } => Part::Word { index },
+        Place::Byte { address } => Part::Bytes { address, len: 1 },
+    }
+}
+
+/// Whether a place is the byte behind fewer than eight bytes.
+fn is_behind(run: Part, place: Place) -> bool
+    ensures { result ≡ spec.is_behind run place }
+{
+    match (run, place) {
+        (Part::Bytes { address, len }, Place::Byte { address: next }) => {
+            len < 8 && address.checked_add(len as u64) == Some(next)
+        }
+        _ => false,
+    }
+}
+
+/// Fewer than eight bytes and the one behind them, or the part that a place is.
+fn next_run(run: Part, place: Place) -> Part
+    ensures { result ≡ spec.next_run run place }
+{
+    if !is_behind(run, place) {
+        return part_of(place);
+    }
+    match run {
+        Part::Bytes { address, len } => Part::Bytes {
+            address,
+            len: len + 1,
+        },
+        other => other,
+    }
+}
+
+/// Writes the line of a part that is left, unless the next place is the byte behind it.
+fn put_unless_behind<W: Write>(
+    writer: &mut Counted<W>,
+    so_far: Result<(), WriteFault>,
+    opening: bool,
+    cpu: &Cpu,
+    run: Part,
+    next: Place,
+) -> Result<(), WriteFault>
+    ensures { WritesAfter W.contents writer.old so_far writer.new result
+        (if spec.is_behind run next then [] else spec.left_line opening cpu.now run) }
+{
+    if is_behind(run, next) {
+        so_far
+    } else {
+        put_left_line(writer, so_far, opening, cpu, run)
+    }
+}
+
+/// Writes the line of a part that is left.
 fn put_left_line<W: Write>(
     writer: &mut Counted<W>,
     so_far: Result<(), WriteFault>,
     opening: bool,
     cpu: &Cpu,
-    place: Place,
+    part: Part,
 ) -> Result<(), WriteFault>
     ensures { WritesAfter W.contents writer.old so_far writer.new result
-        (spec.left_line opening cpu.now place) }
+        (spec.left_line opening cpu.now part) }
 {
     let begun = put(writer, so_far, b"left ");
-    let named = put_place_name(writer, begun, place);
-    let valued = put_value(writer, named, value_at(cpu, place));
-    let placed = put_context(writer, valued, cpu, place);
-    put_since(writer, placed, opening)
+    let valued = put_part(writer, begun, cpu, part);
+    let placed = put_context(writer, valued, cpu, part);
+    put_since(writer, placed, opening, part)
 }
 
-/// Writes the name of a place.
-fn put_place_name<W: Write>(
-    writer: &mut Counted<W>,
-    so_far: Result<(), WriteFault>,
-    place: Place,
-) -> Result<(), WriteFault>
-    ensures { WritesAfter W.contents writer.old so_far writer.new result (spec.place_name place) }
-{
-    match place {
-        Place::Register { depth, number } => {
-            put_part_name(writer, so_far, Part::Register { depth, number })
-        }
-        Place::Word { index } => put_part_name(writer, so_far, Part::Word { index }),
-        Place::Byte { address } => put_hexadecimal(writer, so_far, address),
-    }
-}
-
-/// Writes which byte of the context a place is, nothing for another place.
+/// Writes with which byte of the context a part begins, nothing for another part.
 fn put_context<W: Write>(
     writer: &mut Counted<W>,
     so_far: Result<(), WriteFault>,
     cpu: &Cpu,
-    place: Place,
+    part: Part,
 ) -> Result<(), WriteFault>
     ensures { WritesAfter W.contents writer.old so_far writer.new result
-        (spec.context_text cpu.now place) }
+        (spec.context_text cpu.now part) }
 {
-    match place {
-        Place::Byte { address } => put_offset(writer, so_far, cpu, address),
+    match part {
+        Part::Bytes { address, .. } => put_offset(writer, so_far, cpu, address),
         _ => so_far,
     }
 }
@@ -107,18 +169,46 @@ fn in_context(cpu: &Cpu, address: u64) -> bool
     address < frame_base(0) && cpu.peek(address, 1).is_some()
 }
 
-/// Writes since when a place holds its value.
+/// Whether a part lies in the frame of the first function, which no call enters.
+fn in_first_frame(part: Part) -> bool
+    ensures { result ≡ spec.in_first_frame part }
+{
+    match part {
+        Part::Bytes { address, .. } => {
+            address >= FRAME_BASE && address < FRAME_BASE + FRAME_LEN as u64
+        }
+        _ => false,
+    }
+}
+
+/// Writes since when a part holds its value.
 fn put_since<W: Write>(
     writer: &mut Counted<W>,
     so_far: Result<(), WriteFault>,
     opening: bool,
+    part: Part,
 ) -> Result<(), WriteFault>
     ensures { WritesAfter W.contents writer.old so_far writer.new result
-        (spec.since_text opening) }
+        (spec.since_text opening part) }
 {
     if opening {
-        put(writer, so_far, b"; at the opening\n")
+        put_opening(writer, so_far, part)
     } else {
         put(writer, so_far, b"; before the kept history\n")
+    }
+}
+
+/// Writes that a part holds the value that it had at the opening.
+fn put_opening<W: Write>(
+    writer: &mut Counted<W>,
+    so_far: Result<(), WriteFault>,
+    part: Part,
+) -> Result<(), WriteFault>
+    ensures { WritesAfter W.contents writer.old so_far writer.new result (spec.opening_text part) }
+{
+    if in_first_frame(part) {
+        put(writer, so_far, b"; not written since the call\n")
+    } else {
+        put(writer, so_far, b"; at the opening\n")
     }
 }

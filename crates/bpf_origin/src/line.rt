@@ -2,13 +2,15 @@
 ghost use Rattle.std.specs.Prelude.{◌≡◌, ◌≤◌, ◌<◌, ◌++◌, flat_map, codes, if◌then◌else◌, nat_lt, length, slice_index};
 ghost use Rattle.counted_io.specs.Writing.{WritesAfter};
 ghost use Rattle.bpf_journal.specs.Histories.{is_step as is_step_of};
-ghost use Rattle.bpf_steps.specs.ByAddress.{byte};
+ghost use Rattle.bpf_isa.specs.Programs.{insn_at};
 ghost use Rattle.bpfdb_replies.specs.Texts.{text_at};
 ghost use Rattle.bpf_machine.specs.declared.moves.Move.{Move};
 ghost use Rattle.bpf_origin.specs.Places.{value};
 ghost use Rattle.bpf_origin.specs.Texts as spec;
+ghost use Rattle.bpf_origin.specs.declared.place.Place.TheVariants as place;
 
-use crate::place::{Part, Place};
+use crate::place::Part;
+use bpf_isa::Insn;
 use bpf_machine::Cpu;
 use bpf_text::put_insn;
 use bpfdb_replies::number_in;
@@ -16,20 +18,9 @@ use byteorder::{ByteOrder, LittleEndian};
 use counted_io::{Counted, Piece, WriteFault, put, put_all, put_decimal};
 use std::io::Write;
 
-/// The value at a place.
-pub fn value_at(cpu: &Cpu, place: Place) -> u64
-    ensures { result ≡ value cpu.now place }
-{
-    match place {
-        Place::Register { depth, number } => register_at(cpu, depth, number),
-        Place::Word { index } => word_at(cpu.trace(), index),
-        Place::Byte { address } => u64::from(byte_at(cpu, address)),
-    }
-}
-
 /// A register of the function at a depth. A pushed frame keeps r6 to r9 of the one that called.
 fn register_at(cpu: &Cpu, depth: usize, number: u8) -> u64
-    ensures { result ≡ value cpu.now (Place.Register depth number) }
+    ensures { result ≡ value cpu.now (place.Register depth number) }
 {
     if number < 6 || cpu.depth() <= depth {
         return present_at(cpu, number);
@@ -57,16 +48,6 @@ fn word_at(words: &[u64], index: usize) -> u64
     ensures { result ≡ slice_index words.now index }
 {
     words.get(index).copied().unwrap_or(0)
-}
-
-/// The byte at an address, 0 where there is none.
-fn byte_at(cpu: &Cpu, address: u64) -> u8
-    ensures { result ≡ byte cpu.now address }
-{
-    match cpu.peek(address, 1) {
-        Some(run) => run[0],
-        None => 0,
-    }
 }
 
 /// Writes the name of a register, by the depth of its function unless that is 0.
@@ -97,7 +78,7 @@ fn put_register_name<W: Write>(
 
 /// Writes the name of a part.
 #[tactic(auto, unfolding(crate::specs::Texts::word_name, crate::specs::Texts::bytes_name))]
-pub fn put_part_name<W: Write>(
+fn put_part_name<W: Write>(
     writer: &mut Counted<W>,
     so_far: Result<(), WriteFault>,
     part: Part,
@@ -123,7 +104,7 @@ pub fn put_part_name<W: Write>(
 
 /// Writes a value.
 #[tactic(auto, unfolding(crate::specs::Texts::value_text))]
-pub fn put_value<W: Write>(
+fn put_value<W: Write>(
     writer: &mut Counted<W>,
     so_far: Result<(), WriteFault>,
     value: u64,
@@ -315,8 +296,51 @@ fn put_move<W: Write>(
     }
 }
 
-/// Writes the second half of a move's line, from the machine before it: which move it was, and what
-/// it read.
+/// Writes that bytes weren't written since the call that the move was, if it was a local call.
+fn put_unwritten<W: Write>(
+    writer: &mut Counted<W>,
+    so_far: Result<(), WriteFault>,
+    cpu: &Cpu,
+    is_step: bool,
+) -> Result<(), WriteFault>
+    ensures { (m : Move) → is_step ≡ is_step_of m →
+        WritesAfter W.contents writer.old so_far writer.new result
+        (spec.unwritten_text cpu.now m) }
+{
+    if is_step {
+        put_if_call(writer, so_far, cpu)
+    } else {
+        so_far
+    }
+}
+
+/// Writes the same where the instruction at pc is a local call.
+fn put_if_call<W: Write>(
+    writer: &mut Counted<W>,
+    so_far: Result<(), WriteFault>,
+    cpu: &Cpu,
+) -> Result<(), WriteFault>
+    ensures { WritesAfter W.contents writer.old so_far writer.new result (spec.call_text cpu.now) }
+{
+    if is_call(cpu) {
+        put(writer, so_far, b"; not written since the call")
+    } else {
+        so_far
+    }
+}
+
+/// Whether the instruction at pc is a local call.
+fn is_call(cpu: &Cpu) -> bool
+    ensures { result ≡ spec.is_call (insn_at cpu.now.program cpu.now.pc) }
+{
+    match cpu.program().insn_at(usize::from(cpu.pc())) {
+        Some(Insn::CallLocal { .. }) => true,
+        _ => false,
+    }
+}
+
+/// Writes the second half of a move's line, from the machine before it: which move it was, that no
+/// later one wrote what a call made zero, and what it read.
 pub fn put_tail<W: Write>(
     writer: &mut Counted<W>,
     so_far: Result<(), WriteFault>,
@@ -328,6 +352,7 @@ pub fn put_tail<W: Write>(
         WritesAfter W.contents writer.old so_far writer.new result (spec.tail cpu.now m read.now) }
 {
     let named = put_move(writer, so_far, cpu, is_step);
-    let told = put_reads(writer, named, read);
+    let marked = put_unwritten(writer, named, cpu, is_step);
+    let told = put_reads(writer, marked, read);
     put(writer, told, b"\n")
 }

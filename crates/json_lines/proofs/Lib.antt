@@ -1,4 +1,4 @@
 pub mod Cuts
-pub mod Pieces
+pub mod FirstPieces
 pub mod Steps
 pub mod Turns

@@ -68,6 +68,7 @@ piece_shapes =
     ∷ shape [] (codes "byte ") (count (codes "byte") (codes " of the context") ∷ []) Nothing
     ∷ shape [] (codes "at the ") (text (codes "since") [] ∷ []) Nothing
     ∷ shape [] (codes "before the ") (text (codes "since") [] ∷ []) Nothing
+    ∷ shape [] (codes "not written since the ") (text (codes "since") [] ∷ []) Nothing
     ∷ []
 
 -- The result of `run`.

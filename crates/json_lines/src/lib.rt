@@ -11,4 +11,5 @@ mod string;
 mod table;
 
 pub use answer::Answer;
+pub use cut::{Pieces, begins, behind, cut_at};
 pub use object::json_of;

@@ -50,6 +50,12 @@ const PIECES: [Shape; 7] = [
         fields: &[Field::Text(b"since", b"")],
         rest: Rest::Nothing,
     },
+    Shape {
+        kind: b"",
+        begin: b"not written since the ",
+        fields: &[Field::Text(b"since", b"")],
+        rest: Rest::Nothing,
+    },
 ];
 
 /// What `run` prints.

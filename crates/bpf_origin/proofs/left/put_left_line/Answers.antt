@@ -6,7 +6,6 @@ pub returns : goal.returns
 unfolding left_line
 returns g c = λ first front known.
     let begun = c.put-begun.ensures first front known in
-    let named = c.put_place_name-named.ensures first _ begun in
-    let valued = rw c.value_at.ensures at (c.put_value-valued.ensures first _ named) in
+    let valued = c.put_part-valued.ensures first _ begun in
     let placed = c.put_context-placed.ensures first _ valued in
     simp append_assoc (simp append_assoc at (c.put_since.ensures first _ placed))

@@ -1,5 +1,5 @@
 use Rattle.std.proofs.Common.{◌<◌, ◌∙◌, length, refl, rules, sym, tests}
-use Rattle.json_lines.proofs.Pieces.{pieces-first}
+use Rattle.json_lines.proofs.FirstPieces.{pieces-first}
 use Rattle.json_lines.proofs.cut.Pieces.next_piece.Goals as goal
 
 pub returns : goal.returns

@@ -1,0 +1,20 @@
+use Rattle.std.proofs.Common.{arith, refl, sym}
+use Rattle.bpf_origin.specs.Texts.{left_line}
+use Rattle.bpfdb_replies.proofs.Telling.{Telling-start, Telling-step, Telling-end}
+use Rattle.bpf_origin.proofs.Joining.{joined-next, joined-end}
+use Rattle.bpf_origin.proofs.left.put_joined.Goals as goal
+
+pub loop-place-init : goal.loop-place-init
+loop-place-init g c = rw (sym c.part_of-run.ensures) (Telling-start _ _ _ _)
+
+pub loop-place-preserved : goal.loop-place-preserved
+loop-place-preserved g c =
+    Telling-step _ _ _ _ _ _ _ _ _ _ _ c.loop-place.invariant c.put_unless_behind-told.ensures
+    (joined-next (left_line c.args.opening c.args.cpu.now) c.loop-place.run _ c.args.others.now c.loop-place.place-index _ (omega arith) c.next_run-run.ensures)
+
+pub returns : goal.returns
+returns g c =
+    Telling-end _ _ _ _ _ _ _
+    (Telling-step _ _ _ _ _ _ _ _ _ _ _ c.loop-place.invariant c.put_left_line.ensures
+    (joined-end (left_line c.args.opening c.args.cpu.now) c.loop-place.run c.args.others.now c.loop-place.place-index (omega arith)))
+    refl

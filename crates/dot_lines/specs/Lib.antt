@@ -1,0 +1,5 @@
+pub mod Parts
+pub mod Lines
+pub mod Links
+pub mod Graphs
+pub mod Writers
