@@ -41,7 +41,7 @@ tells 1 "${sum}cut: there are more lines\nno other branch$start" origin --branch
 listing where.s 'mov r4, r10;jeq r2, 0, on;add r4, -8;on: ldxb r0, [r4-8];exit'
 tells 0 "exited at 4: r0 0x0\n-2 r0 = 0x0; 3: ldxb r0, [r4-8]; from 0x2000001f0:1\nleft 0x2000001f0:1 = 0x0; not written since the call\nno other branch$start" \
     origin --branches -m six --listing where.s
-tells 0 "exited at 4: r0 0x0\n-2 r0 = 0x0; 3: ldxb r0, [r4-8]; from 0x2000001f0:1 r4\n-3 r4 = 0x2000001f8; 2: add r4, -8; from r4\n-5 r4 = 0x200000200; 0: mov r4, r10\nleft 0x2000001f0 = 0x0$start-4 1: jeq r2, 0, L3; r2 = 0x6; went on\nno other branch$start" \
+tells 0 "exited at 4: r0 0x0\n-2 r0 = 0x0; 3: ldxb r0, [r4-8]; from 0x2000001f0:1 r4\n-3 r4 = 0x2000001f8; 2: add r4, -8; from r4\n-5 r4 = 0x200000200; 0: mov r4, r10\nleft 0x2000001f0:1 = 0x0; not written since the call\n-4 1: jeq r2, 0, L3; r2 = 0x6; went on\nno other branch$start" \
     origin --branches --addresses -m six --listing where.s
 listing handed.s 'mov r6, 1;jeq r2, 0, on;mov r6, 2;on: callf f;exit;f: mov r0, r6;exit'
 tells 0 "exited at 4: r0 0x2\n-3 r0 = 0x2; 5: mov r0, r6; from r6 at depth 1\n-5 r6 = 0x2; 2: mov r6, 2\n-6 1: jeq r2, 0, L3; r2 = 0x6; went on\nno other branch$start" \

@@ -18,7 +18,7 @@ named() {
     "$program" origin --script empty --object places.o "$address" > found/out 2> found/err
     count=$((count + 1))
     case $(tail -n 1 found/out) in
-        "left $address = "*"; at the opening; in $3") ;;
+        "left $address:1 = "*"; at the opening; in $3") ;;
         *) complain "$1 at $2: $(cat found/out found/err), and not $3" ;;
     esac
 }
@@ -69,7 +69,7 @@ for compiler in $compilers; do
     # As JSON a name is a member.
     "$program" origin --json --script empty --object places.o "$(printf '0x%x' $((0x300000000 + 260)))" > found/out 2> found/err
     count=$((count + 1))
-    [ "$(tail -n 1 found/out)" = '{"kind":"left","since":"opening","name":"classes[3].limits[1].rate","parts":[{"part":"0x300000104","value":"0x0"}]}' ] ||
+    [ "$(tail -n 1 found/out)" = '{"kind":"left","since":"opening","name":"classes[3].limits[1].rate","parts":[{"part":"0x300000104:1","value":"0x0"}]}' ] ||
         complain "a name as JSON: $(cat found/out found/err)"
     # Without BTF the names are those of symbols, and without an object there are none.
     "$compiler" -O2 -target bpf -c "$parts/c/table.c" -o plain.o 2> found/err || complain "table.c: $(cat found/err)"
@@ -77,7 +77,7 @@ for compiler in $compilers; do
     # shellcheck disable=SC2046
     "$program" origin --script empty $(sed -n '1p' told) words 0x300000000 > found/out 2> found/err
     count=$((count + 1))
-    [ "$(tail -n 1 found/out)" = 'left 0x300000000 = 0x0; at the opening' ] || complain "raw words: $(cat found/out found/err)"
+    [ "$(tail -n 1 found/out)" = 'left 0x300000000:1 = 0x0; at the opening' ] || complain "raw words: $(cat found/out found/err)"
     has python3 'names of places in maps' || continue
     held whole places.o
     held turned places.o 7

@@ -108,7 +108,7 @@ exit'
     "$program" trace --profile --object --entry count@0 --entry count pair.o > found/out 2> found/err || complain "trace: $(cat found/err)"
     "$program" origin --object --entry store --entry take -m context pair.o > found/out 2> found/err || complain "origin: $(cat found/err)"
     count=$((count + 2))
-    grep -q '^left 0x100000000:1 = 0x3; byte 0 of the context; at the opening' found/out || complain "origin: $(cat found/out)"
+    grep -q '^left 0x100000000:8 = 0x3; byte 0 of the context; at the opening' found/out || complain "origin: $(cat found/out)"
     "$program" check --object --entry store --entry take pair.o > found/out 2> found/err || complain "check: $(cat found/err)"
     count=$((count + 1))
     grep -q '^ok [0-9]* instructions in [0-9]* slots$' found/out || complain "check: $(cat found/out)"

@@ -214,15 +214,17 @@ def held(path, options):
         for index, shape in enumerate(told[0].split()[1].split(',')):
             size, entries = map(int, shape.split('x'))
             wanted = elf.map_names(index, names.get(index, ''), size, entries)
-            for at in range(0, size * entries, 256):
+            # (a line has the name of the first of its eight bytes)
+            for at in (at for start in range(8) for at in range(start, size * entries, 256)):
                 first = BASE + STRIDE * index + at
-                done = subprocess.run([PROGRAM, 'origin', '--script', script.name, '--object', *options, path, f'{first:#x}:{min(256, size * entries - at)}'],
+                asked = min(256, size * entries - at)
+                done = subprocess.run([PROGRAM, 'origin', '--script', script.name, '--object', *options, path, f'{first:#x}:{asked}'],
                                       capture_output=True, check=False)
                 lines = done.stdout.decode(errors='surrogateescape').split('\n')[1:-1]
-                if done.returncode or len(lines) != min(256, size * entries - at):
+                if done.returncode or len(lines) != (asked + 7) // 8:
                     sys.exit(f'{path}: {first:#x}: status {done.returncode}, {len(lines)} lines: {done.stderr}')
                 for line in lines:
-                    found = re.fullmatch(r'left (0x[0-9a-f]+) = 0x[0-9a-f]+; at the opening; in (.*)', line)
+                    found = re.fullmatch(r'left (0x[0-9a-f]+):[1-8] = 0x[0-9a-f]+; at the opening; in (.*)', line)
                     place = int(found[1], 16) - BASE - STRIDE * index if found else 0
                     if not found or found[2] != wanted[place]:
                         sys.exit(f'{path}: {line}\nand not {wanted[place]}')

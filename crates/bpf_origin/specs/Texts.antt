@@ -1,5 +1,5 @@
 -- The text of where values came from. bpfdb's own choice.
-use Rattle.std.specs.Prelude.{ℕ, ◌+◌, ◌-◌, is_some, nat_le, nat_lt, ◌==◌, ◌&&◌, if◌then◌else◌, List, [], ◌∷◌, ◌++◌, Option, Some, decimal, flat_map, Bool, false, true}
+use Rattle.std.specs.Prelude.{ℕ, ◌+◌, ◌-◌, is_some, nat_le, nat_lt, ◌==◌, ◌&&◌, if◌then◌else◌, List, [], ◌∷◌, ◌++◌, Option, Some, None, decimal, flat_map, Bool, false}
 use lib.Chars.{codes}
 use Rattle.std.specs.Option.{option_map_or}
 use Rattle.byteorder.specs.Endian.{little_number}
@@ -7,7 +7,7 @@ use Rattle.counted_io.specs.Writing.{hexadecimal}
 use Rattle.bpf_isa.specs.Programs.{insn_at}
 use Rattle.bpf_isa.specs.declared.instruction.Insn.{Insn}
 use Rattle.bpf_isa.specs.declared.instruction.Insn.TheVariants as insn
-use Rattle.bpf_steps.specs.Platform.{context_base, frame_base, frame_len}
+use Rattle.bpf_steps.specs.Platform.{context_base, frame_base}
 use Rattle.bpf_steps.specs.Regions.{run_at}
 use Rattle.bpf_steps.specs.State.{State}
 use Rattle.bpf_machine.specs.declared.moves.Move.{Move}
@@ -60,15 +60,12 @@ move_text x move.Step = text_at x.program x.pc
 move_text x (move.Edit e) = codes "edit"
 
 -- A local call makes each byte of the frame that it enters zero, and writes nothing else: so it is told of bytes that no move wrote since.
-abbrev pub is_call : Option Insn → Bool
-is_call (Some (insn.CallLocal distance)) = true
-is_call _ = false
-
-abbrev pub call_text : State → List ℕ
-call_text x = if is_call (insn_at x.program x.pc) then codes "; not written since the call" else []
+abbrev pub call_text : Insn → List ℕ
+call_text (insn.CallLocal distance) = codes "; not written since the call"
+call_text _ = []
 
 abbrev pub unwritten_text : State → Move → List ℕ
-unwritten_text x move.Step = call_text x
+unwritten_text x move.Step = option_map_or call_text (insn_at x.program x.pc) []
 unwritten_text x (move.Edit e) = []
 
 -- What it read.
@@ -95,22 +92,15 @@ part_of (place.Register d r) = part.Register d r
 part_of (place.Word i) = part.Word i
 part_of (place.Byte a) = part.Bytes a 1
 
--- Whether a place is the byte behind fewer than eight bytes, and these with it; the part that another place is.
-abbrev pub is_behind : Part → Place → Bool
-is_behind (part.Bytes a n) (place.Byte b) = b == a + n && nat_lt n 8
-is_behind _ _ = false
+-- Fewer than eight bytes and the one behind them, as one part.
+abbrev pub grown : Part → Place → Option Part
+grown (part.Bytes a n) (place.Byte b) = if b == a + n && nat_lt n 8 then Some (part.Bytes a (n + 1)) else None
+grown _ _ = None
 
-abbrev pub longer : Part → Part
-longer (part.Bytes a n) = part.Bytes a (n + 1)
-longer p = p
-
-abbrev pub next_run : Part → Place → Part
-next_run run p = if is_behind run p then longer run else part_of p
-
--- Places that are left, as parts: bytes that follow one another are one part, of at most eight.
+-- Places that are left, as parts: a byte that follows the one before it is of the same part.
 unfoldable pub joined : Part → List Place → List Part
 joined run [] = run ∷ []
-joined run (p ∷ ps) = if is_behind run p then joined (next_run run p) ps else run ∷ joined (next_run run p) ps
+joined run (p ∷ ps) = option_map_or (λ longer. joined longer ps) (grown run p) (run ∷ joined (part_of p) ps)
 
 abbrev pub parts_left : List Place → List Part
 parts_left [] = []
@@ -130,7 +120,7 @@ context_text x _ = []
 
 -- Since when a part that is left holds its value. No call enters the first frame: it is zero at the opening.
 abbrev pub in_first_frame : Part → Bool
-in_first_frame (part.Bytes a n) = nat_le (frame_base 0) a && nat_lt a (frame_base 0 + frame_len)
+in_first_frame (part.Bytes a n) = nat_le (frame_base 0) a && nat_lt a (frame_base 1)
 in_first_frame _ = false
 
 abbrev pub opening_text : Part → List ℕ

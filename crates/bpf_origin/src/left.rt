@@ -5,7 +5,7 @@ ghost use Rattle.bpf_origin.specs.Texts as spec;
 
 use crate::line::put_part;
 use crate::place::{Part, Place};
-use bpf_entries::{FRAME_BASE, FRAME_LEN, frame_base};
+use bpf_entries::frame_base;
 use bpf_machine::Cpu;
 use counted_io::{Counted, WriteFault, put, put_decimal, put_hexadecimal};
 use std::io::Write;
@@ -26,29 +26,35 @@ pub fn put_left<W: Write>(
         (spec.left_text opening cpu.now places.now) }
 {
     match places.split_first() {
-        Some((first, others)) => put_joined(writer, so_far, opening, cpu, *first, others),
+        Some((first, others)) => {
+            put_joined(writer, so_far, opening, cpu, part_of(*first), others)
+        }
         None => so_far,
     }
 }
 
-/// Writes the lines of the first of some places and of the others.
+/// Writes the lines of the part that some places are, and of the places behind them.
 fn put_joined<W: Write>(
     writer: &mut Counted<W>,
     so_far: Result<(), WriteFault>,
     opening: bool,
     cpu: &Cpu,
-    first: Place,
+    first: Part,
     others: &[Place],
 ) -> Result<(), WriteFault>
     ensures { WritesAfter W.contents writer.old so_far writer.new result
-        (flat_map (spec.left_line opening cpu.now)
-        (spec.joined (spec.part_of first) others.now)) }
+        (flat_map (spec.left_line opening cpu.now) (spec.joined first others.now)) }
 {
     let mut told = so_far;
-    let mut run = part_of(first);
+    let mut run = first;
     for place in others {
-        told = put_unless_behind(writer, told, opening, cpu, run, *place);
-        run = next_run(run, *place);
+        match grown(run, *place) {
+            Some(longer) => run = longer,
+            None => {
+                told = put_left_line(writer, told, opening, cpu, run);
+                run = part_of(*place);
+            }
+        }
     }
     put_left_line(writer, told, opening, cpu, run)
 }
@@ -64,50 +70,22 @@ fn part_of(place: Place) -> Part
     }
 }
 
-/// Whether a place is the byte behind fewer than eight bytes.
-fn is_behind(run: Part, place: Place) -> bool
-    ensures { result ≡ spec.is_behind run place }
+/// Fewer than eight bytes and a place, if it is the byte behind them, as one part.
+fn grown(run: Part, place: Place) -> Option<Part>
+    ensures { result ≡ spec.grown run place }
 {
     match (run, place) {
         (Part::Bytes { address, len }, Place::Byte { address: next }) => {
-            len < 8 && address.checked_add(len as u64) == Some(next)
+            if len < 8 && address.checked_add(len as u64) == Some(next) {
+                Some(Part::Bytes {
+                    address,
+                    len: len + 1,
+                })
+            } else {
+                None
+            }
         }
-        _ => false,
-    }
-}
-
-/// Fewer than eight bytes and the one behind them, or the part that a place is.
-fn next_run(run: Part, place: Place) -> Part
-    ensures { result ≡ spec.next_run run place }
-{
-    if !is_behind(run, place) {
-        return part_of(place);
-    }
-    match run {
-        Part::Bytes { address, len } => Part::Bytes {
-            address,
-            len: len + 1,
-        },
-        other => other,
-    }
-}
-
-/// Writes the line of a part that is left, unless the next place is the byte behind it.
-fn put_unless_behind<W: Write>(
-    writer: &mut Counted<W>,
-    so_far: Result<(), WriteFault>,
-    opening: bool,
-    cpu: &Cpu,
-    run: Part,
-    next: Place,
-) -> Result<(), WriteFault>
-    ensures { WritesAfter W.contents writer.old so_far writer.new result
-        (if spec.is_behind run next then [] else spec.left_line opening cpu.now run) }
-{
-    if is_behind(run, next) {
-        so_far
-    } else {
-        put_left_line(writer, so_far, opening, cpu, run)
+        _ => None,
     }
 }
 
@@ -174,9 +152,7 @@ fn in_first_frame(part: Part) -> bool
     ensures { result ≡ spec.in_first_frame part }
 {
     match part {
-        Part::Bytes { address, .. } => {
-            address >= FRAME_BASE && address < FRAME_BASE + FRAME_LEN as u64
-        }
+        Part::Bytes { address, .. } => { frame_base(0) <= address && address < frame_base(1) }
         _ => false,
     }
 }

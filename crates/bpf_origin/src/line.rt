@@ -296,7 +296,7 @@ fn put_move<W: Write>(
     }
 }
 
-/// Writes that bytes weren't written since the call that the move was, if it was a local call.
+/// Writes that bytes weren't written since the move, if it was a local call.
 fn put_unwritten<W: Write>(
     writer: &mut Counted<W>,
     so_far: Result<(), WriteFault>,
@@ -314,28 +314,18 @@ fn put_unwritten<W: Write>(
     }
 }
 
-/// Writes the same where the instruction at pc is a local call.
+/// Writes it where the instruction at pc is a local call.
 fn put_if_call<W: Write>(
     writer: &mut Counted<W>,
     so_far: Result<(), WriteFault>,
     cpu: &Cpu,
 ) -> Result<(), WriteFault>
-    ensures { WritesAfter W.contents writer.old so_far writer.new result (spec.call_text cpu.now) }
-{
-    if is_call(cpu) {
-        put(writer, so_far, b"; not written since the call")
-    } else {
-        so_far
-    }
-}
-
-/// Whether the instruction at pc is a local call.
-fn is_call(cpu: &Cpu) -> bool
-    ensures { result ≡ spec.is_call (insn_at cpu.now.program cpu.now.pc) }
+    ensures { WritesAfter W.contents writer.old so_far writer.new result
+        (option_map_or spec.call_text (insn_at cpu.now.program cpu.now.pc) []) }
 {
     match cpu.program().insn_at(usize::from(cpu.pc())) {
-        Some(Insn::CallLocal { .. }) => true,
-        _ => false,
+        Some(Insn::CallLocal { .. }) => put(writer, so_far, b"; not written since the call"),
+        _ => so_far,
     }
 }
 

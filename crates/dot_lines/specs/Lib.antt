@@ -1,5 +1,5 @@
 pub mod Parts
 pub mod Lines
-pub mod Links
+pub mod Edges
 pub mod Graphs
-pub mod Writers
+pub mod Tellers

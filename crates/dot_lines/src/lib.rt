@@ -1,10 +1,10 @@
 //! Lines of an answer as a graph in DOT.
 #![tactic(auto)]
 
+mod edges;
 mod graph;
 mod line;
-mod links;
 mod part;
-mod writers;
+mod tellers;
 
 pub use graph::dot_of;

@@ -1,35 +1,23 @@
 //! The two halves of a line.
 ghost use Rattle.std.specs.Prelude.{◌≡◌};
-ghost use Rattle.counted_io.specs.Cuts.{after};
 ghost use Rattle.dot_lines.specs.Lines as spec;
 
 use counted_io::sides;
-use json_lines::{begins, cut_at};
+use json_lines::cut_at;
 
-/// What a line tells behind its first word, without what was read.
-pub fn told_text(line: &[u8]) -> &[u8]
-    ensures { result.now ≡ spec.told_text (after 32 line.now) }
+/// What stands behind the first word of a line.
+pub fn body(line: &[u8]) -> &[u8]
+    ensures { result.now ≡ spec.body line.now }
 {
-    let body = sides(line, b' ').1;
-    match cut_at(b"; from", body) {
-        Some((told, _)) => told,
-        None => body,
-    }
+    sides(line, b' ').1
 }
 
 /// The names of what a line says was read.
 pub fn read_text(line: &[u8]) -> &[u8]
-    ensures { result.now ≡ spec.read_text (after 32 line.now) }
+    ensures { result.now ≡ spec.read_text line.now }
 {
-    match cut_at(b"; from", sides(line, b' ').1) {
-        Some((_, read)) => read,
+    match cut_at(b"; from", body(line)) {
+        Some((_, rest)) => sides(rest, b';').0,
         None => &[],
     }
-}
-
-/// Whether a line says that an answer is cut.
-pub fn is_cut(line: &[u8]) -> bool
-    ensures { result ≡ spec.is_cut line.now }
-{
-    begins(b"cut: ", line)
 }

@@ -6,37 +6,26 @@ use counted_io::sides;
 use json_lines::behind;
 use trace_lines::number_of;
 
-/// A part of the machine that a line names.
+/// A part of the machine as so many places from one on: those that it is where it is read, and
+/// those where it is told.
 #[derive(Clone, Copy)]
-pub enum Part {
-    /// A register of the function at a depth.
-    Register { depth: u8, number: u8 },
-    /// A word of the helper trace.
-    Word { index: u8 },
-    /// Bytes of memory.
-    Bytes { address: u64, len: u16 },
-}
-
-/// So many places from one on, at equal distances.
-#[derive(Clone, Copy)]
-pub struct Places {
+pub struct Part {
     pub first: u64,
-    pub step: u64,
-    pub count: u16,
+    pub read: u16,
+    pub told: u16,
 }
 
 /// The part with whose name a text begins.
 pub fn part_in(text: &[u8]) -> Option<Part>
     ensures { result ≡ spec.part_in text.now }
 {
-    if let Some(rest) = behind(b"r", text) {
-        let (name, more) = sides(rest, b' ');
-        return register_in(name, more);
+    match behind(b"r", text) {
+        Some(rest) => {
+            let (name, more) = sides(rest, b' ');
+            register_in(name, more)
+        }
+        None => bytes_in(sides(text, b' ').0),
     }
-    if let Some(rest) = behind(b"word ", text) {
-        return word_in(rest);
-    }
-    bytes_in(sides(text, b' ').0)
 }
 
 /// The register with this number, at the depth that a text tells.
@@ -45,9 +34,10 @@ fn register_in(name: &[u8], rest: &[u8]) -> Option<Part>
 {
     match below(10, name) {
         Some(number) => match depth_in(rest) {
-            Some(depth) => Some(Part::Register {
-                depth: depth as u8,
-                number: number as u8,
+            Some(depth) => Some(Part {
+                first: 8 * number + depth,
+                read: 1,
+                told: 8 - depth as u16,
             }),
             None => None,
         },
@@ -58,20 +48,11 @@ fn register_in(name: &[u8], rest: &[u8]) -> Option<Part>
 /// The depth that stands behind a register, 0 where none does.
 fn depth_in(text: &[u8]) -> Option<u64>
     ensures { result ≡ spec.depth_in text.now }
+    ensures below { IfSome result (λ depth. depth < 8) }
 {
     match behind(b"at depth ", text) {
         Some(rest) => below(8, sides(rest, b' ').0),
         None => Some(0),
-    }
-}
-
-/// The word of the helper trace whose index a text begins with.
-fn word_in(text: &[u8]) -> Option<Part>
-    ensures { result ≡ spec.word_in text.now }
-{
-    match below(256, sides(text, b' ').0) {
-        Some(index) => Some(Part::Word { index: index as u8 }),
-        None => None,
     }
 }
 
@@ -81,10 +62,11 @@ fn bytes_in(name: &[u8]) -> Option<Part>
 {
     let (address, len) = sides(name, b':');
     match number_of(address) {
-        Some(address) => match below(513, len) {
-            Some(len) => Some(Part::Bytes {
-                address,
-                len: len as u16,
+        Some(first) => match below(513, len) {
+            Some(len) => Some(Part {
+                first,
+                read: len as u16,
+                told: len as u16,
             }),
             None => None,
         },
@@ -98,50 +80,7 @@ fn below(limit: u64, text: &[u8]) -> Option<u64>
     ensures below { IfSome result (λ n. n < limit) }
 {
     match number_of(text) {
-        Some(number) => {
-            if number < limit {
-                Some(number)
-            } else {
-                None
-            }
-        }
+        Some(number) => { if number < limit { Some(number) } else { None } }
         None => None,
-    }
-}
-
-/// The places that a part is where it is read.
-pub fn read(part: Part) -> Places
-    ensures { result ≡ spec.read part }
-{
-    match part {
-        Part::Register { depth, number } => Places {
-            first: 16 * u64::from(depth) + u64::from(number),
-            step: 16,
-            count: 1,
-        },
-        Part::Word { index } => Places {
-            first: 4096 + u64::from(index),
-            step: 1,
-            count: 1,
-        },
-        Part::Bytes { address, len } => Places {
-            first: address,
-            step: 1,
-            count: len,
-        },
-    }
-}
-
-/// The places that are told where a part is.
-pub fn told(part: Part) -> Places
-    ensures { result ≡ spec.told part }
-{
-    match part {
-        Part::Register { depth, number } => Places {
-            first: 16 * u64::from(depth) + u64::from(number),
-            step: 16,
-            count: u16::from(8u8.saturating_sub(depth)),
-        },
-        other => read(other),
     }
 }

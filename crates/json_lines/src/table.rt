@@ -7,7 +7,7 @@ use crate::answer::Answer;
 use crate::shape::{Field, Rest, Shape};
 
 /// What is told of a move besides its parts.
-const PIECES: [Shape; 7] = [
+const PIECES: [Shape; 8] = [
     Shape {
         kind: b"",
         begin: b"",
