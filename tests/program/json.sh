@@ -1,6 +1,6 @@
 # Answers as objects of JSON. What is wanted is worked out by hand from the lines that the other parts hold: each kind of line, once. Then the answers of
 # all listings, tests and objects of these folders, and of programs at random, read by Python's json and held against a model of another form, regular
-# expressions over the lines that are printed without --json (tests/trials/jsons.py).
+# expressions over the lines that are printed without --json (tests/trials/jsons.py); so are those of origin as graphs.
 
 listing p.s 'mov r1, 4;stxdw [r10-8], r1;mov r2, 3;ldxdw r0, [r10-8];add r0, r2;exit'
 tells 0 '{"kind":"result","r0":"0x7"}\n' run --json --listing p.s
@@ -172,7 +172,7 @@ if has python3 'answers as objects of JSON'; then
     fi
     python3 "$top/tests/trials/jsons.py" "$program" all 1 60 > trial 2>&1
     echo $? > found/status
-    sed -n 's/^[0-9]* answers, [0-9]* lines, .*/held/p' trial > found/out
+    sed -n 's/^[0-9]* answers, [0-9]* lines, [1-9][0-9]* edges, .*/held/p' trial > found/out
     : > found/err
     check 'answers as objects of JSON' 0 'held\n' '' || cat trial
 fi

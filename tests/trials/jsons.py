@@ -1,11 +1,13 @@
 """What `--json` prints, held against the lines that are printed without it: each line is read by Python's json, and compared with the object
-that a table of regular expressions makes of the line. jsons.py PROGRAM FOLDER [SEED COUNT]: the programs of FOLDER are tried, and so many at random."""
+that a table of regular expressions makes of the line; and what `origin --dot` does (dots.py). jsons.py PROGRAM FOLDER [SEED COUNT]: the programs of FOLDER are tried, and so many at random."""
 import json
 import os
 import random
 import re
 import subprocess
 import sys
+
+import dots
 
 PART = r"(?:r\d+(?: at depth \d)?|0x[0-9a-f]+(?::\d+)?|word \d+)"
 COUNT = {"step", "slot", "moves", "limit", "steps", "count", "instructions", "slots", "line", "tests", "test", "map", "index", "more", "ran",
@@ -123,7 +125,7 @@ def model(asked, line):
 
 class Trial:
     def __init__(self, program):
-        self.program, self.lines, self.runs, self.kinds = program, 0, 0, {}
+        self.program, self.lines, self.runs, self.edges, self.kinds = program, 0, 0, 0, {}
 
     def told(self, words):
         return subprocess.run([self.program] + words, stdin=subprocess.DEVNULL, capture_output=True, timeout=60)
@@ -147,6 +149,15 @@ class Trial:
             self.kinds[read["kind"]] = self.kinds.get(read["kind"], 0) + 1
         self.lines += len(was) - 1
         self.runs += 1
+
+    def hold_graph(self, words):
+        plain, graph = self.told(words), self.told([words[0], "--dot"] + words[1:])
+        if (plain.returncode, plain.stderr) != (graph.returncode, graph.stderr):
+            sys.exit(f"{' '.join(words)}: another status or standard error: {graph}")
+        wanted = dots.model(plain.stdout.decode())
+        if dots.graph(graph.stdout.decode()) != wanted:
+            sys.exit(f"{' '.join(words)} is told as {graph.stdout.decode()}, and not as {wanted}")
+        self.edges += len(wanted[1])
 
 
 def listing(rng):
@@ -178,6 +189,7 @@ def at_random(trial, folder, seed):
     trial.hold("profile", ["trace", "--profile"] + of)
     trial.hold("origin", ["origin", "--lines", str(rng.choice([1, 1000]))] + of)
     trial.hold("origin", ["origin", "--branches", "--addresses"] + of + [rng.choice(["r0", "r1", "r6", "0x2000001f8:8", "0x2000001e0:32"])])
+    trial.hold_graph(["origin", "--branches", "--addresses", "--lines", str(rng.choice([2, 1000]))] + of + [rng.choice(["r0", "r6", "0x2000001e0:32"])])
     trial.hold("whynot", ["whynot"] + of + [rng.choice([f"l{rng.randrange(0, n)}", "f", str(n)])])
     trial.hold("diff", ["diff"] + of[:-1] + ["--other-mem", other, path])
     trial.hold("check", ["check", "--listing", path])
@@ -209,6 +221,7 @@ def main():
                 trial.hold(asked, [asked, "--listing", path])
             trial.hold("profile", ["trace", "--profile", "--listing", path])
             trial.hold("lines", ["lines", path])
+            trial.hold_graph(["origin", "--addresses", "--listing", path])
         elif name.endswith(".test"):
             trial.hold("test", ["test", path])
             trial.hold("test", ["test", "--cover", path])
@@ -216,11 +229,12 @@ def main():
             trial.hold("sources", ["lines", "--object", path])
             for asked in "run", "trace", "origin", "check", "disasm":
                 trial.hold(asked, [asked, "--object", path])
+            trial.hold_graph(["origin", "--addresses", "--object", path])
     with_random = os.path.join(folder, "random")
     os.makedirs(with_random, exist_ok=True)
     for n in range(seed, seed + count):
         at_random(trial, with_random, n)
-    print(f"{trial.runs} answers, {trial.lines} lines, of kinds {' '.join(f'{k} {n}' for k, n in sorted(trial.kinds.items()))}")
+    print(f"{trial.runs} answers, {trial.lines} lines, {trial.edges} edges, of kinds {' '.join(f'{k} {n}' for k, n in sorted(trial.kinds.items()))}")
 
 
 main()

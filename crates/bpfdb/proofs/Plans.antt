@@ -9,24 +9,24 @@ use Rattle.bpfdb_jobs.specs.declared.job.Job.{Job}
 use Rattle.bpfdb_options.specs.declared.subcommand.Subcommand.{Subcommand}
 use Rattle.bpfdb_options.specs.declared.subcommand.Subcommand.TheVariants.{Debug}
 use Rattle.bpfdb_jobs.specs.Done.{DoesJob}
-use Rattle.json_lines.specs.declared.answer.Answer.{Answer}
-use Rattle.bpfdb.specs.Telling.{DoesJson, DoesTold, ErrLost, Exhausted, OutLost, Tells, Written, answer_of}
+use Rattle.bpfdb.specs.declared.telling.Telling.{Telling}
+use Rattle.bpfdb.specs.Telling.{DoesTold, ErrLost, Exhausted, OutLost, Retells, Tells, Written, telling_of}
 use Rattle.bpfdb.specs.Files.{Contents}
 use Rattle.bpfdb.specs.Done.{DoesCounted, DoesOver, DoesPlan, DoesReplaced, Done, EndsPlanWith, Over, Replaced, Uncounted, Unread, Unreplaced, Unturned, With}
 
 -- It is that of the plan's job, unless it is 2, told as JSON or not.
-ends_json_with : {R W E : Type 0} (reader : Stream R) (writer : Stream W) (errors : Stream E) (answer : Answer) (job : Job) (status : ℕ)
-    → DoesJson answer job reader writer errors status → status ≢ 2 → EndsWith job.subcommand job status
-ends_json_with reader writer errors answer job status (Exhausted out told done does kept said two) other = absurd (other two)
-ends_json_with reader writer errors answer job status (Tells text err done tells (OutLost lost said two)) other = absurd (other two)
-ends_json_with reader writer errors answer job status (Tells text err done tells (ErrLost gets lost two)) other = absurd (other two)
-ends_json_with reader writer errors answer job status (Tells text err done tells (Written gets said same)) other =
+ends_retold_with : {R W E : Type 0} (reader : Stream R) (writer : Stream W) (errors : Stream E) (telling : Telling) (job : Job) (status : ℕ)
+    → Retells telling job reader writer errors status → status ≢ 2 → EndsWith job.subcommand job status
+ends_retold_with reader writer errors telling job status (Exhausted out told done does kept said two) other = absurd (other two)
+ends_retold_with reader writer errors telling job status (Tells text err done tells (OutLost lost said two)) other = absurd (other two)
+ends_retold_with reader writer errors telling job status (Tells text err done tells (ErrLost gets lost two)) other = absurd (other two)
+ends_retold_with reader writer errors telling job status (Tells text err done tells (Written gets said same)) other =
     ends_with reader tells.out tells.told job.subcommand job status (subst (λ (s : ℕ). DoesJob job.subcommand job reader tells.out tells.told s) (sym same) tells.does) other
 
-ends_told_with : {R W E : Type 0} (reader : Stream R) (writer : Stream W) (errors : Stream E) (answer : Option Answer) (job : Job) (status : ℕ)
-    → DoesTold answer job reader writer errors status → status ≢ 2 → EndsWith job.subcommand job status
+ends_told_with : {R W E : Type 0} (reader : Stream R) (writer : Stream W) (errors : Stream E) (telling : Option Telling) (job : Job) (status : ℕ)
+    → DoesTold telling job reader writer errors status → status ≢ 2 → EndsWith job.subcommand job status
 ends_told_with reader writer errors None job status does other = ends_with reader writer errors job.subcommand job status does other
-ends_told_with reader writer errors (Some answer) job status does other = ends_json_with reader writer errors answer job status does other
+ends_told_with reader writer errors (Some telling) job status does other = ends_retold_with reader writer errors telling job status does other
 
 ends_over_with : {R W E : Type 0} (reader : Stream R) (writer : Stream W) (errors : Stream E) (at_terminal : Bool) (plan : Plan)
     (of : Contents) (status : ℕ)
@@ -37,7 +37,7 @@ ends_over_with reader writer errors at_terminal plan of status (Over bytes job f
   of = record of { file = bytes };
   job = job;
   is = is;
-  ends = ends_told_with reader writer (record errors { new = does.told }) (answer_of plan) job status does.does other;
+  ends = ends_told_with reader writer (record errors { new = does.told }) (telling_of plan) job status does.does other;
 }
 
 ends_counted_with : {R W E : Type 0} (reader : Stream R) (writer : Stream W) (errors : Stream E) (at_terminal : Bool) (plan : Plan)

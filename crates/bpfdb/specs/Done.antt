@@ -11,25 +11,25 @@ use Rattle.bpfdb_jobs.specs.declared.job.Job.{Job}
 use Rattle.bpfdb.specs.Counts.{HasCounts, IsUncounted}
 use Rattle.bpfdb.specs.Files.{AreRead, Contents, IsUnread}
 use Rattle.bpfdb.specs.Jobs.{IsJobOf}
-use Rattle.bpfdb.specs.Telling.{DoesTold, answer_of}
-use Rattle.json_lines.specs.declared.answer.Answer.{Answer}
+use Rattle.bpfdb.specs.Telling.{DoesTold, telling_of}
+use Rattle.bpfdb.specs.declared.telling.Telling.{Telling}
 use Rattle.bpfdb.specs.Tests.{IsTestsFor, IsUnreplaced, files_line}
 use Rattle.suite_files.specs.declared.fault.FilesFault.{FilesFault}
 use Rattle.bpfdb.specs.Turns.{IsFileFor, IsUnturned}
 use Rattle.counted_io.specs.Counted.{Tally}
 
--- A job is done, as it is or told as JSON, and its hint follows on standard error where that is a terminal.
-pub record DoesHinted {R W E : Type 0} (at_terminal : Bool) (answer : Option Answer) (job : Job) (reader : Stream R) (writer : Stream W) (errors : Stream E) (status : ℕ)
+-- A job is done, as it is or told in another form, and its hint follows on standard error where that is a terminal.
+pub record DoesHinted {R W E : Type 0} (at_terminal : Bool) (telling : Option Telling) (job : Job) (reader : Stream R) (writer : Stream W) (errors : Stream E) (status : ℕ)
     : Type 0 where
   pub told : Tally E
-  pub does : DoesTold answer job reader writer (record errors { new = told }) status
+  pub does : DoesTold telling job reader writer (record errors { new = told }) status
   pub adds : AddsHint at_terminal job status (record errors { old = told })
 
 -- The job is done over FILE, or over the object of the programs that are called in turn; or why there is none is told, and nothing else happens.
 pub data DoesOver {R W E : Type 0} (at_terminal : Bool) (plan : Plan) (of : Contents) (reader : Stream R) (writer : Stream W) (errors : Stream E)
     (status : ℕ) : Type 0 where
   Over : (bytes : List ℕ) → (job : Job) → IsFileFor plan of.file bytes → IsJobOf plan (record of { file = bytes }) job
-      → DoesHinted at_terminal (answer_of plan) job reader writer errors status → DoesOver at_terminal plan of reader writer errors status
+      → DoesHinted at_terminal (telling_of plan) job reader writer errors status → DoesOver at_terminal plan of reader writer errors status
   Unturned : (fault : JobFault) → IsUnturned plan of.file fault → reader.new ≡ reader.old → writer.new ≡ writer.old → Told errors (line_of fault)
       → status ≡ 2 → DoesOver at_terminal plan of reader writer errors status
 

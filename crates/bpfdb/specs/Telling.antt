@@ -1,4 +1,4 @@
--- What becomes of a job whose answer is told as objects of JSON.
+-- What becomes of a job whose answer is told in another form: as objects of JSON, or as a graph.
 use Rattle.std.specs.Prelude.{ℕ, ◌≡◌, List, [], Vec, Option, Some, None, if◌then◌else◌}
 use Rattle.std.specs.declared.alloc.Global.{Global}
 use Rattle.bpfdb_cli.specs.declared.plans.Plan.{Plan}
@@ -10,6 +10,9 @@ use Rattle.bpfdb_jobs.specs.declared.job.Job.{Job}
 use Rattle.bpfdb_options.specs.declared.options.Options.{Options}
 use Rattle.bpfdb_options.specs.declared.subcommand.Subcommand.{Subcommand}
 use Rattle.bpfdb_options.specs.declared.subcommand.Subcommand.TheVariants as ask
+use Rattle.bpfdb.specs.declared.telling.Telling.{Telling}
+use Rattle.bpfdb.specs.declared.telling.Telling.TheVariants.{Json, Graph}
+use Rattle.dot_lines.specs.Graphs.{dot_of}
 use Rattle.json_lines.specs.Objects.{json_of}
 use Rattle.json_lines.specs.declared.answer.Answer.{Answer}
 use Rattle.json_lines.specs.declared.answer.Answer.TheVariants as answer
@@ -24,8 +27,13 @@ answer_for ask.Check options = answer.Check
 answer_for ask.Test options = answer.Report
 answer_for _ options = answer.Run
 
-abbrev pub answer_of : Plan → Option Answer
-answer_of plan = if plan.json then Some (answer_for plan.subcommand plan.options) else None
+-- The form in which it is told, and its text in that.
+abbrev pub telling_of : Plan → Option Telling
+telling_of plan = if plan.dot then Some Graph else if plan.json then Some (Json (answer_for plan.subcommand plan.options)) else None
+
+abbrev pub told_in : Telling → List ℕ → List ℕ
+told_in (Json answer) text = json_of answer text
+told_in Graph text = dot_of text
 
 -- The job was done over writers in memory, which took all of it: so it prints this text, and this on standard error.
 pub record TellsInMemory {R : Type 0} (job : Job) (reader : Stream R) (text err : List ℕ) (status : ℕ) : Type 0 where
@@ -39,20 +47,20 @@ pub record TellsInMemory {R : Type 0} (job : Job) (reader : Stream R) (text err 
   pub spared : Spared out × Spared told
 
 -- An output is written, and then what was told on standard error; or one of them is lost.
-pub data EndsJson {W E : Type 0} (output err : List ℕ) (done : ℕ) (writer : Stream W) (errors : Stream E) (status : ℕ) : Type 0 where
-  Written : Gets writer (Some output) → Gets errors (Some err) → status ≡ done → EndsJson output err done writer errors status
-  OutLost : Loses writer (Some output) → Told errors (line_of Output) → status ≡ 2 → EndsJson output err done writer errors status
-  ErrLost : Gets writer (Some output) → Loses errors (Some err) → status ≡ 2 → EndsJson output err done writer errors status
+pub data EndsRetold {W E : Type 0} (output err : List ℕ) (done : ℕ) (writer : Stream W) (errors : Stream E) (status : ℕ) : Type 0 where
+  Written : Gets writer (Some output) → Gets errors (Some err) → status ≡ done → EndsRetold output err done writer errors status
+  OutLost : Loses writer (Some output) → Told errors (line_of Output) → status ≡ 2 → EndsRetold output err done writer errors status
+  ErrLost : Gets writer (Some output) → Loses errors (Some err) → status ≡ 2 → EndsRetold output err done writer errors status
 
--- What the job prints is told as JSON; or memory ran out for that, and nothing is written.
-pub data DoesJson {R W E : Type 0} (answer : Answer) (job : Job) (reader : Stream R) (writer : Stream W) (errors : Stream E) (status : ℕ)
+-- What the job prints is told in a form; or memory ran out for that, and nothing is written.
+pub data Retells {R W E : Type 0} (telling : Telling) (job : Job) (reader : Stream R) (writer : Stream W) (errors : Stream E) (status : ℕ)
     : Type 0 where
   Tells : (text err : List ℕ) → (done : ℕ) → TellsInMemory job reader text err done
-      → EndsJson (json_of answer text) err done writer errors status → DoesJson answer job reader writer errors status
+      → EndsRetold (told_in telling text) err done writer errors status → Retells telling job reader writer errors status
   Exhausted : (out told : Stream (Vec ℕ Global)) → (done : ℕ) → DoesJob job.subcommand job reader out told done
-      → writer.new ≡ writer.old → Told errors (line_of Memory) → status ≡ 2 → DoesJson answer job reader writer errors status
+      → writer.new ≡ writer.old → Told errors (line_of Memory) → status ≡ 2 → Retells telling job reader writer errors status
 
--- A job is done as it is, or its answer told as JSON.
-abbrev pub DoesTold : {R W E : Type 0} → Option Answer → Job → Stream R → Stream W → Stream E → ℕ → Type 0
+-- A job is done as it is, or its answer told in another form.
+abbrev pub DoesTold : {R W E : Type 0} → Option Telling → Job → Stream R → Stream W → Stream E → ℕ → Type 0
 DoesTold None job reader writer errors status = DoesJob job.subcommand job reader writer errors status
-DoesTold (Some answer) job reader writer errors status = DoesJson answer job reader writer errors status
+DoesTold (Some telling) job reader writer errors status = Retells telling job reader writer errors status

@@ -3,7 +3,7 @@ ghost use Rattle.std.specs.Prelude.{◌≤◌};
 ghost use Rattle.bpfdb.specs.Done.{DoesCounted, DoesHinted, DoesOver, DoesPlan, DoesReplaced, Helps};
 ghost use Rattle.bpfdb.specs.Files.{contents_in};
 ghost use Rattle.bpfdb.specs.Jobs.{IsJobOf};
-ghost use Rattle.bpfdb.specs.Telling.{DoesTold, answer_of};
+ghost use Rattle.bpfdb.specs.Telling.{DoesTold, telling_of};
 ghost use Rattle.bpfdb_jobs.specs.declared.job.Job.{Job};
 ghost use Rattle.bpfdb_limits.specs.Limits.{IsLimit};
 ghost use Rattle.counted_io.specs.Writing.{Writes};
@@ -12,7 +12,7 @@ ghost use Rattle.bpfdb_faults.specs.Streams.{stream};
 use crate::counts::{counted_file, refuse_counts};
 use crate::files::{kind_of, read_each, read_given, read_named};
 use crate::job::{Loaded, is_turned, job_of};
-use crate::telling::{answer_of, json_tool};
+use crate::telling::{Telling, retold_tool, telling_of};
 use crate::tests::{is_test, place_of, refuse_tests};
 use crate::turns::{refuse_turns, turned_file};
 use bpfdb_cli::Plan;
@@ -21,7 +21,6 @@ use bpfdb_files::{FileKind, Opener};
 use bpfdb_jobs::{Job, add_hint, tool};
 use clap::Error;
 use counted_io::{Counted, WriteFault, write_text};
-use json_lines::Answer;
 use std::alloc::Global;
 use std::io::{Read, Write};
 use suite_files::replaced;
@@ -182,32 +181,32 @@ fn do_job<R: Read, W: Write, E: Write>(
 ) -> u8
     requires limit { IsLimit plan.now.options.limit }
     ensures does { (job : Job) × IsJobOf plan.now (contents_in loaded.now) job
-        × DoesHinted at_terminal (answer_of plan.now) job (stream R.remaining reader.old reader.new)
+        × DoesHinted at_terminal (telling_of plan.now) job (stream R.remaining reader.old reader.new)
         (stream W.contents writer.old writer.new) (stream E.contents errors.old errors.new) result }
     ensures status { result ≤ 2 }
 {
     let job = job_of(plan, loaded);
-    let status = told_tool(alloc, answer_of(plan), &job, reader, writer, errors);
+    let status = told_tool(alloc, telling_of(plan), &job, reader, writer, errors);
     add_hint(alloc, &job, at_terminal, status, errors);
     status
 }
 
-/// Does a job, as it is or told as JSON.
+/// Does a job, as it is or told in another form.
 fn told_tool<R: Read, W: Write, E: Write>(
     alloc: Global,
-    answer: Option<Answer>,
+    telling: Option<Telling>,
     job: &Job<'_>,
     reader: &mut Counted<R>,
     writer: &mut Counted<W>,
     errors: &mut Counted<E>,
 ) -> u8
     requires limit { IsLimit job.now.options.limit }
-    ensures does { DoesTold answer job.now (stream R.remaining reader.old reader.new)
+    ensures does { DoesTold telling job.now (stream R.remaining reader.old reader.new)
         (stream W.contents writer.old writer.new) (stream E.contents errors.old errors.new) result }
     ensures status { result ≤ 2 }
 {
-    match answer {
-        Some(answer) => json_tool(alloc, answer, job, reader, writer, errors),
+    match telling {
+        Some(telling) => retold_tool(alloc, telling, job, reader, writer, errors),
         None => tool(alloc, job, reader, writer, errors),
     }
 }

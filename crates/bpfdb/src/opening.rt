@@ -59,6 +59,7 @@ pub fn first_plan() -> Plan<'static>
         counts: ArrayVec::new(),
         options: NO_OPTIONS,
         json: false,
+        dot: false,
     }
 }
 

@@ -1,6 +1,6 @@
-//! What a job prints, told as objects of JSON.
-ghost use Rattle.std.specs.Prelude.{◌≡◌, ◌≤◌};
-ghost use Rattle.bpfdb.specs.Telling.{DoesJson, EndsJson, answer_for, answer_of};
+//! What a job prints, told in another form: as objects of JSON, or as a graph.
+ghost use Rattle.std.specs.Prelude.{◌≡◌, ◌≤◌, IfOk};
+ghost use Rattle.bpfdb.specs.Telling.{EndsRetold, Retells, answer_for, told_in, telling_of};
 ghost use Rattle.bpfdb_faults.specs.Streams.{stream};
 ghost use Rattle.bpfdb_limits.specs.Limits.{IsLimit};
 
@@ -9,18 +9,41 @@ use bpfdb_faults::{JobFault, give_up, told_as, write_out};
 use bpfdb_jobs::{Job, tool};
 use bpfdb_options::{Options, Subcommand};
 use counted_io::{Counted, WriteFault};
+use dot_lines::dot_of;
 use json_lines::{Answer, json_of};
-use std::alloc::Global;
+use std::alloc::{AllocError, Global};
 use std::io::{Read, Write};
 
-/// What a plan's job prints, if it is told as JSON.
-pub fn answer_of(plan: &Plan<'_>) -> Option<Answer>
-    ensures { result ≡ answer_of plan.now }
+/// A form in which what a job prints is told.
+#[derive(Clone, Copy)]
+pub enum Telling {
+    /// Objects of JSON, by what was asked.
+    Json(Answer),
+    /// A graph.
+    Graph,
+}
+
+/// The form in which what a plan's job prints is told, if it isn't told as it is.
+pub fn telling_of(plan: &Plan<'_>) -> Option<Telling>
+    ensures { result ≡ telling_of plan.now }
 {
+    if plan.dot {
+        return Some(Telling::Graph);
+    }
     if plan.json {
-        Some(answer_for(plan.subcommand, &plan.options))
+        Some(Telling::Json(answer_for(plan.subcommand, &plan.options)))
     } else {
         None
+    }
+}
+
+/// A text in a form.
+fn told_in(alloc: Global, telling: Telling, text: &[u8]) -> Result<Vec<u8>, AllocError>
+    ensures { IfOk result (λ told. told.items ≡ told_in telling text.now) }
+{
+    match telling {
+        Telling::Json(answer) => json_of(alloc, answer, text),
+        Telling::Graph => dot_of(alloc, text),
     }
 }
 
@@ -50,18 +73,18 @@ fn answer_for(subcommand: Subcommand, options: &Options<'_>) -> Answer
     }
 }
 
-/// Does a job over writers in memory, and then writes what it told: what it printed as JSON. Where
+/// Does a job over writers in memory, and then writes what it told: what it printed in a form. Where
 /// memory runs out for that, nothing is written.
-pub fn json_tool<R: Read, W: Write, E: Write>(
+pub fn retold_tool<R: Read, W: Write, E: Write>(
     alloc: Global,
-    answer: Answer,
+    telling: Telling,
     job: &Job<'_>,
     reader: &mut Counted<R>,
     writer: &mut Counted<W>,
     errors: &mut Counted<E>,
 ) -> u8
     requires limit { IsLimit job.now.options.limit }
-    ensures does { DoesJson answer job.now (stream R.remaining reader.old reader.new)
+    ensures does { Retells telling job.now (stream R.remaining reader.old reader.new)
         (stream W.contents writer.old writer.new) (stream E.contents errors.old errors.new) result }
     ensures status { result ≤ 2 }
 {
@@ -73,10 +96,10 @@ pub fn json_tool<R: Read, W: Write, E: Write>(
     }
     let out = out.into_inner();
     let told = told.into_inner();
-    let Ok(json) = json_of(alloc, answer, out.as_slice()) else {
+    let Ok(text) = told_in(alloc, telling, out.as_slice()) else {
         return give_up(errors, &JobFault::Memory);
     };
-    write_told(json.as_slice(), told.as_slice(), status, writer, errors)
+    write_told(text.as_slice(), told.as_slice(), status, writer, errors)
 }
 
 /// Writes an output, and then what was told on standard error. Answers the exit status.
@@ -87,7 +110,7 @@ fn write_told<W: Write, E: Write>(
     writer: &mut Counted<W>,
     errors: &mut Counted<E>,
 ) -> u8
-    ensures ends { EndsJson output.now told.now status (stream W.contents writer.old writer.new)
+    ensures ends { EndsRetold output.now told.now status (stream W.contents writer.old writer.new)
         (stream E.contents errors.old errors.new) result }
     ensures status { status ≤ 2 → result ≤ 2 }
 {

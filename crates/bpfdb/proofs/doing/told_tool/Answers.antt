@@ -1,4 +1,4 @@
 use Rattle.bpfdb.proofs.doing.told_tool.Goals as goal
 
 pub returns-in-Some-clause-does : goal.returns-in-Some-clause-does
-returns-in-Some-clause-does g c = rw c.in-Some.is c.json_tool.ensures.does
+returns-in-Some-clause-does g c = rw c.in-Some.is c.retold_tool.ensures.does

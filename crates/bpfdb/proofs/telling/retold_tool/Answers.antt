@@ -1,6 +1,6 @@
 use Rattle.std.proofs.Common.{refl, rules, tests}
 use Rattle.bpfdb.specs.Telling.{Exhausted, Tells}
-use Rattle.bpfdb.proofs.telling.json_tool.Goals as goal
+use Rattle.bpfdb.proofs.telling.retold_tool.Goals as goal
 
 pub returns-then-failures-gt0-clause-does : goal.returns-then-failures-gt0-clause-does
 returns-then-failures-gt0-clause-does g c = Exhausted _ _ _ c.tool-status.ensures.does refl c.give_up.ensures.told c.give_up.ensures.value
