@@ -136,6 +136,7 @@ usage "unexpected argument '--json' found" gdb --json p.s
 usage "unexpected argument '--json' found" batch --json
 usage "the argument '--show <PART>' cannot be used with '--json'" test --show program --json p.s
 usage "the argument '--cover-info' cannot be used with '--json'" test --cover-info --json p.s
+usage "the argument '--dot' cannot be used with '--json'" origin --dot --json --listing p.s
 
 # A report, whose names have what JSON escapes.
 printf -- '-- listing\nmov r0, 2\njeq r0, 2, out\nmov r0, 3\nout: exit\n-- name\nsays "no" \\ never\n-- result\n3\n-- name\nna\303\257ve\n-- result\n2\n' > t.test

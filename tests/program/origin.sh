@@ -453,3 +453,24 @@ refused 'cannot read ' origin --script '' count.bin
 refused 'cannot read .' origin --script . count.bin
 refused 'cannot read missing' origin --script nowhere -m missing count.bin
 refused 'cannot read absent' origin --script nowhere absent
+
+# An answer as a graph: a part that two moves told, a byte each; a register that the caller's move told; what read nothing; what is left; a cut, branches,
+# and refusals.
+box='strict digraph origin {\n  node [shape=box];\n'
+listing graph.s 'mov r1, 4;stxdw [r10-8], r1;stb [r10-7], 2;ldxh r0, [r10-8];add r0, r1;exit'
+tells 0 "${box}  n0 [label=\"exited at 5: r0 0x208\"];\n  n1 [label=\"-2 r0 = 0x208; 4: add r0, r1; from r0 r1\"];\n  n2 [label=\"-3 r0 = 0x204; 3: ldxh r0, [r10-8]; from 0x2000001f8:2\"];\n  n3 [label=\"-4 0x2000001f9:1 = 0x2; 2: stb [r10-7], 2\"];\n  n4 [label=\"-5 0x2000001f8:8 = 0x4; 1: stxdw [r10-8], r1; from r1\"];\n  n5 [label=\"-6 r1 = 0x4; 0: mov r1, 4\"];\n  n4 -> n5;\n  n2 -> n4;\n  n2 -> n3;\n  n1 -> n2;\n  n1 -> n5;\n}\n" \
+    origin --dot --listing graph.s
+listing handed.s 'mov r6, r2;callf f;exit;f: mov r0, r6;exit'
+tells 0 "${box}  n0 [label=\"exited at 2: r0 0x3\"];\n  n1 [label=\"-3 r0 = 0x3; 3: mov r0, r6; from r6 at depth 1\"];\n  n2 [label=\"-5 r6 = 0x3; 0: mov r6, r2; from r2\"];\n  n3 [label=\"left r2 = 0x3; at the opening\"];\n  n2 -> n3;\n  n1 -> n2;\n}\n" \
+    origin --dot -m context --listing handed.s
+tells 1 "${box}  n0 [label=\"exited at 5: r0 0x208\"];\n  n1 [label=\"-2 r0 = 0x208; 4: add r0, r1; from r0 r1\"];\n  n2 [label=\"cut: there are more lines\"];\n}\n" \
+    origin --lines 1 --dot --listing graph.s
+listing decided.s 'mov r0, 1;jeq r0, 1, on;exit;on: add r0, 1;exit'
+tells 0 "${box}  n0 [label=\"exited at 4: r0 0x2\"];\n  n1 [label=\"-2 r0 = 0x2; 3: add r0, 1; from r0\"];\n  n2 [label=\"-4 r0 = 0x1; 0: mov r0, 1\"];\n  n3 [label=\"-3 1: jeq r0, 1, L3; r0 = 0x1; jumped to 3\"];\n  n4 [label=\"no other branch; at the opening\"];\n  n1 -> n2;\n}\n" \
+    origin --dot --branches --listing decided.s
+refused "$v1" origin --dot --listing graph.s r10
+if has dot 'graphs as graphviz reads them'; then
+    "$program" origin --dot --listing graph.s 2> found/err | dot -Tplain 2>> found/err | cut -d ' ' -f 1 | sort | uniq -c | tr -d '\n' > found/out
+    echo 0 > found/status
+    check 'a graph as graphviz reads it' 0 '      5 edge      1 graph      6 node      1 stop' ''
+fi

@@ -1,35 +1,43 @@
 -- Bytes that follow one another, as one part.
-use Rattle.std.proofs.Common.{◌≡◌, ◌+◌, ◌<◌, ℕ, Bool, true, false, List, [], ◌∷◌, ◌++◌, drop, length, get_or, refl, sym, ap, ◌∙◌, arith}
-use Rattle.std.specs.Prelude.{flat_map, if◌then◌else◌}
+use Rattle.std.proofs.Common.{◌≡◌, ◌+◌, ◌<◌, ℕ, List, [], ◌∷◌, ◌++◌, Option, Some, None, drop, length, get_or, flat_map, refl, sym, ap, ◌∙◌, arith}
+use Rattle.std.specs.Option.{option_map_or}
 use Rattle.std.proofs.lemmas.List.{drop_more, drop_all}
 use Rattle.bpf_origin.specs.declared.place.Part.{Part}
 use Rattle.bpf_origin.specs.declared.place.Place.{Place}
-use Rattle.bpf_origin.specs.Texts.{is_behind, joined, next_run}
+use Rattle.bpf_origin.specs.Texts.{grown, joined, part_of}
 
-one-by : (line : Part → List ℕ) (run : Part) (v : Bool) (rest : List Part)
-    → flat_map line (if v then rest else run ∷ rest) ≡ (if v then [] else line run) ++ flat_map line rest
-one-by line run true rest = refl
-one-by line run false rest = refl
+-- the next place, by what becomes of the part before it
+abbrev by : List Place → Part → Place → Option Part → List Part
+by ps run p found = option_map_or (λ longer. joined longer ps) found (run ∷ joined (part_of p) ps)
 
-one-more : (line : Part → List ℕ) (run : Part) (p : Place) (ps : List Place)
-    → flat_map line (joined run (p ∷ ps)) ≡ (if is_behind run p then [] else line run) ++ flat_map line (joined (next_run run p) ps)
+one-more : (run : Part) (p : Place) (ps : List Place) → joined run (p ∷ ps) ≡ by ps run p (grown run p)
 unfolding joined
-one-more line run p ps = one-by line run (is_behind run p) (joined (next_run run p) ps)
+one-more run p ps = refl
 
--- the next place of a list
-pub joined-next : (line : Part → List ℕ) (run next : Part) (xs : List Place) (k : ℕ) (d : Place) → k < length xs → next ≡ next_run run (get_or xs k d)
-    → flat_map line (joined run (drop k xs))
-    ≡ (if is_behind run (get_or xs k d) then [] else line run) ++ flat_map line (joined next (drop (k + 1) xs))
-joined-next line run next xs k d inside is =
-    ap (λ (ps : List Place). flat_map line (joined run ps)) (drop_more xs k d inside)
-    ∙ one-more line run (get_or xs k d) (drop (k + 1) xs)
-    ∙ ap (λ (q : Part). (if is_behind run (get_or xs k d) then [] else line run) ++ flat_map line (joined q (drop (k + 1) xs))) (sym is)
+next : (run : Part) (xs : List Place) (k : ℕ) (d : Place) (found : Option Part) → k < length xs → grown run (get_or xs k d) ≡ found
+    → joined run (drop k xs) ≡ by (drop (k + 1) xs) run (get_or xs k d) found
+next run xs k d found inside e =
+    ap (joined run) (drop_more xs k d inside)
+    ∙ one-more run (get_or xs k d) (drop (k + 1) xs)
+    ∙ ap (by (drop (k + 1) xs) run (get_or xs k d)) e
 
-one-last : (line : Part → List ℕ) (run : Part) → flat_map line (joined run []) ≡ line run ++ []
-unfolding joined
-one-last line run = refl
+-- a byte behind it
+pub joined-longer : (line : Part → List ℕ) (run longer : Part) (xs : List Place) (k : ℕ) (d : Place) → k < length xs
+    → grown run (get_or xs k d) ≡ Some longer → flat_map line (joined run (drop k xs)) ≡ flat_map line (joined longer (drop (k + 1) xs))
+joined-longer line run longer xs k d inside e = ap (flat_map line) (next run xs k d (Some longer) inside e)
+
+-- another place
+pub joined-next : (line : Part → List ℕ) (run other : Part) (xs : List Place) (k : ℕ) (d : Place) → k < length xs
+    → grown run (get_or xs k d) ≡ None → other ≡ part_of (get_or xs k d)
+    → flat_map line (joined run (drop k xs)) ≡ line run ++ flat_map line (joined other (drop (k + 1) xs))
+joined-next line run other xs k d inside e is =
+    ap (flat_map line) (next run xs k d None inside e) ∙ ap (λ (q : Part). line run ++ flat_map line (joined q (drop (k + 1) xs))) (sym is)
 
 -- behind the last one
+joined-none : (line : Part → List ℕ) (run : Part) → flat_map line (joined run []) ≡ line run ++ []
+unfolding joined
+joined-none line run = refl
+
 pub joined-end : (line : Part → List ℕ) (run : Part) (xs : List Place) (k : ℕ) → k ≡ length xs
     → flat_map line (joined run (drop k xs)) ≡ line run ++ []
-joined-end line run xs k all = ap (λ (ps : List Place). flat_map line (joined run ps)) (drop_all k xs (omega (arith, all))) ∙ one-last line run
+joined-end line run xs k all = ap (λ (ps : List Place). flat_map line (joined run ps)) (drop_all k xs (omega (arith, all))) ∙ joined-none line run

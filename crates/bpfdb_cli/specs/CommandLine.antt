@@ -172,6 +172,10 @@ anywhere_rule = record (new_rule (codes "anywhere")) { long = Some (codes "anywh
 abbrev pub json_rule : Rule
 json_rule = record (new_rule (codes "json")) { long = Some (codes "json"); action = Some SetTrue }
 
+-- `--dot`: an answer as a graph.
+abbrev pub dot_rule : Rule
+dot_rule = record (new_rule (codes "dot")) { long = Some (codes "dot"); action = Some SetTrue }
+
 -- WHAT, behind FILE: what is asked about.
 abbrev pub what_rule : Rule
 what_rule = record (new_rule (codes "what")) { index = Some 2; value_names = 1 }
@@ -237,8 +241,8 @@ gdb_app = with_rule (with_rule (with_file_kinds (with_rule (with_rule (with_rule
 
 -- `origin` runs the program as `debug` does, over that journal, too.
 abbrev pub origin_app : App
-origin_app = with_rule (with_rule (with_rule (with_rule (with_rule (with_rule (with_file_kinds (with_rule (with_rule (with_rule (with_rule (with_rule (new_app (codes "origin"))
-    mem_rule) maps_rule) gdb_journal_rule) steps_rule) script_rule)) lines_rule) addresses_rule) branches_rule) json_rule) what_rule) file_rule
+origin_app = with_rule (with_rule (with_rule (with_rule (with_rule (with_rule (with_rule (with_file_kinds (with_rule (with_rule (with_rule (with_rule (with_rule (new_app (codes "origin"))
+    mem_rule) maps_rule) gdb_journal_rule) steps_rule) script_rule)) lines_rule) addresses_rule) branches_rule) json_rule) dot_rule) what_rule) file_rule
 
 -- `whynot` does so, too.
 abbrev pub whynot_app : App

@@ -126,6 +126,7 @@ pub record Says (name : Text) (rows : List Row) (plan : Plan) : Type 0 where
   pub few_counts : length (counts_in rows) ≤ most_counts
   pub options : Chooses rows plan.options
   pub json : plan.json ≡ is_given (first_of (codes "json") rows)
+  pub dot : plan.dot ≡ is_given (first_of (codes "dot") rows)
 
 -- A number that is given is one below 2^64.
 abbrev pub IsNumber : Option Text → Type 0
@@ -165,7 +166,7 @@ writes_fit rows = not (is_given (first_of (codes "writes") rows) && is_some (fir
 
 -- Options go together: an object is no listing and has maps of its own, of a link is asked only where an object is linked, `diff` is told
 -- of one other side, steps that are counted are those of a run that isn't strict, programs in turn have numbers, and so have maps, and a part of a
--- test and a tracefile are written as they are.
+-- test and a tracefile are written as they are, and so is a graph.
 abbrev pub link_fits : Text → List Row → Bool
 link_fits name rows = if is_given (first_of (codes "object") rows)
     then not (is_given (first_of (codes "listing") rows)) && not (is_some (first_of (codes "maps") rows))
@@ -183,8 +184,14 @@ shows_json rows = is_some (first_of (codes "show") rows) && is_given (first_of (
 abbrev pub is_json_tracefile : List Row → Bool
 is_json_tracefile rows = is_given (first_of (codes "cover-info") rows) && is_given (first_of (codes "json") rows)
 
+abbrev pub is_json_graph : List Row → Bool
+is_json_graph rows = is_given (first_of (codes "dot") rows) && is_given (first_of (codes "json") rows)
+
+abbrev pub graph_fits : Text → List Row → Bool
+graph_fits name rows = not (is_json_graph rows) && run_fits name rows
+
 abbrev pub told_fits : Text → List Row → Bool
-told_fits name rows = not (shows_json rows) && (not (is_json_tracefile rows) && run_fits name rows)
+told_fits name rows = not (shows_json rows) && (not (is_json_tracefile rows) && graph_fits name rows)
 
 abbrev pub go_together : Text → List Row → Bool
 go_together name rows = entries_fit rows && (are_counts (counts_in rows) && (not (counts_strictly rows) && told_fits name rows))

@@ -4,7 +4,7 @@ use Rattle.clap.specs.Words.{App, Rule, Text, new_app, new_rule, with_rule, with
 use Rattle.clap.specs.declared.builder.action.ArgAction.TheVariants.{SetTrue}
 use Rattle.clap.specs.declared.builder.value_parser.ValueParser.TheVariants as vp
 use Rattle.bpfdb_limits.specs.Limits.{greatest_count}
-use Rattle.bpfdb_cli.specs.CommandLine.{addresses_rule, branches_rule, count_rule, entries_rule, entry_rule, file_rule_if, from_rule, gdb_journal_rule, journal_rule, lines_rule, listing_rule, maps_rule, object_rule, mem_rule, only_rule, profile_rule, registers_rule, section_rule, show_rule, steps_rule, stub_rule, what_rule, script_rule, as_compiled_rule, with_functions_rule, joined_rule, alone_rule, goal_rule, other_mem_rule, other_rule, cover_rule, packet_rule, strict_rule, other_trace_rule, anywhere_rule, writes_rule, cover_info_rule, json_rule}
+use Rattle.bpfdb_cli.specs.CommandLine.{addresses_rule, branches_rule, count_rule, entries_rule, entry_rule, file_rule_if, from_rule, gdb_journal_rule, journal_rule, lines_rule, listing_rule, maps_rule, object_rule, mem_rule, only_rule, profile_rule, registers_rule, section_rule, show_rule, steps_rule, stub_rule, what_rule, script_rule, as_compiled_rule, with_functions_rule, joined_rule, alone_rule, goal_rule, other_mem_rule, other_rule, cover_rule, packet_rule, strict_rule, other_trace_rule, anywhere_rule, writes_rule, cover_info_rule, json_rule, dot_rule}
 use Rattle.bpfdb_cli.specs.declared.subcommands.CliOption.{CliOption}
 use Rattle.bpfdb_cli.specs.declared.subcommands.CliOption.TheVariants as option
 use Rattle.bpfdb_cli.specs.declared.subcommands.CliSubcommand.{CliSubcommand}
@@ -57,6 +57,7 @@ option_rule option.Cover = cover_rule
 option_rule option.CoverInfo = cover_info_rule
 option_rule option.Anywhere = anywhere_rule
 option_rule option.Json = json_rule
+option_rule option.Dot = dot_rule
 option_rule option.What = what_rule
 option_rule option.Goal = goal_rule
 

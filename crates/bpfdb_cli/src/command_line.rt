@@ -128,6 +128,7 @@ fn argument_of<'a>(alloc: Global, option: CliOption) -> Arg<'a>
         CliOption::CoverInfo => flag(alloc, "cover-info", help::COVER_INFO),
         CliOption::Anywhere => flag(alloc, "anywhere", help::ANYWHERE),
         CliOption::Json => flag(alloc, "json", help::JSON),
+        CliOption::Dot => flag(alloc, "dot", help::DOT),
         CliOption::What => Arg::new(alloc, "what")
             .index(2)
             .value_name("WHAT")

@@ -528,6 +528,9 @@ pub const COVER_INFO: &str = "Writes what ran as lcov reads it, and the report t
 /// `--json`.
 pub const JSON: &str = "Writes an object of JSON for each line";
 
+/// `--dot`.
+pub const DOT: &str = "Writes the answer as a graph for graphviz";
+
 /// `--anywhere`.
 pub const ANYWHERE: &str = "Reads files that tests name also outside of their folder";
 

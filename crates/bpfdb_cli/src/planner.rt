@@ -7,7 +7,7 @@ ghost use Rattle.clap.specs.Words.{Row, Text, first_of, found_of, rows_of, subco
 ghost use Rattle.bpfdb_limits.specs.Limits.{IsLimit};
 ghost use Rattle.bpfdb_options.specs.Lines.{most_further};
 ghost use Rattle.bpfdb_cli.specs.Scaffolding.{AskAlike};
-ghost use Rattle.bpfdb_cli.specs.Plans.{AreInRange, Chooses, HasKindIfTold, IsFaultOf, IsPlan, IsPlanOf, NamesPart, NamesRegisters, Says, Tells, asks_of_link, counts_strictly, go_together, is_given, link_fits, names_other, number_or, other_in, run_fits, given_or, NamesPacket, counts_in, entries_fit, further_in, has_offset, is_json_tracefile, most_counts, names_side, writes_fit, shows_json, told_fits};
+ghost use Rattle.bpfdb_cli.specs.Plans.{AreInRange, Chooses, HasKindIfTold, IsFaultOf, IsPlan, IsPlanOf, NamesPart, NamesRegisters, Says, Tells, asks_of_link, counts_strictly, go_together, is_given, link_fits, names_other, number_or, other_in, run_fits, given_or, NamesPacket, counts_in, entries_fit, further_in, has_offset, graph_fits, is_json_graph, is_json_tracefile, most_counts, names_side, writes_fit, shows_json, told_fits};
 
 use crate::command_line::command_line;
 use crate::plans::{MOST_COUNTS, Plan, PlanFault};
@@ -49,6 +49,8 @@ const STRICT_AND_PROFILE: &str = "the argument '--strict' cannot be used with '-
 const SHOW_AND_JSON: &str = "the argument '--show <PART>' cannot be used with '--json'";
 
 const TRACEFILE_AND_JSON: &str = "the argument '--cover-info' cannot be used with '--json'";
+
+const DOT_AND_JSON: &str = "the argument '--dot' cannot be used with '--json'";
 
 const MANY_OBJECTS: &str = "the argument '--with <OBJECT>' is used more than 16 times";
 
@@ -186,6 +188,7 @@ fn plan_in<'a>(name: &'a str, found: &ArgMatches<'a>) -> Result<Plan<'a>, &'stat
         counts,
         options,
         json: is_given(text_of(found, "json")),
+        dot: is_given(text_of(found, "dot")),
     })
 }
 
@@ -209,7 +212,7 @@ fn misfit_in(name: &str, found: &ArgMatches<'_>) -> Option<&'static str>
 }
 
 /// Why what is written isn't written as JSON, if it isn't: a part of a test and a tracefile are
-/// written as they are.
+/// written as they are, and a graph is written in place of it.
 fn misfit_of_text(name: &str, found: &ArgMatches<'_>) -> Option<&'static str>
     ensures none { IfNone result (told_fits name.now (rows_of (found_of found.now)) ≡ true) }
     ensures some { OnSome result (told_fits name.now (rows_of (found_of found.now)) ≡ false) }
@@ -219,6 +222,18 @@ fn misfit_of_text(name: &str, found: &ArgMatches<'_>) -> Option<&'static str>
     }
     if is_json_tracefile(found) {
         Some(TRACEFILE_AND_JSON)
+    } else {
+        misfit_of_graph(name, found)
+    }
+}
+
+/// Why what is written isn't written as a graph, if it isn't.
+fn misfit_of_graph(name: &str, found: &ArgMatches<'_>) -> Option<&'static str>
+    ensures none { IfNone result (graph_fits name.now (rows_of (found_of found.now)) ≡ true) }
+    ensures some { OnSome result (graph_fits name.now (rows_of (found_of found.now)) ≡ false) }
+{
+    if is_json_graph(found) {
+        Some(DOT_AND_JSON)
     } else {
         misfit_of_run(name, found)
     }
@@ -236,6 +251,13 @@ fn is_json_tracefile(found: &ArgMatches<'_>) -> bool
     ensures { result ≡ is_json_tracefile (rows_of (found_of found.now)) }
 {
     is_given(text_of(found, "cover-info")) && is_given(text_of(found, "json"))
+}
+
+/// Whether a graph is to be JSON.
+fn is_json_graph(found: &ArgMatches<'_>) -> bool
+    ensures { result ≡ is_json_graph (rows_of (found_of found.now)) }
+{
+    is_given(text_of(found, "dot")) && is_given(text_of(found, "json"))
 }
 
 /// Whether the steps of a strict run are to be counted.

@@ -32,6 +32,8 @@ pub struct Plan<'a> {
     pub options: Options<'a>,
     /// What is printed is told as objects of JSON, one a line.
     pub json: bool,
+    /// What is printed is told as a graph.
+    pub dot: bool,
 }
 
 /// Why a command line is no plan.

@@ -76,6 +76,8 @@ pub(crate) enum CliOption {
     Anywhere,
     /// `--json`.
     Json,
+    /// `--dot`.
+    Dot,
     /// WHAT, behind FILE.
     What,
     /// WHAT of `whynot`, which needs it.
@@ -188,6 +190,7 @@ pub(crate) const SUBCOMMANDS: [CliSubcommand<'static>; 14] = [
             CliOption::Addresses,
             CliOption::Deciders,
             CliOption::Json,
+            CliOption::Dot,
             CliOption::What,
         ],
         file: help::PROGRAM,
