@@ -67,7 +67,7 @@ _bpfdb() {
     run) words="-m --mem --maps --steps --strict --listing --object --section --entry --entries --stub --as-compiled --json -h --help" ;;
     trace) words="-m --mem --maps --steps --from --count --branches --profile --strict --listing --object --section --entry --entries --stub --as-compiled --json -h --help" ;;
     debug) words="-m --mem --maps --journal --steps --listing --object --section --entry --entries --stub --as-compiled -h --help" ;;
-    origin) words="-m --mem --maps --journal --steps --branches --listing --object --section --entry --entries --stub --script --as-compiled --lines --addresses --json -h --help" ;;
+    origin) words="-m --mem --maps --journal --steps --branches --listing --object --section --entry --entries --stub --script --as-compiled --lines --addresses --json --dot -h --help" ;;
     whynot) words="-m --mem --maps --journal --steps --listing --object --section --entry --entries --stub --script --as-compiled --lines --addresses --alone --json -h --help" ;;
     diff) words="-m --mem --maps --steps --listing --object --section --entry --entries --stub --as-compiled --other-mem --trace --writes --json -h --help" ;;
     asm) words="-h --help" ;;

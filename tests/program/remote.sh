@@ -71,8 +71,8 @@ listing many.s 'loop: add r0, 1;jlt r0, 600, loop;exit'
 shows origin --listing many.s
 awk 'BEGIN { for (i = 600; i > 100; i--) printf "-%d r0 = 0x%x; 0: add r0, 1; from r0\n", 1203 - 2 * i, i; print "cut: there are more lines" }' > wanted/shown
 same 'an answer of more than 500 lines of moves' wanted/shown found/shown
-{ echo 'ldxdw r0, [r1+0]'; for at in $(seq 8 8 792); do printf 'ldxdw r2, [r1+%d]\nadd r0, r2\n' "$at"; done; echo exit; } > loads.s
-head -c 800 /dev/zero > zeros
+{ echo 'ldxdw r0, [r1+0]'; for at in $(seq 8 8 1976); do printf 'ldxdw r2, [r1+%d]\nadd r0, r2\n' "$at"; done; echo exit; } > loads.s
+head -c 1984 /dev/zero > zeros
 shows origin -m zeros --listing loads.s
 echo 'cut: the answer has more than 32768 bytes' > wanted/shown
 same 'an answer of more than 32,768 bytes' wanted/shown found/shown

@@ -47,7 +47,7 @@ fn register_in(name: &[u8], rest: &[u8]) -> Option<Part>
 
 /// The depth that stands behind a register, 0 where none does.
 fn depth_in(text: &[u8]) -> Option<u64>
-    ensures { result ≡ spec.depth_in text.now }
+    ensures value { result ≡ spec.depth_in text.now }
     ensures below { IfSome result (λ depth. depth < 8) }
 {
     match behind(b"at depth ", text) {
@@ -76,7 +76,7 @@ fn bytes_in(name: &[u8]) -> Option<Part>
 
 /// The number that a text is, if it is below a limit.
 fn below(limit: u64, text: &[u8]) -> Option<u64>
-    ensures { result ≡ spec.below limit text.now }
+    ensures value { result ≡ spec.below limit text.now }
     ensures below { IfSome result (λ n. n < limit) }
 {
     match number_of(text) {
