@@ -1,8 +1,8 @@
 -- Edges that are appended, one after another.
-use Rattle.std.proofs.Common.{◌≡◌, ◌+◌, ◌-◌, ◌%◌, ◌^◌, ◌<◌, ℕ, Bool, true, false, List, [], ◌∷◌, ◌++◌, Option, Some, None, drop, take, get_or, length, map, refl, sym, ap, ap₂, ◌∙◌, append_assoc, arith}
+use Rattle.std.proofs.Common.{◌≡◌, ◌+◌, ◌-◌, ◌%◌, ◌^◌, ◌<◌, ℕ, Bool, true, false, List, [], ◌∷◌, ◌++◌, Option, Some, None, Bor, drop, take, get_or, length, map, refl, sym, ap, ap₂, ◌∙◌, append_assoc, arith}
 use Rattle.std.specs.Prelude.{if◌then◌else◌, ◌==◌}
 use Rattle.std.specs.Option.{option_map_or}
-use Rattle.std.proofs.lemmas.List.{drop_more, take_rest}
+use Rattle.std.proofs.lemmas.List.{drop-map, drop_more, take_rest}
 use Rattle.dot_lines.specs.Edges.{edge_to, edges, edges_behind, edges_in, edges_to, part_edges, teller}
 use Rattle.dot_lines.specs.Graphs.{node, nodes}
 use Rattle.dot_lines.specs.Lines.{read_text, tells}
@@ -51,48 +51,60 @@ edges-alike : (f g : ℕ → Option ℕ) → ((p : ℕ) → f p ≡ g p) → (k 
 edges-alike f g alike k [] = refl
 edges-alike f g alike k (b ∷ s) = ap₂ (λ (t u : List ℕ). t ++ u) (behind-alike f g alike k b s) (edges-alike f g alike k s)
 
--- of the line before those that have been gone through
-pub line-before : (lines : List (List ℕ)) (n i : ℕ) (d : List ℕ) → i < n → n ≡ length lines
-    → drop (n - (i + 1)) lines ≡ get_or lines (n - 1 - i) d ∷ drop (n - i) lines
-line-before lines n i d inside all =
-    let at : n - (i + 1) ≡ n - 1 - i = omega (arith, inside) in
-    let next : n - 1 - i + 1 ≡ n - i = omega (arith, inside) in
-    let within : n - 1 - i < length lines = omega (arith, inside, all) in
-    ap (λ (m : ℕ). drop m lines) at ∙ drop_more lines (n - 1 - i) d within
-    ∙ ap (λ (m : ℕ). get_or lines (n - 1 - i) d ∷ drop m lines) next
-
-pub edges-before : (lines : List (List ℕ)) (n i : ℕ) (line : List ℕ) (f : ℕ → Option ℕ) (now new first : List ℕ) → i < n → n ≡ length lines
-    → get_or lines (n - 1 - i) [] ≡ line → ((p : ℕ) → f p ≡ teller (n - i) (drop (n - i) lines) p)
-    → now ≡ first ++ edges (n - i) (drop (n - i) lines) → new ≡ now ++ edges_in f (n - 1 - i) (read_text line)
-    → new ≡ first ++ edges (n - (i + 1)) (drop (n - (i + 1)) lines)
-edges-before lines n i line f now new first inside all is alike so_far e =
-    let at : n - (i + 1) ≡ n - 1 - i = omega (arith, inside) in
-    let next : n - 1 - i + 1 ≡ n - i = omega (arith, inside) in
-    e
-    ∙ ap₂ (λ (s t : List ℕ). s ++ t) so_far (edges-alike f (teller (n - i) (drop (n - i) lines)) alike (n - 1 - i) (read_text line))
-    ∙ append_assoc first (edges (n - i) (drop (n - i) lines)) (edges_in (teller (n - i) (drop (n - i) lines)) (n - 1 - i) (read_text line))
-    ∙ ap (λ (m : ℕ). first ++ (edges m (drop (n - i) lines) ++ edges_in (teller m (drop (n - i) lines)) (n - 1 - i) (read_text line))) (sym next)
-    ∙ ap (λ (l : List ℕ). first ++ edges (n - 1 - i) (l ∷ drop (n - i) lines)) (sym is)
-    ∙ ap (λ (ls : List (List ℕ)). first ++ edges (n - 1 - i) ls) (sym (line-before lines n i [] inside all))
-    ∙ ap (λ (m : ℕ). first ++ edges m (drop (n - (i + 1)) lines)) (sym at)
-
--- of a line more that tells places
-pub teller-before : (lines : List (List ℕ)) (n i p : ℕ) (line : List ℕ) (old new : Option ℕ) → i < n → n ≡ length lines
-    → get_or lines (n - 1 - i) [] ≡ line → old ≡ teller (n - i) (drop (n - i) lines) p
-    → new ≡ (if tells line p then Some (n - 1 - i) else old) → new ≡ teller (n - (i + 1)) (drop (n - (i + 1)) lines) p
-teller-before lines n i p line old new inside all is so_far e =
-    let at : n - (i + 1) ≡ n - 1 - i = omega (arith, inside) in
-    let next : n - 1 - i + 1 ≡ n - i = omega (arith, inside) in
-    e
-    ∙ ap (λ (o : Option ℕ). if tells line p then Some (n - 1 - i) else o) so_far
-    ∙ ap (λ (m : ℕ). if tells line p then Some (n - 1 - i) else teller m (drop (n - i) lines) p) (sym next)
-    ∙ ap (λ (l : List ℕ). teller (n - 1 - i) (l ∷ drop (n - i) lines) p) (sym is)
-    ∙ ap (λ (ls : List (List ℕ)). teller (n - 1 - i) ls p) (sym (line-before lines n i [] inside all))
-    ∙ ap (λ (m : ℕ). teller m (drop (n - (i + 1)) lines) p) (sym at)
+-- the lines from one on, where there is one
+lines-more : (ls : List (Bor (List ℕ))) (k : ℕ) (d : Bor (List ℕ)) → k < length ls
+    → drop k (map (λ s. s.now) ls) ≡ (get_or ls k d).now ∷ drop (k + 1) (map (λ s. s.now) ls)
+lines-more ls k d inside =
+    drop-map (λ (s : Bor (List ℕ)). s.now) k ls ∙ ap (map (λ (s : Bor (List ℕ)). s.now)) (drop_more ls k d inside)
+    ∙ ap (λ (t : List (List ℕ)). (get_or ls k d).now ∷ t) (sym (drop-map (λ (s : Bor (List ℕ)). s.now) (k + 1) ls))
 
 -- of the next node
-pub next-node : (lines : List (List ℕ)) (k : ℕ) (d : List ℕ) (now new whole : List ℕ) → k < length lines → new ≡ now ++ node k (get_or lines k d)
-    → now ++ nodes k (drop k lines) ≡ whole → new ++ nodes (k + 1) (drop (k + 1) lines) ≡ whole
-next-node lines k d now new whole inside e h =
-    appended now new (node k (get_or lines k d)) (nodes (k + 1) (drop (k + 1) lines)) whole e
-    (ap (λ (t : List ℕ). now ++ t) (sym (ap (nodes k) (drop_more lines k d inside))) ∙ h)
+pub next-node : (ls : List (Bor (List ℕ))) (k : ℕ) (d : Bor (List ℕ)) (now new whole : List ℕ) → k < length ls → new ≡ now ++ node k (get_or ls k d).now
+    → now ++ nodes k (drop k (map (λ s. s.now) ls)) ≡ whole → new ++ nodes (k + 1) (drop (k + 1) (map (λ s. s.now) ls)) ≡ whole
+next-node ls k d now new whole inside e h =
+    appended now new (node k (get_or ls k d).now) (nodes (k + 1) (drop (k + 1) (map (λ (s : Bor (List ℕ)). s.now) ls))) whole e
+    (ap (λ (t : List (List ℕ)). now ++ nodes k t) (sym (lines-more ls k d inside)) ∙ h)
+
+-- of the line before those that have been gone through
+line-before : (ls : List (Bor (List ℕ))) (i : ℕ) (d : Bor (List ℕ)) → i < length ls
+    → drop (length ls - (i + 1)) (map (λ s. s.now) ls) ≡ (get_or ls (length ls - 1 - i) d).now ∷ drop (length ls - i) (map (λ s. s.now) ls)
+line-before ls i d inside =
+    let at : length ls - (i + 1) ≡ length ls - 1 - i = omega (arith, inside) in
+    let next : length ls - 1 - i + 1 ≡ length ls - i = omega (arith, inside) in
+    let within : length ls - 1 - i < length ls = omega (arith, inside) in
+    ap (λ (m : ℕ). drop m (map (λ (s : Bor (List ℕ)). s.now) ls)) at ∙ lines-more ls (length ls - 1 - i) d within
+    ∙ ap (λ (m : ℕ). (get_or ls (length ls - 1 - i) d).now ∷ drop m (map (λ (s : Bor (List ℕ)). s.now) ls)) next
+
+pub edges-before : (ls : List (Bor (List ℕ))) (i : ℕ) (d : Bor (List ℕ)) (f : ℕ → Option ℕ) (now new first text : List ℕ) → i < length ls
+    → ((p : ℕ) → f p ≡ teller (length ls - i) (drop (length ls - i) (map (λ s. s.now) ls)) p)
+    → now ≡ first ++ edges (length ls - i) (drop (length ls - i) (map (λ s. s.now) ls))
+    → text ≡ read_text (get_or ls (length ls - 1 - i) d).now → new ≡ now ++ edges_in f (length ls - 1 - i) text
+    → new ≡ first ++ edges (length ls - (i + 1)) (drop (length ls - (i + 1)) (map (λ s. s.now) ls))
+edges-before ls i d f now new first text inside alike so_far read e =
+    let at : length ls - (i + 1) ≡ length ls - 1 - i = omega (arith, inside) in
+    let next : length ls - 1 - i + 1 ≡ length ls - i = omega (arith, inside) in
+    let older : List (List ℕ) = drop (length ls - i) (map (λ (s : Bor (List ℕ)). s.now) ls) in
+    let line : List ℕ = (get_or ls (length ls - 1 - i) d).now in
+    e
+    ∙ ap₂ (λ (s t : List ℕ). s ++ t) so_far
+    (ap (edges_in f (length ls - 1 - i)) read ∙ edges-alike f (teller (length ls - i) older) alike (length ls - 1 - i) (read_text line))
+    ∙ append_assoc first (edges (length ls - i) older) (edges_in (teller (length ls - i) older) (length ls - 1 - i) (read_text line))
+    ∙ ap (λ (m : ℕ). first ++ (edges m older ++ edges_in (teller m older) (length ls - 1 - i) (read_text line))) (sym next)
+    ∙ ap (λ (t : List (List ℕ)). first ++ edges (length ls - 1 - i) t) (sym (line-before ls i d inside))
+    ∙ ap (λ (m : ℕ). first ++ edges m (drop (length ls - (i + 1)) (map (λ (s : Bor (List ℕ)). s.now) ls))) (sym at)
+
+-- of a line more that tells places
+pub teller-before : (ls : List (Bor (List ℕ))) (i p : ℕ) (d : Bor (List ℕ)) (old new : Option ℕ) → i < length ls
+    → old ≡ teller (length ls - i) (drop (length ls - i) (map (λ s. s.now) ls)) p
+    → new ≡ (if tells (get_or ls (length ls - 1 - i) d).now p then Some (length ls - 1 - i) else old)
+    → new ≡ teller (length ls - (i + 1)) (drop (length ls - (i + 1)) (map (λ s. s.now) ls)) p
+teller-before ls i p d old new inside so_far e =
+    let at : length ls - (i + 1) ≡ length ls - 1 - i = omega (arith, inside) in
+    let next : length ls - 1 - i + 1 ≡ length ls - i = omega (arith, inside) in
+    let older : List (List ℕ) = drop (length ls - i) (map (λ (s : Bor (List ℕ)). s.now) ls) in
+    let line : List ℕ = (get_or ls (length ls - 1 - i) d).now in
+    e
+    ∙ ap (λ (o : Option ℕ). if tells line p then Some (length ls - 1 - i) else o) so_far
+    ∙ ap (λ (m : ℕ). if tells line p then Some (length ls - 1 - i) else teller m older p) (sym next)
+    ∙ ap (λ (t : List (List ℕ)). teller (length ls - 1 - i) t p) (sym (line-before ls i d inside))
+    ∙ ap (λ (m : ℕ). teller m (drop (length ls - (i + 1)) (map (λ (s : Bor (List ℕ)). s.now) ls)) p) (sym at)

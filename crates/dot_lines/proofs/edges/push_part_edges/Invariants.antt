@@ -7,5 +7,5 @@ use Rattle.dot_lines.proofs.edges.push_part_edges.Given as goal
 
 abbrev pub invariant-loop : goal.invariant-loop
 invariant-loop l =
-    l.dot.items ++ edges_to l.k l.before (map (get nat_cmp l.tellers) (places l.place (l.part.read - l.i)))
-    ≡ l.fn.dot.items ++ part_edges (get nat_cmp l.tellers) l.k l.part
+    l.dot.items ++ edges_to l.k l.before (map (get nat_cmp l.tellers) (places l.place (l.fn.part.read - l.counter)))
+    ≡ l.fn.dot.items ++ part_edges (get nat_cmp l.tellers) l.k l.fn.part

@@ -7,4 +7,4 @@ use Rattle.dot_lines.proofs.tellers.tell_places.Given as goal
 
 abbrev pub invariant-loop : goal.invariant-loop
 invariant-loop l =
-    (p : ℕ) → told_or (places l.place (l.count - l.i)) l.k (get nat_cmp l.tellers p) p ≡ told_or (places l.first l.count) l.k (get nat_cmp l.fn.tellers p) p
+    (p : ℕ) → told_or (places l.place (l.count - l.counter)) l.k (get nat_cmp l.tellers p) p ≡ told_or (places l.first l.count) l.k (get nat_cmp l.fn.tellers p) p
