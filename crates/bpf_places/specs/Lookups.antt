@@ -18,6 +18,7 @@ IsObjectTable object section words table = (own : ObjectLines) × AreLinesOf obj
 abbrev pub AreObjectSlots : List ℕ → List ℕ → List ℕ → List ℕ → List ℕ → Type 0
 AreObjectSlots object section words what slots = (table : List ℕ) × IsObjectTable object section words table × (slots ≡ slots_told true table what)
 
+-- And what it tells of each slot of the words.
 abbrev pub ArePlaces : List ℕ → List ℕ → List ℕ → List (List ℕ) → Type 0
 ArePlaces object section words texts =
     (table : List ℕ) × IsObjectTable object section words table × (texts ≡ places_told (length words / 8) table)

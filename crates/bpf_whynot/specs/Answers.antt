@@ -52,9 +52,9 @@ went_text x move.Step y =
 went_text x (move.Edit e) y = edited_text y.pc
 
 -- What is told of the slot of a step. An edit has none.
-abbrev pub place_text : SlotTexts → State → Move → List ℕ
-place_text places x move.Step = text_of_slot places x.pc
-place_text places x (move.Edit e) = []
+abbrev pub slot_text : SlotTexts → State → Move → List ℕ
+slot_text places x move.Step = text_of_slot places x.pc
+slot_text places x (move.Edit e) = []
 
 -- The line of a move, so many moves back: which it was, the values that it compared, where it went, and what is told of its slot.
 unfoldable pub compared_text : State → Part → List ℕ
@@ -63,7 +63,7 @@ compared_text x p = codes "; " ++ part_text x p
 abbrev pub lost_line : SlotTexts → ℕ → State → Move → State → List ℕ
 lost_line places k x m y =
     codes "-" ++ decimal k ++ codes " " ++ move_text x m ++ flat_map (compared_text x) (conditions x m) ++ went_text x m y
-    ++ place_text places x m ++ codes "\n"
+    ++ slot_text places x m ++ codes "\n"
 
 -- Where those values came from, in the state before the move: where the machine stood, and the answer to that. Nothing where it compared none.
 abbrev pub is_none : List Part → Bool

@@ -196,7 +196,7 @@ fn put_told<W: Write>(
 ) -> Result<(), WriteFault>
     ensures { (m : Move) → is_step ≡ is_step_of m →
         WritesAfter W.contents writer.old so_far writer.new result
-        (spec.place_text places.entry cpu.now m) }
+        (spec.slot_text places.entry cpu.now m) }
 {
     if is_step {
         put(writer, so_far, text_of_slot(places, usize::from(cpu.pc())))
