@@ -81,6 +81,8 @@ def moved(text):
             told |= {"slot": int(m[1]), "insn": m[2]}
         elif piece.startswith("from "):
             told["from"] = re.findall(PART, piece)
+        elif m := re.fullmatch(r"in (.*?) \((.*?):([0-9]{1,15})\)", piece):
+            told |= {"function": m[1], "file": m[2], "line": int(m[3])}
         elif m := re.fullmatch(r"then at (\d+)", piece):
             told["to"] = int(m[1])
         elif m := re.fullmatch(r"jumped to (\d+)", piece):

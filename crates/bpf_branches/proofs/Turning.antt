@@ -20,7 +20,7 @@ use Rattle.bpf_origin.specs.Answers.{Answer, wanted_before, with_line}
 use Rattle.bpf_origin.specs.Reads.{followed}
 use Rattle.bpf_origin.specs.Wanted.{most_places, still_wanted}
 use Rattle.bpf_origin.specs.declared.place.Place.{Place}
-use Rattle.bpf_origin.specs.declared.question.Question.{Question}
+use Rattle.bpf_branches.specs.declared.query.Query.{Query}
 use Rattle.bpf_origin.specs.Texts.{lines_text}
 use Rattle.bpf_origin.specs.declared.question.Extent.TheVariants.{Lines}
 use Rattle.bpf_steps.specs.State.{State, depth}
@@ -171,7 +171,7 @@ read_by_edit addresses x move.Step is = absurd cc
 read_by_edit true x (move.Edit e) is = refl
 read_by_edit false x (move.Edit e) is = refl
 
-module _ {W : Type 0} (contents : W → Option (List ℕ)) (q : Question) (k : ℕ) (r : Record) (h : List Record) (y : State) (wanted left : List Place) where
+module _ {W : Type 0} (contents : W → Option (List ℕ)) (q : Query) (k : ℕ) (r : Record) (h : List Record) (y : State) (wanted left : List Place) where
   on_with : (s t : Quest) (rest : Answer) → s ≡ t → Branches q (k + 1) s h r.before rest → Branches q (k + 1) t h r.before rest
   on_with s t rest e on = subst (λ (u : Quest). Branches q (k + 1) u h r.before rest) e on
 
@@ -201,7 +201,7 @@ module _ {W : Type 0} (contents : W → Option (List ℕ)) (q : Question) (k : �
         (on_with _ _ rest (chases.2 left ∙ ap (λ (ws : List Place). record (quest_of hunt ws) { aim = aim_at r.before }) still) on);
   }
 
-  pub turn_values : (old : Tally W) (hunt : Hunt) (turn : Turn) → left ≡ take most_places (wanted_before q r y wanted) → made (quest_of hunt wanted) r y ≡ true
+  pub turn_values : (old : Tally W) (hunt : Hunt) (turn : Turn) → left ≡ take most_places (wanted_before q.question r y wanted) → made (quest_of hunt wanted) r y ≡ true
       → Chases r.before (record hunt { values = hunt.values - 1 }) turn
       → Takes contents q k r h y wanted left old hunt old turn
   turn_values old hunt (Cut written) more is chases = absurd chases
@@ -221,14 +221,14 @@ module _ {W : Type 0} (contents : W → Option (List ℕ)) (q : Question) (k : �
 
   pub turn_tells : (old now : Tally W) (hunt : Hunt) (told : Result (Unit {0}) WriteFault) (turn : Turn) → left ≡ still_wanted y (overwritten r.before r.move) wanted
       → made (quest_of hunt wanted) r y ≡ false → DecidedIt hunt.aim r y → 0 < hunt.lines
-      → WritesAfter contents old hunt.told now told (lost_line (k + 1) r.before r.move y)
+      → WritesAfter contents old hunt.told now told (lost_line q.places (k + 1) r.before r.move y)
       → Chases r.before (record { aim = hunt.aim; sure = hunt.sure; values = hunt.values; lines = hunt.lines - 1; told = told }) turn
       → Takes contents q k r h y wanted left old hunt now turn
   turn_tells old now hunt told (Cut written) still not here some writes chases = absurd chases
   turn_tells old now hunt told (On next) still not here some writes chases = record {
     knows = chases.0;
-    text = lost_line (k + 1) r.before r.move y;
-    writes = subst (λ (last : Result (Unit {0}) WriteFault). WritesAfter contents old hunt.told now last (lost_line (k + 1) r.before r.move y)) (sym chases.1) writes;
+    text = lost_line q.places (k + 1) r.before r.move y;
+    writes = subst (λ (last : Result (Unit {0}) WriteFault). WritesAfter contents old hunt.told now last (lost_line q.places (k + 1) r.before r.move y)) (sym chases.1) writes;
     is = λ rest on.
         is_told not here some
         (on_with _ _ rest

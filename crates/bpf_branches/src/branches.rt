@@ -12,6 +12,7 @@ ghost use Rattle.counted_io.specs.Writing.{WritesAfter};
 
 use crate::aim::Aim;
 use crate::hunt::{Hunt, Turn};
+use crate::query::Query;
 use crate::turn::{chase, turn};
 use crate::value::{spare_written, want_read};
 use bpf_journal::{Course, Keeper};
@@ -31,25 +32,25 @@ pub fn put_branches<K: Keeper, W: Write>(
     course: &mut Course<K>,
     wanted: &mut Wanted,
     parts: &[Part],
-    question: Question,
+    query: Query<'_>,
     writer: &mut Counted<W>,
     so_far: Result<(), WriteFault>,
 ) -> Result<Told, AllocError>
     ensures tells { IfOk result (λ told. (t : Track) → Follows K.holds course.old t →
-        TellsBranches K.holds question (WritesAfter W.contents writer.old so_far writer.new)
+        TellsBranches K.holds query.entry (WritesAfter W.contents writer.old so_far writer.new)
         parts.now course.old course.new told t) }
     ensures keeper { IsSameCourse K.room K.refused course.old course.new }
 {
     wanted.clear();
     let _all = wanted.want_parts(parts);
-    let mut hunt = match begin(alloc, course.cpu(), question, so_far) {
+    let mut hunt = match begin(alloc, course.cpu(), query.question, so_far) {
         Ok(hunt) => hunt,
         Err(error) => return Err(error),
     };
     let kept = course.len();
     for k in 0..kept {
         let moves = k as u64 + 1;
-        let turn = match take(alloc, course, moves, question, hunt, wanted, writer) {
+        let turn = match take(alloc, course, moves, query, hunt, wanted, writer) {
             Ok(turn) => turn,
             Err(error) => return Err(error),
         };
@@ -64,7 +65,7 @@ pub fn put_branches<K: Keeper, W: Write>(
             }
         }
     }
-    let last = put_end(writer, hunt.told, question.opening);
+    let last = put_end(writer, hunt.told, query.question.opening);
     Ok(Told {
         written: last,
         extent: Extent::Whole,
@@ -99,7 +100,7 @@ fn take<K: Keeper, W: Write>(
     alloc: Global,
     course: &mut Course<K>,
     moves: u64,
-    question: Question,
+    query: Query<'_>,
     hunt: Hunt,
     wanted: &mut Wanted,
     writer: &mut Counted<W>,
@@ -107,7 +108,7 @@ fn take<K: Keeper, W: Write>(
     requires { 0 < moves }
     ensures takes { IfOk result (λ turn. (k : ℕ) (r : Record) (h f : List Record) →
         moves ≡ k + 1 → Follows K.holds course.old (record { history = r ∷ h; ahead = f }) →
-        Knows course.old.state hunt → Takes W.contents question k r h course.old.state
+        Knows course.old.state hunt → Takes W.contents query.entry k r h course.old.state
         wanted.old wanted.new writer.old hunt writer.new turn) }
     ensures back { (r : Record) (h f : List Record) →
         Follows K.holds course.old (record { history = r ∷ h; ahead = f }) →
@@ -122,10 +123,10 @@ fn take<K: Keeper, W: Write>(
     let cpu = course.cpu();
     let is_told = has_line(hit, hunt.values);
     if is_told {
-        let _all = want_read(cpu, taken.is_step, question.addresses, wanted);
+        let _all = want_read(cpu, taken.is_step, query.question.addresses, wanted);
         return follow(alloc, cpu, hunt);
     }
-    turn(alloc, cpu, taken.is_step, after, moves, hunt, writer)
+    turn(alloc, cpu, taken.is_step, after, moves, query, hunt, writer)
 }
 
 /// Whether the answer about values tells a move, with so many more lines.

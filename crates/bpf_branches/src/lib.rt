@@ -6,9 +6,11 @@ mod aim;
 mod branches;
 mod hunt;
 pub mod laws;
+mod query;
 mod text;
 mod turn;
 mod value;
 
 pub use branches::put_branches;
+pub use query::Query;
 pub use text::{Found, find_branches};

@@ -5,8 +5,9 @@ ghost use Rattle.bpf_journal.specs.Tracks.{RingHolds};
 ghost use Rattle.bpf_branches.specs.Courses.{IsFound};
 
 use crate::branches::put_branches;
+use crate::query::Query;
 use bpf_journal::{Course, RingKeeper, Timeline};
-use bpf_origin::{Extent, Part, Question, Wanted, go_on};
+use bpf_origin::{Extent, Part, Wanted, go_on};
 use counted_io::{Counted, WriteFault};
 use std::alloc::{AllocError, Global};
 
@@ -26,11 +27,11 @@ pub fn find_branches(
     timeline: Timeline<RingKeeper>,
     wanted: &mut Wanted,
     parts: &[Part],
-    question: Question,
+    query: Query<'_>,
 ) -> Result<Found, AllocError>
     ensures { IfOk result (λ found. (h : List Record) →
         StandsFor RingHolds timeline.keeper timeline.state h →
-        IsFound question parts.now h timeline.state found) }
+        IsFound query.entry parts.now h timeline.state found) }
 {
     let (cpu, keeper) = timeline.close();
     let redo = match RingKeeper::open(alloc, keeper.capacity()) {
@@ -44,7 +45,7 @@ pub fn find_branches(
         &mut course,
         wanted,
         parts,
-        question,
+        query,
         &mut writer,
         Ok(()),
     ) {

@@ -12,11 +12,11 @@ ghost use Rattle.bpf_branches.specs.Turns.{Chases, Knows, Takes, quest_of};
 ghost use Rattle.bpf_machine.specs.Moves.{overwritten};
 ghost use Rattle.bpf_origin.specs.Wanted.{still_wanted};
 ghost use Rattle.bpf_origin.specs.declared.place.Place.{Place};
-ghost use Rattle.bpf_origin.specs.declared.question.Question.{Question};
 ghost use Rattle.counted_io.specs.Writing.{WritesAfter};
 
 use crate::aim::Aim;
 use crate::hunt::{Hunt, Turn};
+use crate::query::Query;
 use bpf_isa::Insn;
 use bpf_machine::Cpu;
 use bpf_whynot::{Standing, Sure, put_line, target_slot};
@@ -32,15 +32,16 @@ pub fn turn<W: Write>(
     is_step: bool,
     after: Standing,
     moves: u64,
+    query: Query<'_>,
     hunt: Hunt,
     writer: &mut Counted<W>,
 ) -> Result<Turn, AllocError>
     requires { 0 < moves }
-    ensures { IfOk result (λ turn. (q : Question) (k : ℕ) (r : Record) (h : List Record) (y : State)
+    ensures { IfOk result (λ turn. (k : ℕ) (r : Record) (h : List Record) (y : State)
         (wanted left : List Place) → left ≡ still_wanted y (overwritten r.before r.move) wanted →
         moves ≡ k + 1 → cpu.now ≡ r.before → is_step ≡ is_step_of r.move → after ≡ standing y →
         Knows r.before hunt → spec.made (quest_of hunt wanted) r y ≡ false →
-        Takes W.contents q k r h y wanted left writer.old hunt writer.new turn) }
+        Takes W.contents query.entry k r h y wanted left writer.old hunt writer.new turn) }
 {
     let deep = cpu.depth();
     let own = hunt.aim.depth;
@@ -54,7 +55,7 @@ pub fn turn<W: Write>(
     if lines == 0 {
         return Ok(Turn::Cut(put(writer, hunt.told, b"cut: there are more lines\n")));
     }
-    let told = put_line(writer, hunt.told, moves, cpu, is_step, after);
+    let told = put_line(writer, hunt.told, query.places, moves, cpu, is_step, after);
     chase(
         alloc,
         cpu,

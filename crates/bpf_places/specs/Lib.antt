@@ -1,4 +1,5 @@
 pub mod Places
 pub mod Rows
 pub mod Slots
+pub mod Texts
 pub mod Lookups

@@ -9,24 +9,24 @@ use Rattle.bpf_places.specs.Places.{is_line}
 abbrev pub has_label : List ℕ → List ℕ → Bool
 has_label told name = list_any (λ word. bytes_eq word name) (slice_split (λ b. b == 32) told)
 
+-- All up to the last such byte, and what stands behind that.
+abbrev pub onto_front : ℕ → ℕ → List ℕ → List ℕ
+onto_front byte b [] = if not (b == byte) then [] else b ∷ []
+onto_front byte b (c ∷ front) = b ∷ c ∷ front
+
+abbrev pub front_of : ℕ → List ℕ → List ℕ
+front_of byte [] = []
+front_of byte (b ∷ text) = onto_front byte b (front_of byte text)
+
+abbrev pub behind_last : ℕ → List ℕ → List ℕ
+behind_last byte text = drop (length (front_of byte text)) text
+
 -- The function is the last word, and what stands before it and its blank is the line.
-abbrev pub is_of_word : ℕ → Bool
-is_of_word b = not (b == 32)
-
-abbrev pub onto_front : ℕ → List ℕ → List ℕ
-onto_front b [] = if is_of_word b then [] else b ∷ []
-onto_front b (c ∷ front) = b ∷ c ∷ front
-
--- (All up to the last blank.)
-abbrev pub front_of : List ℕ → List ℕ
-front_of [] = []
-front_of (b ∷ told) = onto_front b (front_of told)
-
 abbrev pub function_in : List ℕ → List ℕ
-function_in told = drop (length (front_of told)) told
+function_in told = behind_last 32 told
 
 abbrev pub line_in : List ℕ → List ℕ
-line_in told = take (length (front_of told) - 1) told
+line_in told = take (length (front_of 32 told) - 1) told
 
 -- A line is named whole, or from behind a slash (47) of its path on.
 abbrev pub ends_behind : ℕ → List ℕ → List ℕ → Bool

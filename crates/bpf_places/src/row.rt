@@ -1,5 +1,5 @@
 //! What the row of a slot tells.
-ghost use Rattle.std.specs.Prelude.{◌≡◌, ◌≤◌, length};
+ghost use Rattle.std.specs.Prelude.{◌≡◌, ◌≤◌, ◌==◌, length, not};
 ghost use Rattle.bpf_places.specs.Rows as spec;
 
 use crate::place::is_line;
@@ -11,23 +11,38 @@ fn has_label(told: &[u8], name: &[u8]) -> bool
     told.split(|byte| *byte == b' ').any(|word| word == name)
 }
 
-/// Whether a byte is no blank.
-fn is_of_word(byte: u8) -> bool
-    ensures { result ≡ spec.is_of_word byte }
+/// Whether a byte is another one.
+fn is_other(b: u8, byte: u8) -> bool
+    ensures { result ≡ not (b == byte) }
 {
-    byte != b' '
+    b != byte
 }
 
-/// What stands up to the last blank.
-fn front_of(told: &[u8]) -> &[u8]
-    ensures value { result.now ≡ spec.front_of told.now }
-    ensures within { length result.now ≤ length told.now }
+/// What stands up to the last such byte, and that.
+fn front_of(text: &[u8], byte: u8) -> &[u8]
+    ensures value { result.now ≡ spec.front_of byte text.now }
+    ensures within { length result.now ≤ length text.now }
 {
-    let mut end = told.len();
-    while end > 0 && is_of_word(told[end - 1]) {
+    let mut end = text.len();
+    while end > 0 && is_other(text[end - 1], byte) {
         end -= 1;
     }
-    &told[..end]
+    &text[..end]
+}
+
+/// What stands behind the last such byte, or all.
+pub(crate) fn behind_last(text: &[u8], byte: u8) -> &[u8]
+    ensures { result.now ≡ spec.behind_last byte text.now }
+{
+    &text[front_of(text, byte).len()..]
+}
+
+/// The line that a row of an object's table tells, or a hyphen.
+pub(crate) fn line_in(told: &[u8]) -> &[u8]
+    ensures { result.now ≡ spec.line_in told.now }
+{
+    let front = front_of(told, b' ').len();
+    &told[..front.saturating_sub(1)]
 }
 
 /// Whether a text ends with another one behind this byte.
@@ -52,11 +67,10 @@ fn is_at(line: &[u8], what: &[u8]) -> bool
 fn tells_object(told: &[u8], what: &[u8]) -> bool
     ensures { result ≡ spec.tells_object told.now what.now }
 {
-    let front = front_of(told).len();
     if is_line(what) {
-        is_at(&told[..front.saturating_sub(1)], what)
+        is_at(line_in(told), what)
     } else {
-        &told[front..] == what
+        behind_last(told, b' ') == what
     }
 }
 

@@ -1,5 +1,5 @@
 -- `monitor whynot`: why the program did not come to some slots, asked of the session as it stands. bpfdb's own choice.
-use Rattle.std.specs.Prelude.{◌≡◌, ℕ, List, [], ◌⊎◌, Option, Some, Result, Ok, Err, if◌then◌else◌, Bool, false}
+use Rattle.std.specs.Prelude.{◌≡◌, ℕ, List, [], ◌⊎◌, Option, Some, None, Result, Ok, Err, if◌then◌else◌, Bool, false}
 use lib.Chars.{codes}
 use Rattle.std.specs.Option.{option_and_then}
 use Rattle.std.specs.Result.{result_ok}
@@ -41,7 +41,7 @@ aim_refusal OutOfMemory = refusal_text refusal.OutOfMemory
 
 -- What is asked of a session with this history, where so many moves lie before the state.
 abbrev pub query_of : ℕ → List ℕ → Track → Query
-query_of moves goals t = record { goals = goals; question = question_of moves t; alone = false }
+query_of moves goals t = record { goals = goals; question = question_of moves t; alone = false; places = None }
 
 module _ {K : Type 0} (holds : K → List Kept → Type 0) (refusals room : K → ℕ) where
   -- What is told of slots: the answer over the kept history, by a test that tells from where they can be come to; or why a text names none.

@@ -170,6 +170,7 @@ fn why_text<K: Keeper>(
         goals: aim.goals.as_slice(),
         question,
         alone: false,
+        places: None,
     };
     let mut writer = Counted::new(ArrayVec::new());
     let looked = look_why(session.course_mut(), &search, wanted, &mut writer, Ok(()));

@@ -16,10 +16,10 @@ pub fn write_trace_until<W: Write>(
     alloc: Global,
     cpu: &mut Cpu,
     read: &Unwritten,
-    shown: Shown,
+    shown: Shown<'_>,
     writer: &mut Counted<W>,
 ) -> Result<(), TraceFault>
-    ensures { Tells W.contents writer.old writer.new result (trace_until read.now shown cpu.old) }
+    ensures { Tells W.contents writer.old writer.new result (trace_until read.now shown.entry cpu.old) }
 {
     let texts = match Texts::of(alloc, cpu.program()) {
         Ok(texts) => texts,

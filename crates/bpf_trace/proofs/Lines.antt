@@ -22,10 +22,10 @@ Telling-broken contents old before now e rest whole t = λ first front known.
     subst (Writes contents first now (Err e)) (append_assoc front t.told rest ∙ ap (λ (text : List ℕ). front ++ text) t.parts)
     (Writes-Err contents first now (Err e) e (front ++ t.told) rest refl (t.written first front known))
 
-module _ {W A E : Type 0} (contents : W → Option (List ℕ)) (old : Tally W) (before : Result A E) (branches : Bool) (passed most : ℕ) (x : State) where
+module _ {W A E : Type 0} (contents : W → Option (List ℕ)) (old : Tally W) (before : Result A E) (shown : Shown) (passed most : ℕ) (x : State) where
   -- so many lines are told, and the rest are those of the steps from here on
   abbrev pub TellsLines : ℕ → State → Tally W → Result A E → Type 0
-  TellsLines k y now told = Telling contents old before now told (lines_from branches (passed + k + 1) (steps_of (most - k) y)) (lines_from branches (passed + 1) (steps_of most x))
+  TellsLines k y now told = Telling contents old before now told (lines_from shown (passed + k + 1) (steps_of (most - k) y)) (lines_from shown (passed + 1) (steps_of most x))
 
   pub lines_start : TellsLines 0 x old before
   lines_start =
@@ -34,38 +34,38 @@ module _ {W A E : Type 0} (contents : W → Option (List ℕ)) (old : Tally W) (
       rw (a, b) (Telling-start contents old before _)
 
   pub lines_step : (k : ℕ) (y : State) (now new : Tally W) (told more : Result A E) → k < most → has_ended y.status ≡ false
-      → TellsLines k y now told → WritesAfter contents now told new more (line_of branches (passed + k + 1) y) → TellsLines (k + 1) (next y) new more
+      → TellsLines k y now told → WritesAfter contents now told new more (line_of shown (passed + k + 1) y) → TellsLines (k + 1) (next y) new more
   lines_step k y now new told more low on t w =
       let e : most - k ≡ suc (most - (k + 1)) = omega (arith, low) in
       let n : passed + k + 1 + 1 ≡ passed + (k + 1) + 1 = omega arith in
-      Telling-step contents old before now new told more (line_of branches (passed + k + 1) y) _ _ _ t w
-      (ap (lines_from branches (passed + k + 1)) (one_more_step (most - k) (most - (k + 1)) y e on)
-      ∙ ap (λ (m : ℕ). line_of branches (passed + k + 1) y ++ lines_from branches m (steps_of (most - (k + 1)) (next y))) n)
+      Telling-step contents old before now new told more (line_of shown (passed + k + 1) y) _ _ _ t w
+      (ap (lines_from shown (passed + k + 1)) (one_more_step (most - k) (most - (k + 1)) y e on)
+      ∙ ap (λ (m : ℕ). line_of shown (passed + k + 1) y ++ lines_from shown m (steps_of (most - (k + 1)) (next y))) n)
 
   pub lines_ended : (k : ℕ) (y : State) (now : Tally W) (told : Result A E) → has_ended y.status ≡ true
-      → TellsLines k y now told → WritesAfter contents old before now told (lines_from branches (passed + 1) (steps_of most x))
-  lines_ended k y now told over t = Telling-end contents old before now told _ _ t (ap (lines_from branches (passed + k + 1)) (none_ended (most - k) y over))
+      → TellsLines k y now told → WritesAfter contents old before now told (lines_from shown (passed + 1) (steps_of most x))
+  lines_ended k y now told over t = Telling-end contents old before now told _ _ t (ap (lines_from shown (passed + k + 1)) (none_ended (most - k) y over))
 
   pub lines_all : (k : ℕ) (y : State) (now : Tally W) (told : Result A E) → k ≡ most
-      → TellsLines k y now told → WritesAfter contents old before now told (lines_from branches (passed + 1) (steps_of most x))
+      → TellsLines k y now told → WritesAfter contents old before now told (lines_from shown (passed + 1) (steps_of most x))
   lines_all k y now told all t =
       let e : most - k ≡ 0 = omega (arith, all) in
-      Telling-end contents old before now told _ _ t (ap (lines_from branches (passed + k + 1)) (none_left (most - k) y e))
+      Telling-end contents old before now told _ _ t (ap (lines_from shown (passed + k + 1)) (none_left (most - k) y e))
 
 -- the lines of the steps that are shown
-pub shown_lines : (branches : Bool) (limit s count passed : ℕ) (x y : State) → Advances (min limit s) x y passed
-    → lines_from branches (passed + 1) (steps_of (min (limit - passed) count) y) ≡ lines_from branches (s + 1) (take count (drop s (steps_of limit x)))
-shown_lines branches limit s count passed x y run = elim (shown_steps limit s count passed x y run) [
-  | inl here ↦ ap (λ (n : ℕ). lines_from branches (n + 1) (steps_of (min (limit - passed) count) y)) here.0 ∙ ap (lines_from branches (s + 1)) (sym here.1)
-  | inr none ↦ ap (lines_from branches (passed + 1)) none.1 ∙ ap (lines_from branches (s + 1)) (sym none.0)
+pub shown_lines : (shown : Shown) (limit s count passed : ℕ) (x y : State) → Advances (min limit s) x y passed
+    → lines_from shown (passed + 1) (steps_of (min (limit - passed) count) y) ≡ lines_from shown (s + 1) (take count (drop s (steps_of limit x)))
+shown_lines shown limit s count passed x y run = elim (shown_steps limit s count passed x y run) [
+  | inl here ↦ ap (λ (n : ℕ). lines_from shown (n + 1) (steps_of (min (limit - passed) count) y)) here.0 ∙ ap (lines_from shown (s + 1)) (sym here.1)
+  | inr none ↦ ap (lines_from shown (passed + 1)) none.1 ∙ ap (lines_from shown (s + 1)) (sym none.0)
 ]
 
 -- all of them
 pub shown_are : (limit most passed : ℕ) (shown : Shown) (x y : State) → Advances (min limit (shown.from - 1)) x y passed
-    → most ≡ min (limit - passed) shown.count → lines_from shown.only_branches (passed + 1) (steps_of most y) ≡ lines_text limit shown x
+    → most ≡ min (limit - passed) shown.count → lines_from shown (passed + 1) (steps_of most y) ≡ lines_text limit shown x
 shown_are limit most passed shown x y run e =
-    ap (λ (n : ℕ). lines_from shown.only_branches (passed + 1) (steps_of n y)) e
-    ∙ shown_lines shown.only_branches limit (shown.from - 1) shown.count passed x y run
+    ap (λ (n : ℕ). lines_from shown (passed + 1) (steps_of n y)) e
+    ∙ shown_lines shown limit (shown.from - 1) shown.count passed x y run
 
 -- what was written before a write failed is a beginning of more
 pub broken_more : {W A E : Type 0} (contents : W → Option (List ℕ)) (old : Tally W) (before : Result A E) (now : Tally W) (e : E) (text more whole : List ℕ)
@@ -77,7 +77,7 @@ broken_more contents old before now e text more whole w is = λ first front know
 -- the whole trace
 pub trace_is : (limit most passed : ℕ) (shown : Shown) (x y z : State) → Advances (min limit (shown.from - 1)) x y passed
     → most ≡ min (limit - passed) shown.count → z ≡ plain_end limit x
-    → lines_from shown.only_branches (passed + 1) (steps_of most y) ++ end_line limit z ≡ trace_text limit shown x
+    → lines_from shown (passed + 1) (steps_of most y) ++ end_line limit z ≡ trace_text limit shown x
 trace_is limit most passed shown x y z run e is =
     ap (λ (text : List ℕ). text ++ end_line limit z) (shown_are limit most passed shown x y run e)
     ∙ ap (λ (w : State). lines_text limit shown x ++ end_line limit w) is

@@ -11,6 +11,7 @@ use Rattle.bpf_steps.specs.Next.{next}
 use Rattle.bpf_steps.specs.State.{State, register}
 use Rattle.bpf_origin.specs.Texts.{value_text}
 use Rattle.bpfdb_replies.specs.Texts.{text_at}
+use Rattle.slot_texts.specs.Texts.{SlotTexts, text_of_slot}
 
 -- A register that it compared, whole, and a second one, where it isn't a number.
 unfoldable pub compared_text : State → ℕ → List ℕ
@@ -31,12 +32,13 @@ compared_by x _ = []
 
 -- Which way it went: it jumped, unless the instruction behind it is the next.
 unfoldable pub way_text : State → List ℕ
-way_text x = if (next x).pc == x.pc + 1 then codes "; went on\n" else codes "; jumped\n"
+way_text x = if (next x).pc == x.pc + 1 then codes "; went on" else codes "; jumped"
 
--- The line of the step numbered k from a state, if it is a conditional jump, and else nothing.
-abbrev pub branch_by : ℕ → State → Insn → List ℕ
-branch_by k x i =
-    if is_branch i then decimal k ++ codes " " ++ text_at x.program x.pc ++ compared_by x i ++ way_text x else []
+-- The line of the step numbered k from a state, if it is a conditional jump, and else nothing. It ends with what is told of its slot.
+abbrev pub branch_by : SlotTexts → ℕ → State → Insn → List ℕ
+branch_by places k x i =
+    if is_branch i then decimal k ++ codes " " ++ text_at x.program x.pc ++ compared_by x i ++ way_text x ++ text_of_slot places x.pc ++ codes "\n"
+    else []
 
-unfoldable pub branch_line : ℕ → State → List ℕ
-branch_line k x = option_map_or (branch_by k x) (insn_at x.program x.pc) []
+unfoldable pub branch_line : SlotTexts → ℕ → State → List ℕ
+branch_line places k x = option_map_or (branch_by places k x) (insn_at x.program x.pc) []

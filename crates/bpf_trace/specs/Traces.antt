@@ -1,5 +1,5 @@
 -- The text of a trace. bpfdb's own choice.
-use Rattle.std.specs.Prelude.{ℕ, Bool, ◌+◌, ◌-◌, if◌then◌else◌, List, [], ◌∷◌, ◌++◌, decimal, drop, flat_map, take}
+use Rattle.std.specs.Prelude.{ℕ, ◌+◌, ◌-◌, if◌then◌else◌, List, [], ◌∷◌, ◌++◌, decimal, drop, flat_map, take}
 use lib.Chars.{codes}
 use Rattle.bpf_entries.specs.Status.{has_ended}
 use Rattle.bpf_steps.specs.Entries.{step_entry}
@@ -25,13 +25,13 @@ step_line k x =
     ++ flat_map (written_text (next x)) (written (next x) (step_entry x)) ++ codes "\n"
 
 -- The line of a step that is shown, where conditional jumps alone are, or each.
-abbrev pub line_of : Bool → ℕ → State → List ℕ
-line_of branches k x = if branches then branch_line k x else step_line k x
+abbrev pub line_of : Shown → ℕ → State → List ℕ
+line_of shown k x = if shown.only_branches then branch_line shown.places k x else step_line k x
 
 -- The lines of steps, numbered from k on.
-abbrev pub lines_from : Bool → ℕ → List State → List ℕ
-lines_from branches k [] = []
-lines_from branches k (x ∷ xs) = line_of branches k x ++ lines_from branches (k + 1) xs
+abbrev pub lines_from : Shown → ℕ → List State → List ℕ
+lines_from shown k [] = []
+lines_from shown k (x ∷ xs) = line_of shown k x ++ lines_from shown (k + 1) xs
 
 -- The steps that are shown of all.
 abbrev pub shown_of : Shown → List State → List State
@@ -47,7 +47,7 @@ end_line limit y = if has_ended y.status then place y ++ codes "\n" else limit_l
 
 -- The lines of the steps of a run that are shown; and its trace: these, and where it ended.
 abbrev pub lines_text : ℕ → Shown → State → List ℕ
-lines_text limit shown x = lines_from shown.only_branches (shown.from - 1 + 1) (shown_of shown (steps_of limit x))
+lines_text limit shown x = lines_from shown (shown.from - 1 + 1) (shown_of shown (steps_of limit x))
 
 abbrev pub trace_text : ℕ → Shown → State → List ℕ
 trace_text limit shown x = lines_text limit shown x ++ end_line limit (plain_end limit x)

@@ -1,5 +1,5 @@
 //! The line of a conditional jump.
-ghost use Rattle.std.specs.Prelude.{◌≡◌, ◌≤◌, ◌+◌, ◌==◌, ◌++◌, codes, false, if◌then◌else◌, length};
+ghost use Rattle.std.specs.Prelude.{◌≡◌, ◌≤◌, ◌<◌, ◌+◌, ◌==◌, ◌++◌, codes, false, if◌then◌else◌, length};
 ghost use Rattle.bpf_entries.specs.Status.{has_ended};
 ghost use Rattle.bpf_steps.specs.Next.{next};
 ghost use Rattle.bpf_trace.specs.Branches.{branch_line, compared_by, compared_text, is_branch as is_branch_of, source_text};
@@ -13,13 +13,15 @@ use crate::texts::Texts;
 use bpf_isa::{Insn, Reg, Source};
 use bpf_machine::{Cpu, Ended};
 use counted_io::{Counted, WriteFault, put};
+use slot_texts::{SlotTexts, text_of_slot};
 use std::io::Write;
 
 /// Takes a step, and writes its line if it is a conditional jump: its number, its slot and its
-/// instruction, the registers that it compared, and which way it went.
+/// instruction, the registers that it compared, which way it went, and what is told of its slot.
 pub fn put_branch<W: Write>(
     cpu: &mut Cpu,
     texts: &Texts,
+    places: SlotTexts<'_>,
     line: &mut Line,
     number: u64,
     writer: &mut Counted<W>,
@@ -29,7 +31,7 @@ pub fn put_branch<W: Write>(
     requires texts { texts.now ≡ texts_of cpu.old.program }
     ensures next { cpu.new ≡ next cpu.old }
     ensures text { WritesAfter W.contents writer.old so_far writer.new result
-        (branch_line number cpu.old) }
+        (branch_line places.entry number cpu.old) }
 {
     cpu.invariant();
     let slot = usize::from(cpu.pc());
@@ -44,7 +46,7 @@ pub fn put_branch<W: Write>(
             add_operands(line, cpu, &insn);
             step(cpu);
             add_way(line, from, cpu.pc());
-            put(writer, told, line.as_slice())
+            put_ended(line, text_of_slot(places, slot), writer, told)
         }
         None => unreachable!(),
     }
@@ -110,12 +112,76 @@ fn add_source(line: &mut Line, cpu: &Cpu, source: Source)
 /// Adds which way a jump went: from a slot to another one.
 fn add_way(line: &mut Line, from: u16, to: u16)
     requires { length line.old ≤ 400 }
-    ensures { line.new ≡ line.old ++ (if to == from + 1 then codes "; went on\n" else codes
-        "; jumped\n") }
+    ensures text { line.new ≡ line.old ++ (if to == from + 1 then codes "; went on" else codes
+        "; jumped") }
+    ensures short { length line.new ≤ length line.old + 9 }
 {
     if u32::from(to) == u32::from(from) + 1 {
-        line.add(b"; went on\n");
+        line.add(b"; went on");
     } else {
-        line.add(b"; jumped\n");
+        line.add(b"; jumped");
     }
+}
+
+/// Writes a line with what is told of its slot, and its end. A text of any length may be told, and
+/// mostly none is.
+#[inline(always)]
+fn put_ended<W: Write>(
+    line: &mut Line,
+    place: &[u8],
+    writer: &mut Counted<W>,
+    so_far: Result<(), WriteFault>,
+) -> Result<(), WriteFault>
+    ensures { WritesAfter W.contents writer.old so_far writer.new result
+        (line.old ++ place.now ++ codes "\n") }
+{
+    if line.len() + place.len() < 512 {
+        put_whole(line, place, writer, so_far)
+    } else {
+        put_parts(line, place, writer, so_far)
+    }
+}
+
+/// Writes it at once, where the line has room for the text.
+#[inline(always)]
+fn put_whole<W: Write>(
+    line: &mut Line,
+    place: &[u8],
+    writer: &mut Counted<W>,
+    so_far: Result<(), WriteFault>,
+) -> Result<(), WriteFault>
+    requires { length line.old + length place.now < 512 }
+    ensures { WritesAfter W.contents writer.old so_far writer.new result
+        (line.old ++ place.now ++ codes "\n") }
+{
+    add_place(line, place);
+    line.add(b"\n");
+    put(writer, so_far, line.as_slice())
+}
+
+/// Adds what is told of a slot. Where nothing is, no bytes are copied.
+#[inline(always)]
+fn add_place(line: &mut Line, place: &[u8])
+    requires { length line.old + length place.now < 512 }
+    ensures { line.new ≡ line.old ++ place.now }
+{
+    if !place.is_empty() {
+        line.add(place);
+    }
+}
+
+/// Writes it in parts, where it has none.
+#[inline(never)]
+fn put_parts<W: Write>(
+    line: &Line,
+    place: &[u8],
+    writer: &mut Counted<W>,
+    so_far: Result<(), WriteFault>,
+) -> Result<(), WriteFault>
+    ensures { WritesAfter W.contents writer.old so_far writer.new result
+        (line.now ++ place.now ++ codes "\n") }
+{
+    let begun = put(writer, so_far, line.as_slice());
+    let told = put(writer, begun, place);
+    put(writer, told, b"\n")
 }

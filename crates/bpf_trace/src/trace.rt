@@ -16,21 +16,24 @@ use crate::step::put_step;
 use crate::texts::Texts;
 use bpf_machine::Cpu;
 use counted_io::{Counted, WriteFault};
+use slot_texts::SlotTexts;
 use std::alloc::Global;
 use std::io::Write;
 
 /// Which steps of a run are shown.
 #[derive(Clone, Copy)]
-pub struct Shown {
+pub struct Shown<'a> {
     /// The number of the first one. Steps are numbered from 1 on; 0 is as 1.
     pub from: u64,
     /// How many at most.
     pub count: u64,
     /// Of these, conditional jumps alone.
     pub only_branches: bool,
+    /// What is told of slots: it ends the line of a conditional jump.
+    pub places: SlotTexts<'a>,
 }
 
-impl Shown {
+impl<'a> Shown<'a> {
     /// How many steps come before the first one.
     fn before(&self) -> u64
         ensures { result ≡ self.now.from - 1 }
@@ -59,8 +62,9 @@ pub enum TraceFault {
 
 /// Runs a machine to its end, or to a limit of steps, and writes a line of each step that is shown:
 /// its number, its instruction, and each place that it wrote, with the value there after it; or of the
-/// conditional jumps among them, each with the registers that it compared and which way it went. The
-/// last line says where the machine stands: how it ended, or that the limit is reached.
+/// conditional jumps among them, each with the registers that it compared, which way it went, and
+/// what is told of its slot. The last line says where the machine stands: how it ended, or that the
+/// limit is reached.
 ///
 /// All memory, for the texts of the program's instructions, is taken before the first step. Steps
 /// before the first that is shown, and those behind the last, cost no more than in a run without
@@ -69,10 +73,10 @@ pub fn write_trace<W: Write>(
     alloc: Global,
     cpu: &mut Cpu,
     limit: u64,
-    shown: Shown,
+    shown: Shown<'_>,
     writer: &mut Counted<W>,
 ) -> Result<(), TraceFault>
-    ensures text { Tells W.contents writer.old writer.new result (trace_text limit shown cpu.old) }
+    ensures text { Tells W.contents writer.old writer.new result (trace_text limit shown.entry cpu.old) }
     ensures next { OnOk result (cpu.new ≡ plain_end limit cpu.old) }
     ensures way { IsOnTheWay limit cpu.old cpu.new }
 {
@@ -90,14 +94,14 @@ pub fn write_trace<W: Write>(
 fn put_trace<W: Write>(
     cpu: &mut Cpu,
     limit: u64,
-    shown: Shown,
+    shown: Shown<'_>,
     texts: &Texts,
     writer: &mut Counted<W>,
     so_far: Result<(), WriteFault>,
 ) -> Result<(), WriteFault>
     requires texts { texts.now ≡ texts_of cpu.old.program }
     ensures text { WritesAfter W.contents writer.old so_far writer.new result
-        (trace_text limit shown cpu.old) }
+        (trace_text limit shown.entry cpu.old) }
     ensures next { OnOk result (cpu.new ≡ plain_end limit cpu.old) }
     ensures way { IsOnTheWay limit cpu.old cpu.new }
 {
@@ -106,7 +110,7 @@ fn put_trace<W: Write>(
     let taken = put_steps(
         cpu,
         texts,
-        shown.only_branches,
+        &shown,
         passed,
         left.min(shown.count),
         writer,
@@ -125,26 +129,18 @@ fn put_trace<W: Write>(
 pub fn put_lines<W: Write>(
     cpu: &mut Cpu,
     limit: u64,
-    shown: Shown,
+    shown: Shown<'_>,
     texts: &Texts,
     writer: &mut Counted<W>,
     so_far: Result<(), WriteFault>,
 ) -> Result<(), WriteFault>
     requires { texts.now ≡ texts_of cpu.old.program }
     ensures { WritesAfter W.contents writer.old so_far writer.new result
-        (lines_text limit shown cpu.old) }
+        (lines_text limit shown.entry cpu.old) }
 {
     let passed = cpu.run(limit.min(shown.before()));
     let most = (limit - passed).min(shown.count);
-    let taken = put_steps(
-        cpu,
-        texts,
-        shown.only_branches,
-        passed,
-        most,
-        writer,
-        so_far,
-    );
+    let taken = put_steps(cpu, texts, &shown, passed, most, writer, so_far);
     taken.written
 }
 
@@ -152,7 +148,7 @@ pub fn put_lines<W: Write>(
 fn put_steps<W: Write>(
     cpu: &mut Cpu,
     texts: &Texts,
-    only_branches: bool,
+    shown: &Shown<'_>,
     passed: u64,
     most: u64,
     writer: &mut Counted<W>,
@@ -161,7 +157,7 @@ fn put_steps<W: Write>(
     requires counted { passed + most < 2 ^ 64 }
     requires texts { texts.now ≡ texts_of cpu.old.program }
     ensures text { WritesAfter W.contents writer.old so_far writer.new result.written
-        (lines_from only_branches (passed + 1) (steps_of most cpu.old)) }
+        (lines_from shown.now (passed + 1) (steps_of most cpu.old)) }
     ensures taken { Takes most cpu.old cpu.new result.steps }
 {
     let mut line = Line::new();
@@ -173,15 +169,7 @@ fn put_steps<W: Write>(
                 steps: k,
             };
         }
-        told = put_line(
-            cpu,
-            texts,
-            only_branches,
-            &mut line,
-            passed + k + 1,
-            writer,
-            told,
-        );
+        told = put_line(cpu, texts, shown, &mut line, passed + k + 1, writer, told);
         match told {
             Ok(()) => {}
             Err(fault) => {
@@ -202,7 +190,7 @@ fn put_steps<W: Write>(
 fn put_line<W: Write>(
     cpu: &mut Cpu,
     texts: &Texts,
-    only_branches: bool,
+    shown: &Shown<'_>,
     line: &mut Line,
     number: u64,
     writer: &mut Counted<W>,
@@ -212,10 +200,10 @@ fn put_line<W: Write>(
     requires texts { texts.now ≡ texts_of cpu.old.program }
     ensures next { cpu.new ≡ next cpu.old }
     ensures text { WritesAfter W.contents writer.old so_far writer.new result
-        (line_of only_branches number cpu.old) }
+        (line_of shown.now number cpu.old) }
 {
-    if only_branches {
-        put_branch(cpu, texts, line, number, writer, so_far)
+    if shown.only_branches {
+        put_branch(cpu, texts, shown.places, line, number, writer, so_far)
     } else {
         put_step(cpu, texts, line, number, writer, so_far)
     }

@@ -14,13 +14,15 @@ use Rattle.bpf_origin.specs.declared.place.Part.{Part}
 use Rattle.bpf_origin.specs.declared.question.Question.{Question}
 use Rattle.bpf_origin.specs.declared.question.Extent.TheVariants.{Whole}
 use Rattle.bpfdb_replies.specs.Texts.{place}
+use Rattle.slot_texts.specs.Texts.{SlotTexts, text_of_slot}
 use Rattle.bpf_whynot.specs.Reach.{can_from, is_goal}
 
--- What is asked: the slots, how the answer about values is made, and whether that is left out.
+-- What is asked: the slots, how the answer about values is made, and whether that is left out; and what is told of the slots of the line of a move.
 pub record Query : Type 0 where
   pub goals : List ℕ
   pub question : Question
   pub alone : Bool
+  pub places : SlotTexts
 
 -- A text that is the whole answer.
 abbrev pub only : List ℕ → Answer
@@ -49,13 +51,19 @@ went_text x move.Step y =
     else jumped_text y.pc
 went_text x (move.Edit e) y = edited_text y.pc
 
--- The line of a move, so many moves back: which it was, the values that it compared, and where it went.
+-- What is told of the slot of a step. An edit has none.
+abbrev pub slot_text : SlotTexts → State → Move → List ℕ
+slot_text places x move.Step = text_of_slot places x.pc
+slot_text places x (move.Edit e) = []
+
+-- The line of a move, so many moves back: which it was, the values that it compared, where it went, and what is told of its slot.
 unfoldable pub compared_text : State → Part → List ℕ
 compared_text x p = codes "; " ++ part_text x p
 
-abbrev pub lost_line : ℕ → State → Move → State → List ℕ
-lost_line k x m y =
-    codes "-" ++ decimal k ++ codes " " ++ move_text x m ++ flat_map (compared_text x) (conditions x m) ++ went_text x m y ++ codes "\n"
+abbrev pub lost_line : SlotTexts → ℕ → State → Move → State → List ℕ
+lost_line places k x m y =
+    codes "-" ++ decimal k ++ codes " " ++ move_text x m ++ flat_map (compared_text x) (conditions x m) ++ went_text x m y
+    ++ slot_text places x m ++ codes "\n"
 
 -- Where those values came from, in the state before the move: where the machine stood, and the answer to that. Nothing where it compared none.
 abbrev pub is_none : List Part → Bool
@@ -73,7 +81,7 @@ stood_at s r = is_step r.move && is_goal s.goals r.before.pc
 
 abbrev pub left_by : Query → ℕ → Record → List Record → State → Answer
 left_by s k r h y =
-    if stood_at s r then only (reached_text k) else with_line (lost_line k r.before r.move y) (because s r h)
+    if stood_at s r then only (reached_text k) else with_line (lost_line s.places k r.before r.move y) (because s r h)
 
 -- After k moves, from none of whose states a goal can be come to.
 unfoldable pub left_after : (ℕ → List ℕ → Bool) → Query → ℕ → List Record → State → Answer

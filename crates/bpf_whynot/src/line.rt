@@ -16,6 +16,7 @@ use bpf_machine::Cpu;
 use bpf_origin::{Part, Parts, put_part, register_part};
 use bpfdb_replies::put_at;
 use counted_io::{Counted, Piece, WriteFault, put, put_all, put_decimal};
+use slot_texts::{SlotTexts, text_of_slot};
 use std::io::Write;
 
 /// The registers that a move compared, from the machine before it.
@@ -185,11 +186,31 @@ fn put_went<W: Write>(
     }
 }
 
-/// Writes the line of a move, from the machine before it: which it was, what it compared, and where
-/// it went.
+/// Writes what is told of the slot of a step, from the machine before it; of an edit nothing.
+fn put_told<W: Write>(
+    writer: &mut Counted<W>,
+    so_far: Result<(), WriteFault>,
+    places: SlotTexts<'_>,
+    cpu: &Cpu,
+    is_step: bool,
+) -> Result<(), WriteFault>
+    ensures { (m : Move) → is_step ≡ is_step_of m →
+        WritesAfter W.contents writer.old so_far writer.new result
+        (spec.slot_text places.entry cpu.now m) }
+{
+    if is_step {
+        put(writer, so_far, text_of_slot(places, usize::from(cpu.pc())))
+    } else {
+        put(writer, so_far, b"")
+    }
+}
+
+/// Writes the line of a move, from the machine before it: which it was, what it compared, where it
+/// went, and of a step what is told of its slot.
 pub fn put_line<W: Write>(
     writer: &mut Counted<W>,
     so_far: Result<(), WriteFault>,
+    places: SlotTexts<'_>,
     moves: u64,
     cpu: &Cpu,
     is_step: bool,
@@ -197,13 +218,14 @@ pub fn put_line<W: Write>(
 ) -> Result<(), WriteFault>
     ensures { (m : Move) (y : State) → is_step ≡ is_step_of m → after ≡ standing y →
         WritesAfter W.contents writer.old so_far writer.new result
-        (spec.lost_line moves cpu.now m y) }
+        (spec.lost_line places.entry moves cpu.now m y) }
 {
     let begun = put(writer, so_far, b"-");
     let counted = put_decimal(writer, begun, moves);
     let parted = put(writer, counted, b" ");
     let named = put_move(writer, parted, cpu, is_step);
     let valued = put_values(writer, named, cpu, compared(cpu, is_step).as_slice());
-    let told = put_went(writer, valued, cpu, is_step, after);
+    let went = put_went(writer, valued, cpu, is_step, after);
+    let told = put_told(writer, went, places, cpu, is_step);
     put(writer, told, b"\n")
 }

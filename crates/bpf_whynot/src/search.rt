@@ -2,6 +2,7 @@
 
 use crate::reach::Reach;
 use bpf_origin::Question;
+use slot_texts::SlotTexts;
 
 /// What is asked, and how.
 #[derive(Clone, Copy)]
@@ -14,4 +15,6 @@ pub struct Search<'a> {
     pub question: Question,
     /// Whether that is left out.
     pub alone: bool,
+    /// What is told of slots: it ends the line of a step.
+    pub places: SlotTexts<'a>,
 }

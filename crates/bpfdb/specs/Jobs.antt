@@ -29,5 +29,6 @@ pub record IsJobOf (plan : Plan) (of : Contents) (job : Job) : Type 0 where
   pub further : contents job.further.now ≡ of.further
   pub shapes : job.shapes ≡ None
   pub goals : job.goals ≡ None
+  pub places : job.places ≡ None
   pub object : job.object ≡ None
   pub options : job.options ≡ options_in (is_turned plan) plan.options

@@ -38,6 +38,7 @@ pub fn job_of<'a>(plan: &Plan<'a>, loaded: &Loaded<'a>) -> Job<'a>
         further: loaded.further,
         shapes: None,
         goals: None,
+        places: None,
         object: None,
         options: options_of(plan),
     }

@@ -3,6 +3,7 @@ use Rattle.std.proofs.Common.{◌≡◌, ◌==◌, ◌∙◌, ℕ, Bool, true, f
 use Rattle.std.specs.Borrow.{Bor}
 use Rattle.bpf_branches.specs.Branches.{AreBranches}
 use Rattle.bpf_branches.specs.Courses.{IsFound}
+use Rattle.bpf_branches.specs.declared.query.Query.{Query}
 use Rattle.bpf_branches.specs.declared.text.Found.{Found}
 use Rattle.bpf_journal.specs.Histories.{Record, StandsFor}
 use Rattle.bpf_journal.specs.Runs.{history_after}
@@ -27,7 +28,7 @@ use Rattle.bpfdb_commands.specs.declared.refusal.Refusal.{Refusal}
 use Rattle.bpfdb_jobs.specs.Jobs.{Prints, arrival_of, named_print, section_of, start_of}
 use Rattle.bpfdb_jobs.specs.Obeying.{ObeysScript, arrived}
 use Rattle.bpfdb_jobs.specs.Openings.{AreAskedParts, HasArrived, HasTail, IsOpening, IsStart}
-use Rattle.bpfdb_jobs.specs.Origins.{AreNamesOf, Asks, IsTail, RefusesNames, RefusesWhat, arrival, bounds, followed_by, obeyed, question_by, run_arrival, run_history}
+use Rattle.bpfdb_jobs.specs.Origins.{AreNamesOf, Asks, IsTail, RefusesNames, RefusesWhat, arrival, bounds, branches_by, followed_by, obeyed, question_by, run_arrival, run_history}
 use Rattle.bpfdb_jobs.specs.Refusals.{RefusesArrival, RefusesAs}
 use Rattle.bpfdb_jobs.specs.declared.job.Job.{Job}
 use Rattle.bpfdb_faults.specs.declared.refusal.JobRefusal.TheVariants as jobs
@@ -103,7 +104,7 @@ module _ (job : Job) (moment : Moment RingKeeper) (n : ℕ) (a : HasArrived job 
   -- the answer about it is printed
   pub origin-prints : (q : Question) (what : Option What) (parts : List Part) → q ≡ question job a.at.point.history n
       → Asks job.options.what moment.state what → parts ≡ parts_asked moment.state what
-      → (tail : Answer) → IsTail job.options.only_branches (question_by job.options a.at) parts a.at.point tail
+      → (tail : Answer) → IsTail job.options.only_branches (branches_by job.places job.options a.at) parts a.at.point tail
       → (names : Option Names) → AreNamesOf job.object (section_of job) names
       → Prints Origin job (named_print names moment.state (followed_by (answer_about q parts a.at.point.history moment.state) tail))
   origin-prints q what parts asks-as asks is tail behind names known = (
@@ -115,7 +116,7 @@ module _ (job : Job) (moment : Moment RingKeeper) (n : ℕ) (a : HasArrived job 
     a.opens,
     a.arrives,
     subst (λ (x : State). Asks job.options.what x what) a.state asks,
-    subst (λ (ps : List Part). IsTail job.options.only_branches (question_by job.options a.at) ps a.at.point tail)
+    subst (λ (ps : List Part). IsTail job.options.only_branches (branches_by job.places job.options a.at) ps a.at.point tail)
         (is ∙ ap (λ (x : State). parts_asked x what) a.state) behind,
     known,
     ap (λ (z : Question). named_print names moment.state (followed_by (answer_about z parts a.at.point.history moment.state) tail))
@@ -135,9 +136,13 @@ module _ (job : Job) (moment : Moment RingKeeper) (n : ℕ) (a : HasArrived job 
   names-refuse parts asked fault name lacks =
       (a.code, a.at, asked.0, a.opens, a.arrives, subst (λ (x : State). Asks job.options.what x asked.0) a.state asked.1, lacks)
 
+  -- branches are asked for in the same way
+  abbrev asked_by : Question → Query
+  asked_by q = record { question = q; places = job.places }
+
   -- behind it are the branches that were found
   pub branches-behind : (q : Question) (parts : List Part) (found : Found) → AreAskedParts job moment.state parts → job.options.only_branches ≡ true
-      → q ≡ question job a.at.point.history n → IsFound q parts a.at.point.history moment.state found
+      → q ≡ question job a.at.point.history n → IsFound (asked_by q) parts a.at.point.history moment.state found
       → HasTail job found.timeline n parts (record { text = found.text.items; extent = found.extent })
   branches-behind q parts found asked given asks-as is = record {
     arrived = record {
@@ -150,11 +155,11 @@ module _ (job : Job) (moment : Moment RingKeeper) (n : ℕ) (a : HasArrived job 
       counted = a.counted;
     };
     asked = subst (λ (x : State). AreAskedParts job x parts) (sym is.state) asked;
-    is = subst (λ (b : Bool). IsTail b (question_by job.options a.at) parts a.at.point (record { text = found.text.items; extent = found.extent })) (sym given)
-        (subst (λ (z : Question). AreBranches z parts a.at.point.history a.at.point.state (record { text = found.text.items; extent = found.extent }))
+    is = subst (λ (b : Bool). IsTail b (branches_by job.places job.options a.at) parts a.at.point (record { text = found.text.items; extent = found.extent })) (sym given)
+        (subst (λ (z : Question). AreBranches (asked_by z) parts a.at.point.history a.at.point.state (record { text = found.text.items; extent = found.extent }))
         (asks-as ∙ ap (question job a.at.point.history) a.counted)
-        (subst (λ (x : State). AreBranches q parts a.at.point.history x (record { text = found.text.items; extent = found.extent })) a.state
-        (subst (λ (z : Answer). AreBranches q parts a.at.point.history moment.state z) (same is.text is.extent) is.is)));
+        (subst (λ (x : State). AreBranches (asked_by q) parts a.at.point.history x (record { text = found.text.items; extent = found.extent })) a.state
+        (subst (λ (z : Answer). AreBranches (asked_by q) parts a.at.point.history moment.state z) (same is.text is.extent) is.is)));
   }
     where
       same : {text : List ℕ} {extent : Extent} {other : Answer} → text ≡ other.text → extent ≡ other.extent → other ≡ record { text = text; extent = extent }
@@ -166,5 +171,5 @@ module _ (job : Job) (moment : Moment RingKeeper) (n : ℕ) (a : HasArrived job 
   nothing-behind parts asked without = record {
     arrived = a;
     asked = asked;
-    is = subst (λ (b : Bool). IsTail b (question_by job.options a.at) parts a.at.point (record { text = []; extent = Whole })) (sym without) refl;
+    is = subst (λ (b : Bool). IsTail b (branches_by job.places job.options a.at) parts a.at.point (record { text = []; extent = Whole })) (sym without) refl;
   }

@@ -26,6 +26,7 @@ search job goals h n = record {
   goals = goals;
   question = record { addresses = job.options.addresses; lines = job.options.lines; opening = length h == n };
   alone = job.options.alone;
+  places = job.places;
 }
 
 -- the refusal of slots that are none

@@ -51,7 +51,7 @@ use Rattle.bpf_whynot.specs.declared.fault.GoalFault.{GoalFault}
 use Rattle.bpfdb_commands.specs.declared.refusal.Refusal.{Refusal}
 use Rattle.bpfdb_replies.specs.Texts.{place}
 use Rattle.bpfdb_jobs.specs.MapLines.{linked_told}
-use Rattle.bpfdb_jobs.specs.Origins.{Arrival, AreNamesOf, Asks, IsTail, answer_by, arrival, followed_by, found_text, named_by, question_by, status_of_extent}
+use Rattle.bpfdb_jobs.specs.Origins.{Arrival, AreNamesOf, Asks, IsTail, answer_by, arrival, branches_by, followed_by, found_text, named_by, question_by, status_of_extent}
 use Rattle.bpfdb_jobs.specs.declared.job.Job.{Job}
 use Rattle.bpfdb_options.specs.declared.subcommand.Subcommand.{Subcommand}
 use Rattle.bpfdb_options.specs.declared.subcommand.Subcommand.TheVariants.{Run, Trace, Debug, Origin, Whynot, Diff, Gdb, Asm, Disasm, Lines, Check, Link, Test, Batch}
@@ -198,6 +198,7 @@ shown_of job = record {
   from = job.options.from;
   count = job.options.count;
   only_branches = job.options.only_branches;
+  places = job.places;
 }
 
 abbrev pub trace_out : Job → State → List ℕ
@@ -248,7 +249,12 @@ abbrev pub AsksGoals : Job → Checked → Result (List ℕ) GoalFault → Type 
 AsksGoals job program goals = (slots : List ℕ) × AreAsked job slots × (goals_in program slots ≡ goals)
 
 abbrev pub query_of : Job → List ℕ → Arrival → Query
-query_of job goals at = record { goals = goals; question = question_by job.options at; alone = job.options.alone }
+query_of job goals at = record {
+  goals = goals;
+  question = question_by job.options at;
+  alone = job.options.alone;
+  places = job.places;
+}
 
 abbrev pub whynot_print : Job → List ℕ → (ℕ → List ℕ → Bool) → Arrival → Print
 whynot_print job goals can at = origin_print at.point.state (why_not can (query_of job goals at) at.point.history at.point.state)
@@ -351,7 +357,7 @@ Prints Trace job a = (code : Checked) × Opens job code
 Prints Debug job a = ⊥
 Prints Origin job a = (code : Checked) × (at : Arrival) × (what : Option What) × (tail : Answer) × (names : Option Names) × OpensSession job code
     × (arrival_of job code ≡ Ok at) × Asks job.options.what at.point.state what
-    × IsTail job.options.only_branches (question_by job.options at) (parts_asked at.point.state what) at.point tail
+    × IsTail job.options.only_branches (branches_by job.places job.options at) (parts_asked at.point.state what) at.point tail
     × AreNamesOf job.object (section_of job) names × (a ≡ named_print names at.point.state (followed_by (answer_by job.options what at) tail))
 Prints Whynot job a = (code : Checked) × (at : Arrival) × (goals : List ℕ) × (can : ℕ → List ℕ → Bool) × OpensSession job code
     × (arrival_of job code ≡ Ok at) × AsksGoals job at.point.state.program (Ok goals)

@@ -17,7 +17,7 @@ use Rattle.bpf_steps.specs.State.{State, initial}
 use Rattle.bpf_session.specs.Sessions.{SessionValue}
 use Rattle.bpfdb_jobs.specs.Connections.{Begins}
 use Rattle.bpfdb_jobs.specs.Jobs.{IsOtherRun, Opens, OpensSession, arrival_of}
-use Rattle.bpfdb_jobs.specs.Origins.{Arrival, Asks, IsTail, followed_by, found_text, named_by, question_by}
+use Rattle.bpfdb_jobs.specs.Origins.{Arrival, Asks, IsTail, branches_by, followed_by, found_text, named_by}
 use Rattle.bpfdb_jobs.specs.declared.job.Job.{Job}
 
 -- A machine stands at the opening of the job's program.
@@ -62,7 +62,7 @@ AreAskedParts job x parts = (what : Option What) × Asks job.options.what x what
 pub record HasTail (job : Job) (moment : Moment RingKeeper) (moves : ℕ) (parts : List Part) (tail : Answer) : Type 0 where
   pub arrived : HasArrived job moment moves
   pub asked : AreAskedParts job moment.state parts
-  pub is : IsTail job.options.only_branches (question_by job.options arrived.at) parts arrived.at.point tail
+  pub is : IsTail job.options.only_branches (branches_by job.places job.options arrived.at) parts arrived.at.point tail
 
 -- What is written where the machine stands: the answer about these parts, and a text behind it.
 abbrev pub asked_text : Question → List Part → List Record → State → List ℕ → List ℕ

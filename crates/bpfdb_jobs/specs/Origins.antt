@@ -3,6 +3,7 @@
 use Rattle.std.specs.Prelude.{ℕ, ◌≡◌, ◌==◌, Bool, true, false, List, [], ◌∷◌, ◌++◌, Option, Some, None, Result, Ok, Err, if◌then◌else◌, codes, length}
 use Rattle.std.specs.Borrow.{Bor}
 use Rattle.bpf_branches.specs.Branches.{AreBranches}
+use Rattle.bpf_branches.specs.declared.query.Query.{Query}
 use Rattle.bpf_journal.specs.Histories.{Record}
 use Rattle.bpf_journal.specs.Runs.{history_after}
 use Rattle.bpf_steps.specs.State.{State}
@@ -33,6 +34,7 @@ use Rattle.bpfdb_jobs.specs.declared.job.LinkedObject.{LinkedObject}
 use Rattle.bpfdb_options.specs.declared.options.Options.{Options}
 use Rattle.bpfdb_replies.specs.Texts.{place}
 use Rattle.counted_io.specs.Lines.{lines}
+use Rattle.slot_texts.specs.Texts.{SlotTexts}
 
 -- What a text asks of a state, where there is one; why that is refused.
 abbrev pub Asks : Option (Bor (List ℕ)) → State → Option What → Type 0
@@ -97,9 +99,13 @@ question_by options a = record {
 abbrev pub answer_by : Options → Option What → Arrival → Answer
 answer_by options what a = answer_about (question_by options a) (parts_asked a.point.state what) a.point.history a.point.state
 
+-- The branches are asked for in the same way, each with what is told of its slot.
+abbrev pub branches_by : SlotTexts → Options → Arrival → Query
+branches_by places options a = record { question = question_by options a; places = places }
+
 -- What stands behind that: with `--branches` those that decided that the moves were made which the answer about these parts tells, and that the
 -- program came there; else nothing.
-abbrev pub IsTail : Bool → Question → List Part → Point → Answer → Type 0
+abbrev pub IsTail : Bool → Query → List Part → Point → Answer → Type 0
 IsTail true q parts point tail = AreBranches q parts point.history point.state tail
 IsTail false q parts point tail = tail ≡ record { text = []; extent = Whole }
 

@@ -2,6 +2,7 @@
 use bpf_isa::MapShape;
 use bpf_link::Linked;
 use bpfdb_options::{Options, Subcommand};
+use slot_texts::SlotTexts;
 
 /// A subcommand, with the bytes of its files and its options.
 #[derive(Clone, Copy)]
@@ -26,6 +27,8 @@ pub struct Job<'a> {
     /// The slots of the place of that object which `whynot` asks about, where it is one: numbers with
     /// commas between. Without them what the options ask about counts.
     pub goals: Option<&'a [u8]>,
+    /// Where the slots of FILE's words stand in C, where that is known: it ends the lines of branches.
+    pub places: SlotTexts<'a>,
     /// That object, where it is known.
     pub object: Option<LinkedObject<'a>>,
     pub options: Options<'a>,

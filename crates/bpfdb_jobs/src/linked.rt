@@ -1,8 +1,7 @@
 //! Jobs over an object: it is linked, and the job is done over its words, with its maps.
 ghost use Rattle.std.specs.Prelude.{◌≡◌, ◌≤◌, IfErr, IfOk};
-ghost use Rattle.bpfdb_jobs.specs.Done.{DoesLinked, DoesPlain};
-ghost use Rattle.bpfdb_jobs.specs.Objects.{HasPlace, IsOver, LinksTo, RefusesLinking, asks_place, is_check, is_whynot, links_first};
-ghost use Rattle.bpfdb_jobs.specs.declared.job.Job.{Job as Over};
+ghost use Rattle.bpfdb_jobs.specs.Done.{DoesLinked};
+ghost use Rattle.bpfdb_jobs.specs.Objects.{HasPlace, HasPlaces, IsOver, LinksTo, RefusesLinking, asks_place, is_check, is_whynot, links_first, tells_branches};
 ghost use Rattle.bpfdb_limits.specs.Limits.{IsLimit};
 ghost use Rattle.bpfdb_faults.specs.Streams.{stream};
 
@@ -11,9 +10,10 @@ use crate::job::{Job, LinkedObject};
 use crate::object::{linked_from, refuse, section_of, stubs_of};
 use crate::whynot::asked;
 use bpf_link::{LinkFault, Linked};
-use bpf_places::{is_place, object_slots};
+use bpf_places::{is_place, object_places, object_slots};
 use bpfdb_options::{Options, Subcommand};
 use counted_io::Counted;
+use slot_texts::SlotTexts;
 use std::alloc::Global;
 use std::io::{Read, Write};
 
@@ -78,6 +78,13 @@ fn is_whynot(subcommand: Subcommand) -> bool
     }
 }
 
+/// Whether a job tells branches.
+fn tells_branches(job: &Job<'_>) -> bool
+    ensures { result ≡ tells_branches job.now }
+{
+    is_whynot(job.subcommand) || job.options.only_branches
+}
+
 /// Does a job over the program to which its object is linked. First the slots of the place are looked
 /// up that it asks about, if it does.
 fn do_linked<R: Read, W: Write, E: Write>(
@@ -95,21 +102,22 @@ fn do_linked<R: Read, W: Write, E: Write>(
     ensures status { result ≤ 2 }
 {
     if !asks_place(job) {
-        return do_over(alloc, job, linked, None, reader, writer, errors);
+        return do_asked(alloc, job, linked, None, reader, writer, errors);
     }
     let words = linked.words.as_slice();
     let what = asked(job).as_bytes();
     match object_slots(alloc, job.file, section_of(job), words, what) {
         Ok(slots) => {
             let goals = Some(slots.as_slice());
-            do_over(alloc, job, linked, goals, reader, writer, errors)
+            do_asked(alloc, job, linked, goals, reader, writer, errors)
         }
         Err(why) => refuse(job, job.file, errors, why),
     }
 }
 
-/// Does a job over the program to which its object is linked, and the slots of the place.
-fn do_over<R: Read, W: Write, E: Write>(
+/// Does a job over that program, and the slots of the place. First it is looked up where its slots
+/// stand in C, if the job tells branches.
+fn do_asked<R: Read, W: Write, E: Write>(
     alloc: Global,
     job: &Job<'_>,
     linked: &Linked,
@@ -119,14 +127,23 @@ fn do_over<R: Read, W: Write, E: Write>(
     errors: &mut Counted<E>,
 ) -> u8
     requires limit { IsLimit job.now.options.limit }
-    requires goals { HasPlace (asks_place job.now) job.now linked.now.words.items goals }
-    ensures does { (over : Over) × IsOver job.now linked.now over
-        × DoesPlain job.now.subcommand over (stream R.remaining reader.old reader.new)
+    requires linked { LinksTo job.now linked.now
+        × HasPlace (asks_place job.now) job.now linked.now.words.items goals }
+    ensures does { DoesLinked job.now.subcommand job.now (stream R.remaining reader.old reader.new)
         (stream W.contents writer.old writer.new) (stream E.contents errors.old errors.new) result }
     ensures status { result ≤ 2 }
 {
-    let over = job_over(job, linked, goals);
-    plain_tool(alloc, &over, reader, writer, errors)
+    if !tells_branches(job) {
+        let over = job_over(job, linked, goals, None);
+        return plain_tool(alloc, &over, reader, writer, errors);
+    }
+    match object_places(alloc, job.file, section_of(job), linked.words.as_slice()) {
+        Ok(places) => {
+            let over = job_over(job, linked, goals, Some(places.as_slice()));
+            plain_tool(alloc, &over, reader, writer, errors)
+        }
+        Err(why) => refuse(job, job.file, errors, why),
+    }
 }
 
 /// The program of FILE. What linking needs of the stack is given back before the job is done.
@@ -141,16 +158,23 @@ fn linked_file(alloc: Global, job: &Job<'_>) -> Result<Linked, LinkFault>
     }
 }
 
-/// The job over the words of its object, with its maps, the slots of the place, and what they come
-/// from.
-fn job_over<'a>(job: &Job<'a>, linked: &'a Linked, goals: Option<&'a [u8]>) -> Job<'a>
-    requires { HasPlace (asks_place job.now) job.now linked.now.words.items goals }
+/// The job over the words of its object, with its maps, the slots of the place, where its slots stand
+/// in C, and what they come from.
+fn job_over<'a>(
+    job: &Job<'a>,
+    linked: &'a Linked,
+    goals: Option<&'a [u8]>,
+    places: SlotTexts<'a>,
+) -> Job<'a>
+    requires goals { HasPlace (asks_place job.now) job.now linked.now.words.items goals }
+    requires places { HasPlaces (tells_branches job.now) job.now linked.now.words.items places }
     ensures { IsOver job.now linked.now result }
 {
     Job {
         file: linked.words.as_slice(),
         shapes: Some(linked.shapes.as_slice()),
         goals,
+        places,
         object: Some(LinkedObject {
             bytes: job.file,
             program: linked,

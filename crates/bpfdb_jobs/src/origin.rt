@@ -17,7 +17,7 @@ use crate::job::Job;
 use crate::object::{refuse, section_of};
 use crate::opening::{session_of, timeline_of, wanted_of};
 use crate::script::obey_script;
-use bpf_branches::{Found, find_branches};
+use bpf_branches::{Found, Query, find_branches};
 use bpf_journal::{JournalFault, Keeper, RingKeeper, Timeline};
 use bpf_link::LinkFault;
 use bpf_machine::Cpu;
@@ -119,13 +119,16 @@ fn ask_branches<W: Write, E: Write>(
         (stream E.contents errors.old errors.new) result }
     ensures status { result ≤ 2 }
 {
-    let question = question_of(job, &arrived);
+    let query = Query {
+        question: question_of(job, &arrived),
+        places: job.places,
+    };
     let Arrived {
         timeline,
         moves,
         mut wanted,
     } = arrived;
-    match find_branches(alloc, timeline, &mut wanted, parts, question) {
+    match find_branches(alloc, timeline, &mut wanted, parts, query) {
         Ok(found) => {
             let Found {
                 timeline,

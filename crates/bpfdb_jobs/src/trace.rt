@@ -99,13 +99,14 @@ fn tell_until<W: Write>(
 }
 
 /// The steps that are shown.
-fn shown_steps(job: &Job<'_>) -> Shown
+fn shown_steps<'a>(job: &Job<'a>) -> Shown<'a>
     ensures { result ≡ shown_of job.now }
 {
     Shown {
         from: job.options.from,
         count: job.options.count,
         only_branches: job.options.only_branches,
+        places: job.places,
     }
 }
 

@@ -75,6 +75,7 @@ fn ask_why<W: Write, E: Write>(
         goals: aim.goals.as_slice(),
         question,
         alone: job.options.alone,
+        places: job.places,
     };
     let told = put_why(&mut arrived.timeline, &search, &mut arrived.wanted, writer);
     match told.written {

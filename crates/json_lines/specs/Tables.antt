@@ -63,6 +63,7 @@ abbrev pub piece_shapes : List Pattern
 piece_shapes =
     shape [] [] (count (codes "slot") (codes ": ") ∷ text (codes "insn") [] ∷ []) Nothing
     ∷ shape [] (codes "then at ") (count (codes "to") [] ∷ []) Nothing
+    ∷ shape [] (codes "in ") (text (codes "function") (codes " (") ∷ text (codes "file") (codes ":") ∷ count (codes "line") (codes ")") ∷ []) Nothing
     ∷ shape [] (codes "in ") (text (codes "name") [] ∷ []) Nothing
     ∷ shape [] [] (text (codes "way") (codes " to ") ∷ count (codes "to") [] ∷ []) Nothing
     ∷ shape [] (codes "byte ") (count (codes "byte") (codes " of the context") ∷ []) Nothing

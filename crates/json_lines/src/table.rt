@@ -7,7 +7,7 @@ use crate::answer::Answer;
 use crate::shape::{Field, Rest, Shape};
 
 /// What is told of a move besides its parts.
-const PIECES: [Shape; 8] = [
+const PIECES: [Shape; 9] = [
     Shape {
         kind: b"",
         begin: b"",
@@ -18,6 +18,16 @@ const PIECES: [Shape; 8] = [
         kind: b"",
         begin: b"then at ",
         fields: &[Field::Count(b"to", b"")],
+        rest: Rest::Nothing,
+    },
+    Shape {
+        kind: b"",
+        begin: b"in ",
+        fields: &[
+            Field::Text(b"function", b" ("),
+            Field::Text(b"file", b":"),
+            Field::Count(b"line", b")"),
+        ],
         rest: Rest::Nothing,
     },
     Shape {

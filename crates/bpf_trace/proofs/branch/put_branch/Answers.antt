@@ -1,7 +1,7 @@
 use Rattle.std.proofs.Common.{◌∙◌, sym}
 use Rattle.bpfdb_replies.proofs.Telling.{WritesAfter-nothing}
 use Rattle.counted_io.proofs.Appending.{WritesAfter-WritesAfter, WritesAfter-text}
-use Rattle.bpf_trace.proofs.Branching.{no_line, whole_branch}
+use Rattle.bpf_trace.proofs.Branching.{ended, no_line, whole_branch}
 use Rattle.bpf_trace.proofs.Steps.{slot_within, text_is}
 use Rattle.bpf_trace.proofs.branch.put_branch.Goals as goal
 
@@ -10,7 +10,7 @@ returns-then-not-is_branch-clause-text g c =
     let slot = c.from-slot.ensures ∙ c.pc.ensures in
     let here = rw (c.program.ensures, slot) at c.in-Some.ensures in
     WritesAfter-text g.W.Write.contents _ _ _ _ _ _ (WritesAfter-nothing g.W.Write.contents c.args.writer.now c.args.so_far)
-    (no_line c.args.number c.args.cpu.now c.in-Some.insn (sym here) (sym c.is_branch.ensures ∙ c.if-not-is_branch.true))
+    (no_line c.args.places c.args.number c.args.cpu.now c.in-Some.insn (sym here) (sym c.is_branch.ensures ∙ c.if-not-is_branch.true))
 
 pub at-requires : goal.at-requires
 at-requires g c =
@@ -25,6 +25,7 @@ returns-clause-text g c =
     let held = c.put_head-told.ensures.text in
     let text = rw slot at c.at.ensures in
     let named = text ∙ text_is x.program c.args.texts.now x.pc c.requires.texts c.invariant.ensures.start in
-    let way = rw (c.add_operands.ensures.text, c.pc-from.ensures, c.pc-in-Some.ensures) at c.add_way.ensures in
-    WritesAfter-WritesAfter g.W.Write.contents _ _ _ _ _ _ _ _ _ held.written c.put.ensures
-    (whole_branch c.args.number x c.step-in-Some.new.cpu c.in-Some.insn held.told _ _ _ (sym here) (sym c.is_branch.ensures ∙ c.if-not-is_branch.false) c.step-in-Some.ensures named held.parts (c.as_slice.ensures ∙ way))
+    let way = rw (c.add_operands.ensures.text, c.pc-from.ensures, c.pc-in-Some.ensures) at c.add_way.ensures.text in
+    let told = rw slot at c.text_of_slot.ensures in
+    WritesAfter-WritesAfter g.W.Write.contents _ _ _ _ _ _ _ _ _ held.written c.put_ended.ensures
+    (whole_branch c.args.places c.args.number x c.step-in-Some.new.cpu c.in-Some.insn held.told _ _ _ (sym here) (sym c.is_branch.ensures ∙ c.if-not-is_branch.false) c.step-in-Some.ensures named held.parts (ended _ _ _ _ way told))

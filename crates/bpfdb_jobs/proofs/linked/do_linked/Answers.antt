@@ -1,33 +1,30 @@
-use Rattle.std.proofs.Common.{◌≡◌, ◌∙◌, ℕ, Bool, List, Some, inr, refl, subst, sym}
-use Rattle.bpfdb_jobs.specs.Done.{Over, Unlinked}
+use Rattle.std.proofs.Common.{◌≡◌, ◌∙◌, ℕ, Bool, List, Some, inr, refl, subst, sym, true}
+use Rattle.std.specs.Prelude.{◌&&◌, ◌||◌}
+use Rattle.bpfdb_jobs.specs.Done.{Unlinked}
 use Rattle.bpf_places.specs.Lookups.{AreObjectSlots}
 use Rattle.bpfdb_jobs.specs.Jobs.{asked_of, section_of}
 use Rattle.bpfdb_jobs.specs.Objects.{HasPlace}
 use Rattle.bpfdb_jobs.proofs.linked.do_linked.Goals as goal
 
-pub do_over-requires-in-Ok-clause-goals : goal.do_over-requires-in-Ok-clause-goals
-do_over-requires-in-Ok-clause-goals g c =
+pub do_asked-requires-in-Ok-clause-linked : goal.do_asked-requires-in-Ok-clause-linked
+do_asked-requires-in-Ok-clause-linked g c =
     let asks = sym (sym c.asks_place.ensures ∙ c.if-not-asks_place.false) in
     let job = c.args.job.now in
     let words = c.args.linked.now.words.items in
     let what : c.as_bytes-what.result.now ≡ asked_of job = c.as_bytes-what.ensures.value ∙ c.asked.ensures in
+    (c.requires.linked,
     subst (λ (b : Bool). HasPlace b job words (Some c.as_slice.result)) asks
     (rw c.as_slice.ensures.value
     (subst (λ (text : List ℕ). AreObjectSlots job.file.now (section_of job) words text c.in-Ok.slots.items) what
-    (rw (c.section_of.ensures, c.as_slice-words.ensures.value) at c.in-Ok.ensures.ok)))
+    (rw (c.section_of.ensures, c.as_slice-words.ensures.value) at c.in-Ok.ensures.ok))))
 
-pub returns-then-not-asks_place-clause-does : goal.returns-then-not-asks_place-clause-does
-returns-then-not-asks_place-clause-does g c =
-    let does = c.do_over.ensures.does in
-    Over c.args.linked.now does.0 c.requires.linked does.1 does.2
-
-pub returns-in-Ok-clause-does : goal.returns-in-Ok-clause-does
-returns-in-Ok-clause-does g c =
-    let does = c.do_over-in-Ok.ensures.does in
-    Over c.args.linked.now does.0 c.requires.linked does.1 does.2
+-- one that asks about a place tells branches
+tells : (a b c : Bool) → (a && b) ≡ true → (a || c) ≡ true
+tells true b c e = refl
+tells false b c e = absurd cc
 
 pub returns-in-Err-clause-does : goal.returns-in-Err-clause-does
 returns-in-Err-clause-does g c =
     let told = c.refuse.ensures.told in
-    let asks = sym c.asks_place.ensures ∙ c.if-not-asks_place.false in
+    let asks = tells _ _ _ (sym c.asks_place.ensures ∙ c.if-not-asks_place.false) in
     Unlinked c.in-Err.why told.0 (inr (inr (asks, rw c.section_of.ensures at c.in-Err.ensures.err))) told.1 refl refl told.2 c.refuse.ensures.value

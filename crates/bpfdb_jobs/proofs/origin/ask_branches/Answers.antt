@@ -12,8 +12,8 @@ tell-requires g c =
     let a = c.requires.arrived in
     let h = a.at.point.history in
     rw c.as_slice.ensures.value
-    (branches-behind job c.args.arrived.timeline c.args.arrived.moves a c.question_of-question.result c.args.parts.now c.in-Ok.found c.requires.parts c.requires.branches
-    (c.question_of-question.ensures h a.held) (c.in-Ok.ensures h a.held))
+    (branches-behind job c.args.arrived.timeline c.args.arrived.moves a c.question_of.result c.args.parts.now c.in-Ok.found c.requires.parts c.requires.branches
+    (c.question_of.ensures h a.held) (c.in-Ok.ensures h a.held))
 
 pub returns-in-Err-clause-does : goal.returns-in-Err-clause-does
 returns-in-Err-clause-does g c =

@@ -28,6 +28,7 @@ returns-in-Ok-written-clause-does g c =
       goals = p.goals;
       question = record { addresses = job.options.addresses; lines = job.options.lines; opening = c.len.result == at.moves };
       alone = job.options.alone;
+      places = job.places;
     } in
     let as-asked = ap (λ (m : ℕ). record q { question = record q.question { opening = m == at.moves } }) (c.len.ensures h c.requires.held) in
     let flags = subst (λ (flags : List Bool). AreGoals x.program p.goals flags) (sym c.as_slice.ensures.value) p.flags in
@@ -50,6 +51,7 @@ returns-clause-does g c =
       goals = p.goals;
       question = record { addresses = job.options.addresses; lines = job.options.lines; opening = c.len.result == at.moves };
       alone = job.options.alone;
+      places = job.places;
     } in
     let as-asked = ap (λ (m : ℕ). record q { question = record q.question { opening = m == at.moves } }) (c.len.ensures h c.requires.held) in
     let flags = subst (λ (flags : List Bool). AreGoals x.program p.goals flags) (sym c.as_slice.ensures.value) p.flags in

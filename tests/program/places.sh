@@ -1,0 +1,134 @@
+# The places of branches in C: with --object the lines of `trace --branches`, the branches of `origin --branches` and the branch of `whynot` end with them. By
+# hand from the lines of tests/program/places/branches.c; and of other objects each line is held against what `lines` tells of its slot.
+
+# places ARGUMENT..: the places of the branches that are told, a line each.
+places() {
+    "$program" "$@" > found/out 2> found/err || complain "$*: $(cat found/err)"
+    sed -n 's/^-*[0-9]* [0-9]*: j.*; \(in .*\)$/\1/p' found/out
+}
+
+# stands PLACES ARGUMENT..: these are told, in this order, and each branch has one.
+stands() {
+    wanted=$1
+    shift
+    count=$((count + 1))
+    [ "$(places "$@")" = "$wanted" ] || complain "$*: $(cat found/out)"
+    [ "$(grep -c '^-*[0-9]* [0-9]*: j' found/out)" = "$(echo "$wanted" | wc -l)" ] || complain "$*: not each has a place: $(cat found/out)"
+}
+
+# held OBJECT OPTION..: each branch of a run has the place that `lines` tells of its slot, or none where that tells none.
+held() {
+    object=$1
+    shift
+    "$program" lines --object "$@" "$object" > rows 2> found/err || complain "lines of $object: $(cat found/err)"
+    "$program" trace --branches --object --steps 20000 -m context "$@" "$object" > found/out 2> found/err
+    count=$((count + 1))
+    awk 'NR == FNR { slot = $1; name[slot] = $NF; sub(/^[0-9]* /, ""); sub(/ [^ ]*$/, ""); sub(/.*\//, ""); line[slot] = $0; next }
+        !/^[0-9]+ [0-9]+: j/ { next }
+        { slot = $2; sub(/:/, "", slot); wanted = line[slot] == "-" ? "" : "; in " name[slot] " (" line[slot] ")" }
+        wanted == "" && /; in / || wanted != "" && substr($0, length - length(wanted) + 1) != wanted { print; exit 1 }' rows found/out > found/wrong \
+        || complain "a place of $object $*: $(cat found/wrong)"
+    branches=$(grep -c '^[0-9]* [0-9]*: j' found/out)
+}
+
+# 48 is above 33, and 77 is the second byte; 32 isn't above 33.
+printf '0M\007\010\011' > context
+printf ' M\007\010\011' > low
+printf '0N\007\010\011' > other
+compilers=''
+if has_clang 'places of branches in C'; then
+    compilers=clang
+    command -v clang-19 > found/which && compilers='clang clang-19'
+fi
+for compiler in $compilers; do
+    for level in 1 2; do
+        "$compiler" -g -O$level -target bpf -c "$parts/places/branches.c" -o branches.o 2> found/err || complain "$compiler: branches.c: $(cat found/err)"
+        in_entry='in entry (branches.c:14)' in_kind='in kind (branches.c:7)'
+        stands "$in_entry
+$in_kind" trace --branches --object --entry entry -m context branches.o
+        stands "$in_entry" trace --branches --object --entry entry -m low branches.o
+        stands "$in_kind" trace --branches --object --entry kind -m other branches.o
+        # The newest first: the branch of the function that made the value, and that of its caller.
+        stands "$in_kind
+$in_entry" origin --branches --object --entry entry -m context branches.o
+        stands "$in_kind" whynot --alone --object --entry entry -m context branches.o branches.c:9
+        stands "$in_kind" whynot --alone --object --entry entry -m other branches.o branches.c:8
+        stands "$in_entry" whynot --alone --object --entry entry -m context branches.o branches.c:16
+        stands "$in_entry" whynot --alone --object --entry entry -m low branches.o kind
+
+        # Of programs in turn: the second one has its bytes from the second on.
+        stands "$in_entry
+$in_kind
+$in_kind" trace --branches --object --entry entry --entry kind@1 -m context branches.o
+
+        # Other lines have none: of a trace without --branches, of a move that is no branch, and of an edit.
+        count=$((count + 3))
+        "$program" trace --object --entry entry -m context branches.o | grep '; in ' && complain 'a step has a place'
+        "$program" origin --object --entry entry -m context branches.o | grep '; in ' && complain 'a move has a place'
+        end=$("$program" lines --object --entry entry branches.o | sed -n '$s/ .*//p')
+        echo "set pc $end" > path
+        "$program" whynot --object --entry entry --script path branches.o kind > found/out 2> found/err
+        [ "$(tail -n 1 found/out)" = "-1 edit; then at $end" ] || complain "an edit: $(cat found/out found/err)"
+
+        # As members of JSON, in the order of the line.
+        "$program" trace --json --branches --object --entry entry -m context branches.o > found/out
+        count=$((count + 1))
+        [ "$(grep -c '"way":"[a-z ]*","function":"[a-z]*","file":"branches.c","line":[0-9]*,"parts":\[' found/out)" = 2 ] || complain "as JSON: $(cat found/out)"
+        "$program" whynot --json --alone --object --entry entry -m context branches.o branches.c:9 > found/out
+        count=$((count + 1))
+        grep -q '"function":"kind","file":"branches.c","line":7,"parts":\[' found/out || complain "whynot as JSON: $(cat found/out)"
+    done
+
+    # Without -g the lines are those of the words.
+    "$compiler" -O2 -target bpf -c "$parts/places/branches.c" -o plain.o 2> found/err
+    "$program" link --entry entry plain.o > words
+    for asked in 'trace --branches' 'origin --branches'; do
+        # (words without blanks)
+        # shellcheck disable=SC2086
+        tells 0 "$("$program" $asked -m context words)\n" $asked --object --entry entry -m context plain.o
+    done
+
+    # Lines that can't be read are refused, where they would be told.
+    if has python3 'places of damaged objects'; then
+        python3 - branches.o broken.o << 'EOF'
+import struct, sys
+file = bytearray(open(sys.argv[1], 'rb').read())
+headers, size, count, names = struct.unpack_from('<Q', file, 40)[0], *struct.unpack_from('<3H', file, 58)
+sections = [struct.unpack_from('<2I4Q', file, headers + i * size) for i in range(count)]
+name = lambda section: bytes(file[sections[names][4] + section[0]:]).split(b'\0')[0]
+at = next(section[4] for section in sections if name(section) == b'.BTF.ext')
+struct.pack_into('<I', file, at + 20, 1 << 30)
+open(sys.argv[2], 'wb').write(file)
+EOF
+        "$program" lines --object --entry entry broken.o > found/out 2> wanted-line
+        grep -q '^refused E53' wanted-line || complain "broken.o: $(cat wanted-line)"
+        for asked in 'trace --branches' 'origin --branches' whynot; do
+            # shellcheck disable=SC2086
+            refused "$(cat wanted-line)" $asked --object --entry entry -m context broken.o $([ "$asked" != whynot ] || echo 1)
+        done
+        "$program" trace --object --entry entry -m context branches.o > wanted-trace
+        tells 0 "$(cat wanted-trace)\n" trace --object --entry entry -m context broken.o
+    fi
+
+    # Of other objects, by what `lines` tells: of one section, of programs in turn, and of a program that another object is joined to.
+    printf '\003\0\0\0\0\0\0\0\005\0\0\0\0\0\0\0' > context
+    held branches.o --entry entry
+    held branches.o --entry entry --entry kind@1
+    all=0
+    for source in "$parts"/c/*.c; do
+        "$compiler" -g -O2 -target bpf -c "$source" -o one.o 2> found/err || continue
+        section=prog
+        case $source in */line.c) section=filter ;; esac
+        held one.o --section $section
+        all=$((all + branches))
+    done
+    [ $all -gt 100 ] || complain "branches of tests/program/c: $all"
+    for name in program functions; do
+        "$compiler" -g -O2 -target bpf -c "$parts/join/$name.c" -o $name.o 2> found/err || complain "$compiler: $name.c: $(cat found/err)"
+    done
+    for section in time text trace cells; do
+        "$program" link --joined --section $section --with functions.o program.o > joined.o 2> found/err || complain "$section: $(cat found/err)"
+        held joined.o --section $section
+    done
+    printf '0M\007\010\011' > context
+done
