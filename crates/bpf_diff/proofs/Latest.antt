@@ -33,6 +33,7 @@ module _ (p : Place) (x : State) (xs : List State) where
   latest (suc m) here e rest = record { wrote = in-rest m rest; since = since-first (suc m) rest }
 
 pub law_latest : WritesAreLast
+unfolding last_write
 law_latest p [] =
     let none : last_write p [] ≡ 0 = refl in
     record { wrote = λ k d one. absurd (omega (arith, one, none)); since = λ k d low short. absurd (omega (arith, short)) }
