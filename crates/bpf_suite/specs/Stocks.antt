@@ -1,10 +1,12 @@
 -- The words that tests of a file share, and what is kept of them for the maps of each test.
-use Rattle.std.specs.Prelude.{ℕ, ◌≡◌, List, Option, Result, Ok, IfOk, IfSome}
+use Rattle.std.specs.Prelude.{ℕ, ◌≡◌, false, List, Option, Result, Ok, Err, IfOk, IfSome, OnErr, OnOk}
 use Rattle.bpf_isa.specs.Checker.{IsAccepted}
 use Rattle.bpf_isa.specs.declared.maps.MapShape.{MapShape}
 use Rattle.bpf_steps.specs.State.{State}
 use Rattle.bpf_text.specs.declared.fault.AsmFault.{AsmFault}
-use Rattle.bpf_suite.specs.Outcomes.{HasMaps, Outcome, Reads}
+use Rattle.bpf_suite.specs.Benches.{Loads}
+use Rattle.bpf_suite.specs.Outcomes.{HasMaps, Outcome, Reads, is_memory}
+use Rattle.bpf_suite.specs.declared.refusal.Refusal.{Refusal}
 use Rattle.bpf_suite.specs.declared.setting.Setting.{Setting}
 
 -- Bytes are the words, if there are words.
@@ -31,3 +33,17 @@ pub record AreAdmitted (t : Setting) (words : Result (List ℕ) AsmFault) (maps 
   pub reads : Reads t.is_listing t.program words
   pub named : HasMaps t.maps maps
   pub accepted : (those : List ℕ) × (words ≡ Ok those) × IsAccepted those maps
+
+-- A test's program is that of the words, and a machine, if there is one, stands on these.
+pub record IsToBring (t : Setting) (words : Result (List ℕ) AsmFault) (machine : Outcome) : Type 0 where
+  pub reads : Reads t.is_listing t.program words
+  pub stands : StandsOn words machine
+
+-- The machine is brought onto a test's program with its maps; or memory ran out, and it stays as it was.
+pub record Brings {E : Type 0} (t : Setting) (old new : Outcome) (result : Result (Unit {0}) E) : Type 0 where
+  pub loads : OnOk result (Loads t new)
+  pub same : OnErr result (new ≡ old)
+
+-- A refusal stands in the machine's place, and is not want of memory.
+abbrev pub IsRefusedBy : Refusal → Outcome → Type 0
+IsRefusedBy refusal machine = (machine ≡ Err refusal) × (is_memory refusal ≡ false)

@@ -9,7 +9,7 @@ ghost use Rattle.bpf_suite.specs.Covers.{Finds, IsFound, Notes};
 ghost use Rattle.bpf_suite.specs.Images.{HasImage};
 ghost use Rattle.bpf_suite.specs.Outcomes.{Comes, Reads};
 ghost use Rattle.bpf_suite.specs.Reports.{AreTold};
-ghost use Rattle.bpf_suite.specs.Stocks.{StandsOn};
+ghost use Rattle.bpf_suite.specs.Stocks.{Brings, IsToBring};
 ghost use Rattle.bpf_suite.specs.Tests.{body_for, cells as cells_of, has_listing, limit, limited, program as program_of, program_line, setting};
 ghost use Rattle.bpf_suite.specs.Verdicts.{wrong_cells};
 ghost use Rattle.bpf_suite.specs.declared.cells.Cell.{Cell};
@@ -392,11 +392,9 @@ fn bring(
     setting: &Setting<'_, '_>,
     stock: &mut Stock,
 ) -> Result<(), AllocError>
-    requires words { Reads setting.now.is_listing setting.now.program stock.old }
-    requires machine { StandsOn stock.old machine.old }
+    requires ready { IsToBring setting.now stock.old machine.old }
     requires stands { stands ≡ true → Loads setting.now machine.old }
-    ensures ok { OnOk result (Loads setting.now machine.new) }
-    ensures err { OnErr result (machine.new ≡ machine.old) }
+    ensures brings { Brings setting.now machine.old machine.new result }
     ensures same { stock.new ≡ stock.old }
 {
     if stands {

@@ -1,12 +1,11 @@
 //! The words that tests of a file share, and what is kept of them where tests have maps of their
 //! own.
-ghost use Rattle.std.specs.Prelude.{◌≡◌, Err, IfErr, IfNone, IfOk, IfSome, List, OnErr, OnOk, Result, false, ℕ};
+ghost use Rattle.std.specs.Prelude.{◌≡◌, IfErr, IfNone, IfOk, IfSome, OnErr, OnOk};
 ghost use Rattle.bpf_isa.specs.Checker.{IsAccepted, IsRefused};
 ghost use Rattle.bpf_isa.specs.Programs.{IsProgram};
 ghost use Rattle.bpf_suite.specs.Benches.{Loads, RefusesProgram};
-ghost use Rattle.bpf_suite.specs.Outcomes.{Reads, is_memory};
-ghost use Rattle.bpf_suite.specs.Stocks.{AreAdmitted, AsideOf, AskedOf, StandsOn};
-ghost use Rattle.bpf_text.specs.declared.fault.AsmFault.{AsmFault};
+ghost use Rattle.bpf_suite.specs.Outcomes.{Reads};
+ghost use Rattle.bpf_suite.specs.Stocks.{AreAdmitted, AsideOf, Brings, IsRefusedBy, IsToBring, StandsOn};
 
 use crate::outcome::{loaded, maps_of};
 use crate::refusal::Refusal;
@@ -62,43 +61,85 @@ impl Stock {
         machine: &mut Result<Cpu, Refusal>,
         setting: &Setting<'_, '_>,
     ) -> Result<(), AllocError>
-        requires words { Reads setting.now.is_listing setting.now.program self.old }
+        requires { IsToBring setting.now self.old machine.old }
+        ensures brings { Brings setting.now machine.old machine.new result }
+        ensures same { self.new ≡ self.old }
+    {
+        match self.admitted(alloc, setting)? {
+            Ok(maps) => self.stand(alloc, machine, setting, maps),
+            Err(refusal) => self.refuse(machine, refusal),
+        }
+    }
+
+    /// The maps of a test, if its words are accepted with them, or why there is no program of them.
+    fn admitted(
+        &mut self,
+        alloc: Global,
+        setting: &Setting<'_, '_>,
+    ) -> Result<Result<MapTable, Refusal>, AllocError>
+        requires { Reads setting.now.is_listing setting.now.program self.old }
+        ensures ok { IfOk result (λ maps. IfOk maps (AreAdmitted setting.now self.old)) }
+        ensures err { IfOk result (λ maps. IfErr maps (RefusesProgram setting.now)) }
+        ensures same { self.new ≡ self.old }
+    {
+        let maps = match maps_of(setting) {
+            Ok(maps) => maps,
+            Err(refusal) => return Ok(Err(refusal)),
+        };
+        let words = match &self.words {
+            Ok(words) => words,
+            Err(fault) => return Ok(Err(Refusal::Listing(*fault))),
+        };
+        match fault_with(alloc, words, &mut self.demands, &maps)? {
+            Some(fault) => Ok(Err(Refusal::Load(fault))),
+            None => Ok(Ok(maps)),
+        }
+    }
+
+    /// Brings a machine onto the words, which are accepted with these maps of a test: the one that
+    /// stands there, or that was set aside, or a new one.
+    fn stand(
+        &mut self,
+        alloc: Global,
+        machine: &mut Result<Cpu, Refusal>,
+        setting: &Setting<'_, '_>,
+        maps: MapTable,
+    ) -> Result<(), AllocError>
+        requires maps { AreAdmitted setting.now self.old maps }
         requires machine { StandsOn self.old machine.old }
-        ensures ok { OnOk result (Loads setting.now machine.new) }
+        ensures brings { Brings setting.now machine.old machine.new result }
+        ensures same { self.new ≡ self.old }
+    {
+        match machine {
+            Ok(cpu) => stand_again(alloc, cpu, maps),
+            Err(_) => {
+                *machine = standing(alloc, &self.words, &mut self.spare, setting, maps)?;
+                Ok(())
+            }
+        }
+    }
+
+    /// Puts a refusal in a machine's place, unless it is want of memory, and sets the machine aside.
+    fn refuse(
+        &mut self,
+        machine: &mut Result<Cpu, Refusal>,
+        refusal: Refusal,
+    ) -> Result<(), AllocError>
+        requires { StandsOn self.old machine.old }
+        ensures refused { OnOk result (IsRefusedBy refusal machine.new) }
         ensures err { OnErr result (machine.new ≡ machine.old) }
         ensures same { self.new ≡ self.old }
     {
-        match admitted(alloc, &self.words, &mut self.demands, setting)? {
-            Ok(maps) => stand(alloc, &self.words, &mut self.spare, machine, setting, maps),
-            Err(refusal) => refuse(&mut self.spare, machine, refusal),
+        if refusal.is_memory() {
+            return Err(AllocError);
         }
-    }
-}
-
-/// The maps of a test, if its words are accepted with them, or why there is no program of them.
-fn admitted(
-    alloc: Global,
-    words: &Result<Words, AsmFault>,
-    demands: &mut Option<Demands>,
-    setting: &Setting<'_, '_>,
-) -> Result<Result<MapTable, Refusal>, AllocError>
-    requires words { Reads setting.now.is_listing setting.now.program words.now }
-    requires asked { AskedOf words.now demands.old }
-    ensures ok { IfOk result (λ maps. IfOk maps (AreAdmitted setting.now words.now)) }
-    ensures err { IfOk result (λ maps. IfErr maps (RefusesProgram setting.now)) }
-    ensures asked { AskedOf words.now demands.new }
-{
-    let maps = match maps_of(setting) {
-        Ok(maps) => maps,
-        Err(refusal) => return Ok(Err(refusal)),
-    };
-    let words = match words {
-        Ok(words) => words,
-        Err(fault) => return Ok(Err(Refusal::Listing(*fault))),
-    };
-    match fault_with(alloc, words, demands, &maps)? {
-        Some(fault) => Ok(Err(Refusal::Load(fault))),
-        None => Ok(Ok(maps)),
+        match replace(machine, Err(refusal)) {
+            Ok(cpu) => {
+                self.spare = Some(cpu);
+                Ok(())
+            }
+            Err(_) => Ok(()),
+        }
     }
 }
 
@@ -128,32 +169,6 @@ fn demands_of(alloc: Global, words: &Words, kept: Option<Demands>) -> Result<Dem
     match kept {
         Some(demands) => Ok(demands),
         None => Demands::of(alloc, words.as_slice()),
-    }
-}
-
-/// Brings a machine onto words that are accepted with these maps of a test: the one that stands
-/// there, or that was set aside, or a new one.
-fn stand(
-    alloc: Global,
-    words: &Result<Words, AsmFault>,
-    spare: &mut Option<Cpu>,
-    machine: &mut Result<Cpu, Refusal>,
-    setting: &Setting<'_, '_>,
-    maps: MapTable,
-) -> Result<(), AllocError>
-    requires maps { AreAdmitted setting.now words.now maps }
-    requires machine { StandsOn words.now machine.old }
-    requires aside { AsideOf words.now spare.old }
-    ensures ok { OnOk result (Loads setting.now machine.new) }
-    ensures err { OnErr result (machine.new ≡ machine.old) }
-    ensures aside { AsideOf words.now spare.new }
-{
-    match machine {
-        Ok(cpu) => stand_again(alloc, cpu, maps),
-        Err(_) => {
-            *machine = standing(alloc, words, spare, setting, maps)?;
-            Ok(())
-        }
     }
 }
 
@@ -192,29 +207,5 @@ fn standing(
             Ok(Ok(cpu))
         }
         None => loaded(alloc, setting, words),
-    }
-}
-
-/// Puts a refusal in a machine's place, unless it is want of memory, and sets the machine aside.
-fn refuse(
-    spare: &mut Option<Cpu>,
-    machine: &mut Result<Cpu, Refusal>,
-    refusal: Refusal,
-) -> Result<(), AllocError>
-    ensures refused { OnOk result (machine.new ≡ Err refusal) }
-    ensures known { OnOk result (is_memory refusal ≡ false) }
-    ensures err { OnErr result (machine.new ≡ machine.old) }
-    ensures aside { (words : Result (List ℕ) AsmFault) → StandsOn words machine.old
-        → AsideOf words spare.old → AsideOf words spare.new }
-{
-    if refusal.is_memory() {
-        return Err(AllocError);
-    }
-    match replace(machine, Err(refusal)) {
-        Ok(cpu) => {
-            *spare = Some(cpu);
-            Ok(())
-        }
-        Err(_) => Ok(()),
     }
 }

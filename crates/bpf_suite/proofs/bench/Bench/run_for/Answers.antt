@@ -30,17 +30,17 @@ setting_of-setting-requires-clause-cells c =
     has mine (c.as_slice-2.ensures.value ∙ c.self.invariant.values) c.chosen-lines.ensures in
     ap (filter_map cell_of) lines ∙ ap cells (sym test)
 
-pub bring-requires-clause-words : goal.bring-requires-clause-words
-bring-requires-clause-words c =
+pub bring-requires-clause-ready : goal.bring-requires-clause-ready
+bring-requires-clause-ready c =
     let own = c.args.own.now in
     let shared = c.self.inside.shared.now in
     let here : shared ≡ c.args.self.now.sections = ap (λ (b : Shared). b.sections) c.self.view_is in
     let test : c.test-test.result ≡ own ++ shared = c.test-test.ensures ∙ ap (λ s. own ++ s) (sym here) in
     let same = c.setting_of-setting.ensures ∙ ap (λ s. limited c.args.limit (setting s)) test in
-    words-again own shared _ _ _ _ _ _ _ _ c.requires c.self.invariant same
-
-pub bring-requires-clause-machine : goal.bring-requires-clause-machine
-bring-requires-clause-machine c = stands-on c.self.inside.shared.now _ _ _ _ _ _ _ c.self.invariant
+    record {
+      reads = words-again own shared _ _ _ _ _ _ _ _ c.requires c.self.invariant same;
+      stands = stands-on shared _ _ _ _ _ _ _ c.self.invariant;
+    }
 
 pub bring-requires-clause-stands : goal.bring-requires-clause-stands
 bring-requires-clause-stands c =
@@ -60,7 +60,7 @@ run_on-requires c =
     let has = c.has_part-has_own.ensures ∙ ap (has_part part.Cells) c.own.view_is in
     let same = c.setting_of-setting.ensures ∙ ap (λ s. limited c.args.limit (setting s)) test in
     record {
-      loads = c.in_ok-bring.ensures.ok;
+      loads = c.in_ok-bring.ensures.brings.loads;
       image = λ yes. subst (λ cs. HasImage cs c.self.inside.image) (cells-shared own shared _ _ has (c.gets_shared-shares.ensures yes) same) c.self.invariant.image;
     }
 
