@@ -7,7 +7,7 @@ ghost use Rattle.bpf_trace.specs.Texts.{texts_of};
 ghost use Rattle.counted_io.specs.Writing.{WritesAfter};
 
 use crate::head::put_head;
-use crate::line::Line;
+use crate::line::{Line, ROOM};
 use crate::parts::add_value;
 use crate::texts::Texts;
 use bpf_isa::{Insn, Reg, Source};
@@ -135,7 +135,7 @@ fn put_ended<W: Write>(
     ensures { WritesAfter W.contents writer.old so_far writer.new result
         (line.old ++ place.now ++ codes "\n") }
 {
-    if line.len() + place.len() < 512 {
+    if place.len() < ROOM.saturating_sub(line.len()) {
         put_whole(line, place, writer, so_far)
     } else {
         put_parts(line, place, writer, so_far)
