@@ -11,12 +11,13 @@ do_asked-requires-in-Ok-clause-linked g c =
     let asks = sym (sym c.asks_place.ensures ∙ c.if-not-asks_place.false) in
     let job = c.args.job.now in
     let words = c.args.linked.now.words.items in
-    let what : c.as_bytes-what.result.now ≡ asked_of job = c.as_bytes-what.ensures.value ∙ c.asked.ensures in
-    (c.requires.linked,
-    subst (λ (b : Bool). HasPlace b job words (Some c.as_slice.result)) asks
-    (rw c.as_slice.ensures.value
-    (subst (λ (text : List ℕ). AreObjectSlots job.file.now (section_of job) words text c.in-Ok.slots.items) what
-    (rw (c.section_of.ensures, c.as_slice-words.ensures.value) at c.in-Ok.ensures.ok))))
+    let what : c.as_bytes-what.result.now ≡ asked_of job = c.as_bytes-what.ensures.value ∙ c.asked.ensures in (
+      c.requires.linked,
+      subst (λ (b : Bool). HasPlace b job words (Some c.as_slice.result)) asks
+          (rw c.as_slice.ensures.value
+          (subst (λ (text : List ℕ). AreObjectSlots job.file.now (section_of job) words text c.in-Ok.slots.items) what
+          (rw (c.section_of.ensures, c.as_slice-words.ensures.value) at c.in-Ok.ensures.ok))),
+    )
 
 -- one that asks about a place tells branches
 tells : (a b c : Bool) → (a && b) ≡ true → (a || c) ≡ true
