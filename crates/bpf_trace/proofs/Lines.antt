@@ -1,5 +1,5 @@
 -- Lines that are written one a turn.
-use Rattle.std.proofs.Common.{◌≡◌, ◌+◌, ◌-◌, ◌<◌, ℕ, suc, min, Bool, true, false, List, ◌++◌, drop, take, Option, Result, Ok, Err, sym, ap, subst, ◌∙◌, refl, arith, append_assoc, inl, inr}
+use Rattle.std.proofs.Common.{◌≡◌, ◌+◌, ◌-◌, ◌<◌, ℕ, suc, min, true, false, List, ◌++◌, drop, take, Option, Result, Ok, Err, sym, ap, subst, ◌∙◌, refl, arith, append_assoc, inl, inr}
 use Rattle.std.specs.Prelude.{OnOk}
 use Rattle.counted_io.specs.Counted.{Tally}
 use Rattle.counted_io.specs.Writing.{Writes, WritesAfter}
