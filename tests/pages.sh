@@ -216,7 +216,7 @@ same_words() {
 options() {
     {
         sed -n 's/.* long = Some (codes "\([a-z-]*\)").*/--\1/p' crates/bpfdb_cli/specs/CommandLine.antt
-        sed -n 's/.*\.short(.\([a-zA-Z]\).).*/-\1/p' crates/bpfdb_cli/src/command_line.rt
+        sed -n 's/.*ShortText(.\([a-zA-Z]\).).*/-\1/p' crates/bpfdb_cli/src/options.rt
         printf '%s\n' -h --help -V --version
     } | sort -u > "$work/sorted"
     awk -F ' *\\| *' '/^## / { inside = $0 == "## OPTIONS" } inside && NF > 3 && $2 ~ /`/ { print $2 }' docs/COMMANDS.md |

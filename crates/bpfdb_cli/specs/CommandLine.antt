@@ -1,5 +1,5 @@
 -- The command line as `clap` is told of it: fourteen subcommands, the options of each, and FILE.
-use Rattle.std.specs.Prelude.{Bool, [], ◌∷◌, Some, true, codes, if◌then◌else◌}
+use Rattle.std.specs.Prelude.{[], ◌∷◌, Some, true, codes}
 use Rattle.clap.specs.Words.{App, Rule, Text, new_app, new_rule, with_rule, with_subcommand}
 use Rattle.clap.specs.declared.builder.action.ArgAction.TheVariants.{Append, SetTrue}
 use Rattle.clap.specs.declared.builder.value_parser.ValueParser.TheVariants as vp
@@ -190,9 +190,6 @@ file_rule = record (new_rule (codes "file")) { required = true; value_names = 1 
 
 abbrev pub shared_file_rule : Rule
 shared_file_rule = record (new_rule (codes "file")) { value_names = 1; defaults = codes "/dev/null" ∷ [] }
-
-abbrev pub file_rule_if : Bool → Rule
-file_rule_if is_needed = if is_needed then file_rule else shared_file_rule
 
 -- What is asked of the link of an object.
 abbrev pub with_link_rules : App → App

@@ -4,6 +4,7 @@
 
 mod command_line;
 mod help;
+mod options;
 mod planner;
 mod plans;
 mod subcommands;

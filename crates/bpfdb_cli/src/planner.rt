@@ -7,7 +7,7 @@ ghost use Rattle.clap.specs.Words.{Row, Text, first_of, found_of, rows_of, subco
 ghost use Rattle.bpfdb_limits.specs.Limits.{IsLimit};
 ghost use Rattle.bpfdb_options.specs.Lines.{most_further};
 ghost use Rattle.bpfdb_cli.specs.Scaffolding.{AskAlike};
-ghost use Rattle.bpfdb_cli.specs.Plans.{AreInRange, Chooses, HasKindIfTold, IsFaultOf, IsPlan, IsPlanOf, NamesPart, NamesRegisters, Says, Tells, asks_of_link, counts_strictly, go_together, is_given, link_fits, names_other, number_or, other_in, run_fits, given_or, NamesPacket, counts_in, entries_fit, further_in, has_offset, graph_fits, is_json_graph, is_json_tracefile, most_counts, names_side, writes_fit, shows_json, told_fits};
+ghost use Rattle.bpfdb_cli.specs.Plans.{AreInRange, Chooses, HasKindIfTold, IsFaultOf, IsNumber, IsPlan, IsPlanOf, NamesPart, NamesRegisters, Says, Tells, asks_of_link, counts_strictly, go_together, is_given, link_fits, names_other, number_or, other_in, run_fits, given_or, NamesPacket, counts_in, entries_fit, further_in, has_offset, graph_fits, is_json_graph, is_json_tracefile, most_counts, names_side, writes_fit, shows_json, told_fits};
 
 use crate::command_line::command_line;
 use crate::plans::{MOST_COUNTS, Plan, PlanFault};
@@ -187,8 +187,8 @@ fn plan_in<'a>(name: &'a str, found: &ArgMatches<'a>) -> Result<Plan<'a>, &'stat
         turns,
         counts,
         options,
-        json: is_given(text_of(found, "json")),
-        dot: is_given(text_of(found, "dot")),
+        json: is_given(found, "json"),
+        dot: is_given(found, "dot"),
     })
 }
 
@@ -243,28 +243,28 @@ fn misfit_of_graph(name: &str, found: &ArgMatches<'_>) -> Option<&'static str>
 fn shows_json(found: &ArgMatches<'_>) -> bool
     ensures { result ≡ shows_json (rows_of (found_of found.now)) }
 {
-    text_of(found, "show").is_some() && is_given(text_of(found, "json"))
+    has_text(found, "show") && is_given(found, "json")
 }
 
 /// Whether a tracefile is to be JSON.
 fn is_json_tracefile(found: &ArgMatches<'_>) -> bool
     ensures { result ≡ is_json_tracefile (rows_of (found_of found.now)) }
 {
-    is_given(text_of(found, "cover-info")) && is_given(text_of(found, "json"))
+    is_given(found, "cover-info") && is_given(found, "json")
 }
 
 /// Whether a graph is to be JSON.
 fn is_json_graph(found: &ArgMatches<'_>) -> bool
     ensures { result ≡ is_json_graph (rows_of (found_of found.now)) }
 {
-    is_given(text_of(found, "dot")) && is_given(text_of(found, "json"))
+    is_given(found, "dot") && is_given(found, "json")
 }
 
 /// Whether the steps of a strict run are to be counted.
 fn counts_strictly(found: &ArgMatches<'_>) -> bool
     ensures { result ≡ counts_strictly (rows_of (found_of found.now)) }
 {
-    is_given(text_of(found, "strict")) && is_given(text_of(found, "profile"))
+    is_given(found, "strict") && is_given(found, "profile")
 }
 
 /// Why what is asked of runs and of a link doesn't go together, if it doesn't.
@@ -290,7 +290,7 @@ fn misfit_of_writes(name: &str, found: &ArgMatches<'_>) -> Option<&'static str>
     ensures some { OnSome result ((writes_fit (rows_of (found_of found.now))
         && link_fits name.now (rows_of (found_of found.now))) ≡ false) }
 {
-    if is_given(text_of(found, "writes")) && text_of(found, "trace").is_some() {
+    if is_given(found, "writes") && has_text(found, "trace") {
         Some(WRITES_AND_TRACE)
     } else {
         misfit_of_link(name, found)
@@ -330,12 +330,12 @@ fn counts_fit(found: &ArgMatches<'_>) -> bool
 fn misfit_of_other(found: &ArgMatches<'_>) -> Option<&'static str>
     ensures { is_some result ≡ not (names_other (rows_of (found_of found.now))) }
 {
-    if text_of(found, "other").is_some() {
-        if text_of(found, "other-mem").is_some() {
+    if has_text(found, "other") {
+        if has_text(found, "other-mem") {
             Some(TWO_OTHERS)
-        } else if text_of(found, "trace").is_some() {
+        } else if has_text(found, "trace") {
             Some(OTHER_AND_TRACE)
-        } else if is_given(text_of(found, "object")) {
+        } else if is_given(found, "object") {
             Some(OBJECT_AND_OTHER)
         } else {
             None
@@ -349,13 +349,16 @@ fn misfit_of_other(found: &ArgMatches<'_>) -> Option<&'static str>
 fn misfit_of_side(found: &ArgMatches<'_>) -> Option<&'static str>
     ensures { is_some result ≡ not (names_side (rows_of (found_of found.now))) }
 {
-    match (
-        text_of(found, "other-mem").is_some(),
-        text_of(found, "trace").is_some(),
-    ) {
-        (true, true) => Some(CONTEXT_AND_TRACE),
-        (false, false) => Some(NO_OTHER),
-        _ => None,
+    if has_text(found, "other-mem") {
+        if has_text(found, "trace") {
+            Some(CONTEXT_AND_TRACE)
+        } else {
+            None
+        }
+    } else if has_text(found, "trace") {
+        None
+    } else {
+        Some(NO_OTHER)
     }
 }
 
@@ -364,7 +367,7 @@ fn misfit_of_link(name: &str, found: &ArgMatches<'_>) -> Option<&'static str>
     ensures none { IfNone result (link_fits name.now (rows_of (found_of found.now)) ≡ true) }
     ensures some { OnSome result (link_fits name.now (rows_of (found_of found.now)) ≡ false) }
 {
-    if is_given(text_of(found, "object")) {
+    if is_given(found, "object") {
         misfit_with_object(found)
     } else if name == "link" {
         None
@@ -380,9 +383,9 @@ fn misfit_with_object(found: &ArgMatches<'_>) -> Option<&'static str>
     ensures { is_some result ≡ not (not (is_given (first_of (codes "listing") (rows_of (found_of found.now))))
         && not (is_some (first_of (codes "maps") (rows_of (found_of found.now))))) }
 {
-    if is_given(text_of(found, "listing")) {
+    if is_given(found, "listing") {
         Some(OBJECT_AND_LISTING)
-    } else if text_of(found, "maps").is_some() {
+    } else if has_text(found, "maps") {
         Some(OBJECT_AND_MAPS)
     } else {
         None
@@ -391,7 +394,7 @@ fn misfit_with_object(found: &ArgMatches<'_>) -> Option<&'static str>
 
 /// What is said of something that is asked of a link where no object is linked.
 fn without_object(found: &ArgMatches<'_>) -> &'static str {
-    if text_of(found, "with").is_some() {
+    if has_text(found, "with") {
         WITH_NO_OBJECT
     } else {
         NO_OBJECT
@@ -402,10 +405,10 @@ fn without_object(found: &ArgMatches<'_>) -> &'static str {
 fn asks_of_link(found: &ArgMatches<'_>) -> bool
     ensures { result ≡ asks_of_link (rows_of (found_of found.now)) }
 {
-    let chooses = text_of(found, "section").is_some() || text_of(found, "entry").is_some();
-    let adds = text_of(found, "with").is_some() || text_of(found, "entries").is_some();
-    let leaves = is_given(text_of(found, "as-compiled")) || adds;
-    chooses || (text_of(found, "stub").is_some() || leaves)
+    let chooses = has_text(found, "section") || has_text(found, "entry");
+    let adds = has_text(found, "with") || has_text(found, "entries");
+    let leaves = is_given(found, "as-compiled") || adds;
+    chooses || (has_text(found, "stub") || leaves)
 }
 
 /// The options of a subcommand's matches. None where a number is out of its range, or a name none
@@ -418,49 +421,43 @@ fn options_in<'a>(found: &ArgMatches<'a>) -> Option<Options<'a>>
     ensures limit { IfSome result (λ options. IsLimit options.limit) }
 {
     let journal = number_or(text_of(found, "journal"), DEFAULT_JOURNAL)?;
-    let limit = number_or(text_of(found, "steps"), DEFAULT_LIMIT)?;
-    let lines = number_or(text_of(found, "lines"), DEFAULT_LINES)?;
+    let limit = limit_or(text_of(found, "steps"), DEFAULT_LIMIT)?;
+    let lines = limit_or(text_of(found, "lines"), DEFAULT_LINES)?;
     let from = number_or(text_of(found, "from"), 1)?;
     let count = number_or(text_of(found, "count"), GREATEST_COUNT)?;
     let registers = registers_of(text_of(found, "registers"))?;
     let packet = packet_of(text_of(found, "packet"))?;
     let show = part_of(text_of(found, "show"))?;
-    if !is_limit(limit) {
-        return None;
-    }
-    if !is_limit(lines) {
-        return None;
-    }
     Some(Options {
         maps: text_of(found, "maps"),
         journal,
         limit,
         from,
         count,
-        only_branches: is_given(text_of(found, "branches")),
-        is_profile: is_given(text_of(found, "profile")),
-        is_strict: is_given(text_of(found, "strict")),
-        is_listing: is_given(text_of(found, "listing")),
-        is_object: is_given(text_of(found, "object")),
+        only_branches: is_given(found, "branches"),
+        is_profile: is_given(found, "profile"),
+        is_strict: is_given(found, "strict"),
+        is_listing: is_given(found, "listing"),
+        is_object: is_given(found, "object"),
         section: text_of(found, "section"),
         entry: text_of(found, "entry"),
         stubs: text_of(found, "stub"),
-        as_compiled: is_given(text_of(found, "as-compiled")),
+        as_compiled: is_given(found, "as-compiled"),
         packet,
-        is_joined: is_given(text_of(found, "joined")),
+        is_joined: is_given(found, "joined"),
         registers,
         what: text_of(found, "what"),
         lines,
-        addresses: is_given(text_of(found, "addresses")),
-        alone: is_given(text_of(found, "alone")),
-        other_is_context: text_of(found, "other-mem").is_some(),
-        other_is_trace: text_of(found, "trace").is_some(),
-        compares_writes: is_given(text_of(found, "writes")),
+        addresses: is_given(found, "addresses"),
+        alone: is_given(found, "alone"),
+        other_is_context: has_text(found, "other-mem"),
+        other_is_trace: has_text(found, "trace"),
+        compares_writes: is_given(found, "writes"),
         only: text_of(found, "only"),
         show,
-        covers: is_given(text_of(found, "cover")),
-        is_tracefile: is_given(text_of(found, "cover-info")),
-        anywhere: is_given(text_of(found, "anywhere")),
+        covers: is_given(found, "cover"),
+        is_tracefile: is_given(found, "cover-info"),
+        anywhere: is_given(found, "anywhere"),
     })
 }
 
@@ -616,11 +613,30 @@ fn number_or(text: Option<&str>, default: u64) -> Option<u64>
     }
 }
 
-/// Whether a flag was given.
-fn is_given(text: Option<&str>) -> bool
-    ensures { result ≡ is_given (option_map (λ t. t.now) text.entry) }
+/// The same of steps or lines; None also where they are none or too many.
+fn limit_or(text: Option<&str>, default: u64) -> Option<u64>
+    ensures found { IfSome result (λ number. number
+        ≡ number_or default (option_map (λ t. t.now) text.entry)) }
+    ensures limit { IfSome result IsLimit }
+    ensures none { IfNone result (IsNumber (option_map (λ t. t.now) text.entry) →
+        IsLimit (number_or default (option_map (λ t. t.now) text.entry)) → ⊥) }
 {
-    match text {
+    let number = number_or(text, default)?;
+    if is_limit(number) { Some(number) } else { None }
+}
+
+/// Whether an argument has a text.
+fn has_text(found: &ArgMatches<'_>, id: &str) -> bool
+    ensures { result ≡ is_some (first_of id.now (rows_of (found_of found.now))) }
+{
+    text_of(found, id).is_some()
+}
+
+/// Whether a flag was given.
+fn is_given(found: &ArgMatches<'_>, id: &str) -> bool
+    ensures { result ≡ is_given (first_of id.now (rows_of (found_of found.now))) }
+{
+    match text_of(found, id) {
         None => false,
         Some(text) => text == "true",
     }

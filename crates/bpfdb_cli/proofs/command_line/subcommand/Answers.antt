@@ -1,10 +1,11 @@
-use Rattle.std.proofs.Common.{◌∙◌, ap₂, sym}
-use Rattle.std.proofs.lemmas.List.Sums.{fold_more}
-use Rattle.clap.specs.Words.{with_rule}
-use Rattle.bpfdb_cli.specs.Subcommands.{with_option}
+use Rattle.std.proofs.Common.{◌∙◌, ap, fold}
+use Rattle.std.proofs.lemmas.Result.{IfOk-weaker}
+use Rattle.clap.specs.Words.{App}
+use Rattle.bpfdb_cli.specs.Subcommands.{entry_app, with_option}
 use Rattle.bpfdb_cli.proofs.command_line.subcommand.Goals as goal
 
-pub loop-option-preserved : goal.loop-option-preserved
-loop-option-preserved c =
-    c.in_ok-command.ensures.shape c.argument_of.ensures.local ∙ ap₂ with_rule c.loop-option.invariant c.argument_of.ensures.value
-    ∙ sym (fold_more with_option _ c.args.entry.now.options.now c.loop-option.option-index _ c.loop-option-test.true)
+pub returns : goal.returns
+unfolding entry_app
+returns c =
+    IfOk-weaker c.with_options.result _ _ (λ command is. is ∙ ap (λ (app : App). fold with_option app c.args.entry.now.options.now) c.described.ensures)
+    c.with_options.ensures

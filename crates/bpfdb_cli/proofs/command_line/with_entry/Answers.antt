@@ -4,7 +4,7 @@ use Rattle.std.proofs.lemmas.Result.{IfOk-weaker}
 use Rattle.clap.specs.Words.{AddsSubcommand, App, app_of, with_subcommand}
 use Rattle.clap.specs.declared.builder.command.Command.{Command}
 use Rattle.bpfdb_cli.specs.Subcommands.{entry_app, with_option}
-use Rattle.bpfdb_cli.specs.declared.subcommands.CliOption.{CliOption}
+use Rattle.bpfdb_cli.specs.declared.options.CliOption.{CliOption}
 use Rattle.bpfdb_cli.specs.declared.subcommands.CliSubcommand.{CliSubcommand}
 use Rattle.bpfdb_cli.proofs.command_line.with_entry.Goals as goal
 
