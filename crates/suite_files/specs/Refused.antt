@@ -1,8 +1,7 @@
 -- Why no file of tests comes of one that names files: the first of its pieces in whose place nothing can stand.
 use Rattle.std.specs.Prelude.{ℕ, ◌≡◌, ◌⊎◌, ◌<◌, Bool, true, false, List, [], ◌++◌, Option, Some, None, get_or, length, ⊤}
-use Rattle.bpf_join.specs.declared.chain.ChainFault.{ChainFault}
 use Rattle.suite_files.specs.Asks.{Asks, AsksNothing}
-use Rattle.suite_files.specs.Links.{IsUnlinked}
+use Rattle.suite_files.specs.Links.{IsUnlinked, IsUntold}
 use Rattle.suite_files.specs.Replaced.{IsPut, ReadFirst, ReplacesFirst, capture_name, no_piece, packet_number}
 use Rattle.suite_files.specs.Shelves.{IsFile, IsNameFault}
 use Rattle.suite_files.specs.declared.asked.Asked.{Asked}
@@ -65,14 +64,18 @@ pub record LacksObject (bytes_at : List ℕ → Option (List ℕ)) (place : Plac
   pub others : ReadFirst bytes_at place asked.with.items (length asked.with.items) with
   pub why : IsCopyFault place asked.object fault
 
+-- (Or the table of its lines is wanted, and none comes of them.)
+abbrev pub IsUnmade : Bool → Asked → List ℕ → List (List ℕ) → PutFault → Type 0
+IsUnmade wanted asked object with (Named fault) = ⊥
+IsUnmade wanted asked object with (Link told) = IsUnlinked asked object with told ⊎ ((wanted ≡ true) × IsUntold asked object with told)
+IsUnmade wanted asked object with Memory = ⊤
+
 pub record HasNoProgram (bytes_at : List ℕ → Option (List ℕ)) (place : Place) (asked : Asked) (fault : PutFault) : Type 0 where
   pub object : List ℕ
   pub file : IsFile bytes_at place asked.object object
   pub with : List (List ℕ)
   pub others : ReadFirst bytes_at place asked.with.items (length asked.with.items) with
-  pub told : ChainFault
-  pub is_told : fault ≡ Link told
-  pub why : IsUnlinked asked object with told
+  pub why : IsUnmade place.lines asked object with fault
 
 abbrev pub IsOthersFault : (List ℕ → Option (List ℕ)) → Place → Asked → PutFault → Type 0
 IsOthersFault bytes_at place asked fault = (fault ≡ Memory) ⊎ LacksOther bytes_at place asked.with.items fault
