@@ -1,5 +1,5 @@
 -- A file of tests in which sections that name files are replaced by sections of what these hold.
-use Rattle.std.specs.Prelude.{ℕ, zero, suc, ◌≡◌, true, List, [], ◌∷◌, ◌++◌, Option, Some, drop, get_or, length, take}
+use Rattle.std.specs.Prelude.{ℕ, zero, suc, ◌≡◌, ◌≤◌, true, List, [], ◌∷◌, ◌++◌, Option, Some, drop, get_or, length, take}
 use Rattle.std.specs.List.{position_or_len}
 use Rattle.std.specs.Option.{option_and_then}
 use Rattle.counted_io.specs.Lines.{is_blank, trim_start}
@@ -7,13 +7,13 @@ use Rattle.counted_io.specs.Numerals.{as_u64, natural}
 use Rattle.suite_files.specs.Asks.{Asks}
 use Rattle.suite_files.specs.Links.{IsProgramOf, IsTableOf}
 use Rattle.suite_files.specs.Maps.{maps_text}
-use Rattle.suite_files.specs.Shelves.{IsFile}
+use Rattle.suite_files.specs.Shelves.{IsFile, most_files, path_of, with_names, with_path}
 use Rattle.suite_files.specs.declared.asked.Asked.{Asked}
 use Rattle.suite_files.specs.declared.linked.Made.{Made}
 use Rattle.suite_files.specs.declared.place.Place.{Place}
 use Rattle.suite_texts.specs.Captures.{packet_in}
 use Rattle.suite_texts.specs.Heads.{head_of}
-use Rattle.suite_texts.specs.Options.{is_empty}
+use Rattle.suite_texts.specs.Options.{is_empty, option_lines, values_of}
 use Rattle.suite_texts.specs.Pieces.{front, pieces}
 use Rattle.suite_texts.specs.Puts.{feeds, memory_text, with_lines, words_text}
 use Rattle.suite_texts.specs.declared.piece.Piece.{Piece}
@@ -89,6 +89,27 @@ ReplacesFirst bytes_at place all begun zero text = text ≡ begun
 ReplacesFirst bytes_at place all begun (suc n) text = (before : List ℕ) × ReplacesFirst bytes_at place all begun n before
     × (put : List ℕ) × IsPut bytes_at place (get_or all n no_piece).text put × (text ≡ before ++ put)
 
--- Each piece of a file is replaced, and what stands in front of them stays.
+-- The paths of the files that a piece names, in the order in which they are looked at, behind others; and those that the first n pieces name.
+abbrev pub with_objects : Place → List (List ℕ) → List (List ℕ) → List ℕ → List (List ℕ)
+with_objects place paths with object = with_path (with_names place paths with (length with)) (path_of place object)
+
+abbrev pub with_piece_by : Word → Place → List (List ℕ) → List ℕ → List (List ℕ)
+with_piece_by word.Object place paths piece = with_objects place paths (values_of word.With (option_lines piece)) (head_of piece).value
+with_piece_by word.MemFile place paths piece = with_path paths (path_of place (head_of piece).value)
+with_piece_by word.Packet place paths piece = with_path paths (path_of place (capture_name (head_of piece).value))
+with_piece_by _ place paths piece = paths
+
+abbrev pub with_piece : Place → List (List ℕ) → List ℕ → List (List ℕ)
+with_piece place paths piece = with_piece_by (head_of piece).word place paths piece
+
+abbrev pub paths_first : Place → List Piece → ℕ → List (List ℕ)
+paths_first place all zero = []
+paths_first place all (suc n) = with_piece place (paths_first place all n) (get_or all n no_piece).text
+
+abbrev pub NameFew : Place → List Piece → Type 0
+NameFew place all = length (paths_first place all (length all)) ≤ most_files
+
+-- Each piece of a file is replaced, and what stands in front of them stays. They name so many files at most.
 abbrev pub IsReplaced : (List ℕ → Option (List ℕ)) → Place → List ℕ → List ℕ → Type 0
-IsReplaced bytes_at place text all = ReplacesFirst bytes_at place (pieces text) (front text) (length (pieces text)) all
+IsReplaced bytes_at place text all =
+    ReplacesFirst bytes_at place (pieces text) (front text) (length (pieces text)) all × NameFew place (pieces text)

@@ -1,13 +1,14 @@
 //! What stands in place of a piece.
-ghost use Rattle.std.specs.Prelude.{◌≡◌, ◌++◌, ◌<◌, [], IfOk, IfErr, get_or, length};
+ghost use Rattle.std.specs.Prelude.{◌≡◌, ◌++◌, ◌<◌, [], IfOk, IfErr, OnOk, get_or, length};
 ghost use Rattle.suite_files.specs.Asks.{Asks};
 ghost use Rattle.suite_files.specs.Links.{IsProgramOf, IsTableOf, contents};
 ghost use Rattle.suite_files.specs.Refused.{IsAskedFault, IsCopyFault, IsMemoryFault, IsOthersFault, IsPacketFault, IsProgramFault, IsPutFault, IsUnmade, put_fault};
-ghost use Rattle.suite_files.specs.Replaced.{IsAskedProgram, IsMemoryPut, IsPacketPut, IsProgramPut, IsPut, ReadFirst, capture_name, packet_number, program_text};
-ghost use Rattle.suite_files.specs.Shelves.{AreRead, IsFile};
+ghost use Rattle.suite_files.specs.Replaced.{IsAskedProgram, IsMemoryPut, IsPacketPut, IsProgramPut, IsPut, ReadFirst, capture_name, packet_number, program_text, with_objects, with_piece, with_piece_by};
+ghost use Rattle.suite_files.specs.Shelves.{AreRead, IsFile, IsShelf, path_of, paths_on, with_names, with_path};
 ghost use Rattle.suite_texts.specs.Heads.{head_of};
 ghost use Rattle.suite_texts.specs.Options.{is_empty};
 ghost use Rattle.suite_texts.specs.Puts.{feeds, memory_text};
+ghost use Rattle.suite_texts.specs.declared.word.Word.TheVariants as word;
 
 use crate::asked::{Asked, asked_of};
 use crate::fault::NamedFault;
@@ -85,8 +86,10 @@ fn put_memory<F: Opener>(
 ) -> Result<Vec<u8>, PutFault>
     requires { AreRead (F.bytes_at files.now) shelf.old.items }
     ensures ok { IfOk result (λ put. IsMemoryPut (F.bytes_at files.now) place.now piece.now put.items) }
-    ensures err { IfErr result (IsMemoryFault (is_empty piece.now) place.now (head_of piece.now).value) }
-    ensures read { AreRead (F.bytes_at files.now) shelf.new.items }
+    ensures err { IfErr result (IsMemoryFault (is_empty piece.now) place.now (paths_on shelf.old.items)
+        (head_of piece.now).value) }
+    ensures shelf { OnOk result (IsShelf (F.bytes_at files.now)
+        (with_piece_by word.MemFile place.now (paths_on shelf.old.items) piece.now) shelf.new.items) }
 {
     if !is_empty(piece) {
         return Err(PutFault::Named(NamedFault::Malformed));
@@ -126,8 +129,9 @@ fn put_packet<F: Opener>(
     requires { AreRead (F.bytes_at files.now) shelf.old.items }
     ensures ok { IfOk result (λ put. IsPacketPut (F.bytes_at files.now) place.now piece.now put.items) }
     ensures err { IfErr result (IsPacketFault (is_empty piece.now) (F.bytes_at files.now) place.now
-        (head_of piece.now).value) }
-    ensures read { AreRead (F.bytes_at files.now) shelf.new.items }
+        (paths_on shelf.old.items) (head_of piece.now).value) }
+    ensures shelf { OnOk result (IsShelf (F.bytes_at files.now)
+        (with_piece_by word.Packet place.now (paths_on shelf.old.items) piece.now) shelf.new.items) }
 {
     if !is_empty(piece) {
         return Err(PutFault::Named(NamedFault::Malformed));
@@ -159,8 +163,9 @@ fn copied<F: Opener>(
 ) -> Result<Vec<u8>, PutFault>
     requires { AreRead (F.bytes_at files.now) shelf.old.items }
     ensures ok { IfOk result (λ bytes. IsFile (F.bytes_at files.now) place.now name.now bytes.items) }
-    ensures err { IfErr result (IsCopyFault place.now name.now) }
-    ensures read { AreRead (F.bytes_at files.now) shelf.new.items }
+    ensures err { IfErr result (IsCopyFault place.now (paths_on shelf.old.items) name.now) }
+    ensures shelf { OnOk result (IsShelf (F.bytes_at files.now)
+        (with_path (paths_on shelf.old.items) (path_of place.now name.now)) shelf.new.items) }
 {
     match shelve(alloc, files, place, name, shelf) {
         Ok(at) => match Vec::from_slice(alloc, shelf[at].bytes.as_slice()) {
@@ -197,8 +202,11 @@ fn others_of<F: Opener>(
     requires { AreRead (F.bytes_at files.now) shelf.old.items }
     ensures ok { IfOk result (λ all. ReadFirst (F.bytes_at files.now) place.now asked.now.with.items
         (length asked.now.with.items) (contents all.items)) }
-    ensures err { IfErr result (IsOthersFault (F.bytes_at files.now) place.now asked.now) }
-    ensures read { AreRead (F.bytes_at files.now) shelf.new.items }
+    ensures err { IfErr result (IsOthersFault (F.bytes_at files.now) place.now
+        (paths_on shelf.old.items) asked.now) }
+    ensures shelf { OnOk result (IsShelf (F.bytes_at files.now)
+        (with_names place.now (paths_on shelf.old.items) asked.now.with.items
+        (length asked.now.with.items)) shelf.new.items) }
 {
     let mut all = Vec::new(alloc);
     let names = asked.with.as_slice();
@@ -252,8 +260,11 @@ fn asked_program<F: Opener>(
 ) -> Result<Made, PutFault>
     requires { AreRead (F.bytes_at files.now) shelf.old.items }
     ensures ok { IfOk result (IsAskedProgram (F.bytes_at files.now) place.now asked.now) }
-    ensures err { IfErr result (IsAskedFault (F.bytes_at files.now) place.now asked.now) }
-    ensures read { AreRead (F.bytes_at files.now) shelf.new.items }
+    ensures err { IfErr result (IsAskedFault (F.bytes_at files.now) place.now
+        (paths_on shelf.old.items) asked.now) }
+    ensures shelf { OnOk result (IsShelf (F.bytes_at files.now)
+        (with_objects place.now (paths_on shelf.old.items) asked.now.with.items
+        asked.now.object) shelf.new.items) }
 {
     let others = match others_of(alloc, files, place, asked, shelf) {
         Ok(others) => others,
@@ -284,8 +295,10 @@ fn put_asked<F: Opener>(
     requires asked { Asks piece.now asked.now }
     requires read { AreRead (F.bytes_at files.now) shelf.old.items }
     ensures ok { IfOk result (λ put. IsProgramPut (F.bytes_at files.now) place.now piece.now put.items) }
-    ensures err { IfErr result (IsProgramFault (F.bytes_at files.now) place.now piece.now) }
-    ensures read { AreRead (F.bytes_at files.now) shelf.new.items }
+    ensures err { IfErr result (IsProgramFault (F.bytes_at files.now) place.now
+        (paths_on shelf.old.items) piece.now) }
+    ensures shelf { OnOk result (IsShelf (F.bytes_at files.now)
+        (with_piece_by word.Object place.now (paths_on shelf.old.items) piece.now) shelf.new.items) }
 {
     match asked_program(alloc, files, place, asked, shelf) {
         Ok(made) => match program_put(alloc, piece, &made) {
@@ -306,8 +319,10 @@ fn put_program<F: Opener>(
 ) -> Result<Vec<u8>, PutFault>
     requires { AreRead (F.bytes_at files.now) shelf.old.items }
     ensures ok { IfOk result (λ put. IsProgramPut (F.bytes_at files.now) place.now piece.now put.items) }
-    ensures err { IfErr result (IsProgramFault (F.bytes_at files.now) place.now piece.now) }
-    ensures read { AreRead (F.bytes_at files.now) shelf.new.items }
+    ensures err { IfErr result (IsProgramFault (F.bytes_at files.now) place.now
+        (paths_on shelf.old.items) piece.now) }
+    ensures shelf { OnOk result (IsShelf (F.bytes_at files.now)
+        (with_piece_by word.Object place.now (paths_on shelf.old.items) piece.now) shelf.new.items) }
 {
     match asked_of(alloc, piece) {
         Ok(Some(asked)) => put_asked(alloc, files, place, piece, &asked, shelf),
@@ -326,8 +341,10 @@ pub fn put_piece<F: Opener>(
 ) -> Result<Vec<u8>, PutFault>
     requires { AreRead (F.bytes_at files.now) shelf.old.items }
     ensures ok { IfOk result (λ put. IsPut (F.bytes_at files.now) place.now piece.now put.items) }
-    ensures err { IfErr result (IsPutFault (F.bytes_at files.now) place.now piece.now) }
-    ensures read { AreRead (F.bytes_at files.now) shelf.new.items }
+    ensures err { IfErr result (IsPutFault (F.bytes_at files.now) place.now (paths_on shelf.old.items)
+        piece.now) }
+    ensures shelf { OnOk result (IsShelf (F.bytes_at files.now)
+        (with_piece place.now (paths_on shelf.old.items) piece.now) shelf.new.items) }
 {
     match head_of(piece).word {
         Word::Object => put_program(alloc, files, place, piece, shelf),
