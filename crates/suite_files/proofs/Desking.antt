@@ -1,5 +1,6 @@
 -- What was read and linked, as further pieces are put.
-use Rattle.std.proofs.Common.{◌≡◌, ◌∙◌, ◌≤◌, ◌+◌, [], ℕ, List, add-one, ap, arith, length, length-map, refl, subst, sym}
+use Rattle.std.proofs.Common.{◌≡◌, ◌∙◌, ◌≤◌, ◌+◌, [], ℕ, List, add-one, ap, arith, length, refl, subst, sym}
+use Rattle.std.proofs.lemmas.List.{length-map}
 use Rattle.std.specs.Prelude.{Option, get_or}
 use Rattle.std.specs.List.{All}
 use Rattle.suite_files.proofs.Naming.{piece-known, piece-others}
