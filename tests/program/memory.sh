@@ -298,6 +298,29 @@ while [ "$found" != 1 ] && [ "$request" -le "$most" ]; do
     request=$((request + 1))
 done
 said 'bpfdb test --cover-info' '10 lines\n1 lines\n2 lines\n3 lines\n'
+# The same by the lines of a source, which are put in order.
+printf -- '-- listing\nmov r0, 1\nexit\n-- lines\n0 b.c:2 f\n1 a.c:1 f\n-- result\n1\n' > lines.test
+: > met
+request=1 found=
+while [ "$found" != 0 ] && [ "$request" -le "$most" ]; do
+    for all in '' all; do
+        refuse "$request" "$all" test --cover-info lines.test
+        if [ "$found" = 0 ]; then
+            check "bpfdb test --cover-info of lines: request $request for memory refused, $all, and made again" 0 'TN:\nSF:a.c\nDA:1,1\nLF:1\nLH:1\nBRF:0\nBRH:0\nend_of_record\nTN:\nSF:b.c\nDA:2,1\nLF:1\nLH:1\nBRF:0\nBRH:0\nend_of_record\n' '1..1\nok 1\n'
+            continue
+        fi
+        lines=$(wc -l < found/err)
+        echo "$lines lines" >> met
+        case $lines in
+            1) reported= ;;
+            2) reported='1..1\n' ;;
+            *) reported='1..1\nok 1\n' ;;
+        esac
+        check "bpfdb test --cover-info of lines: request $request for memory refused, $all" 2 '' "$reported$plain"
+    done
+    request=$((request + 1))
+done
+said 'bpfdb test --cover-info of lines' '1 lines\n2 lines\n3 lines\n'
 wants "$plain" 0 'set cell 0 1 0102\ncontinue\n' '' test --show script --only b two.test
 wants "$plain" 0 '--maps=2x2\n--steps=1000000\n' '' test --show options --only a two.test
 wants "$plain" 0 'set reg r3 8\nset reg r4 1\ncontinue\n' '' test --show script kind.test
@@ -307,6 +330,7 @@ printf -- '-- object point.o\n-- stub 5=1\n-- mem-file bytes\n-- result\n3\n' > 
 "$program" link point.o > linked 2> told
 wants "${plain}refused E26: out of memory (the object in line 1)\n" 0 "$(od -An -v -b linked | tr -d '\n' | sed 's/ /\\0/g')" '' test --show program named.test
 wants "${plain}refused E26: out of memory (the object in line 1)\n" 0 'abc' '' test --show context named.test
+wants "${plain}refused E26: out of memory (the object in line 1)\n" 0 'abc' '' test --cover-info --show context named.test
 printf -- '-- listing\nexit\n-- packet %s 1\n-- result\n0\n' "$top/examples/xdp/packets.pcap" > named.test
 wants "$plain" 0 '--steps=1000000\n' '' test --anywhere --show options named.test
 wants "$plain" 2 '' 'cannot read missing\n' run missing

@@ -77,6 +77,10 @@ for name in ../outside "$PWD/outside" below/../../outside below/.. .. /; do
     fails 'refused T10 at line 1: file outside of the folder of the tests' "-- mem-file $name\n-- listing\nexit\n-- result\n0\n"
 done
 fails 'refused T10 at line 1: file outside of the folder of the tests' '-- object empty\n-- with ../outside\n-- result\n0\n'
+# (objects that are joined are looked at first, each by itself)
+fails 'refused T10 at line 1: file outside of the folder of the tests' '-- object\n-- with ../outside\n-- result\n0\n'
+fails "refused T11 at line 1: file can't be read" '-- object ../outside\n-- with missing\n-- result\n0\n'
+fails 'refused T10 at line 1: file outside of the folder of the tests' '-- object ../outside\n-- with empty\n-- result\n0\n'
 for name in ../outside "$PWD/outside" below/../../outside; do
     tests 0 '1..1\nok 1\n' "-- mem-file $name\n-- listing\nldxb r0, [r1+0]\nexit\n-- result\n100\n" --anywhere
 done

@@ -1,5 +1,5 @@
-# bpfdb test --cover-info: what ran as a tracefile of lcov on standard output, and the report on standard error. By hand, as lcov and genhtml read it, and
-# for tests at random against a machine and a reader of another form (tests/trials/tracefiles.py).
+# bpfdb test --cover-info: what ran as a tracefile of lcov on standard output, and the report on standard error. By hand, as lcov and genhtml read it, for
+# tests at random against a machine and a reader of another form (tests/trials/tracefiles.py), and for objects against other answers (tests/trials/sources.py).
 
 # Worked out by hand from the listing: without bytes r2 is 0, so line 2 jumps to line 8; with two bytes it goes on to line 4, which goes on; with three line 4
 # jumps. Line 9 jumps to the slot behind it: it has one way, and no branches. The wide load of line 3 is one instruction.
@@ -33,6 +33,32 @@ words() {
 }
 traces 'words' 0 '-- words\n9500000000000000\n-- result\n0\n' "$(words 1)" '1..1\nok 1\n'
 traces 'programs of tests, behind that which the others share' 0 "${covered}-- name\na\n-- words\n9500000000000000\n-- result\n0\n-- name\nb\n-- listing\nmov r0, 1\nexit\n-- result\n1\n$none" "$last$(words 13)${begun}DA:20,1\nDA:21,1\nLF:2\nLH:2\nBRF:0\nBRH:0\nend_of_record\n" '1..3\nok 1 - a\nok 2 - b\nok 3 - none\n'
+# Lines of a source that a section tells: without bytes slots 0, 3 and 4 run, and 1 and 2 don't.
+places='-- listing\njlt r2, 2, short\nmov r0, 5\nexit\nshort: mov r0, 1\nexit\n-- lines\n'
+file() {
+    printf 'TN:\\nSF:%s\\n' "$1"
+}
+totals() {
+    printf 'LF:%s\\nLH:%s\\nBRF:%s\\nBRH:%s\\nend_of_record\\n' "$1" "$2" "$3" "$4"
+}
+passes='1..1\nok 1\n'
+jumped='BRDA:1,0,0,0\nBRDA:1,0,1,1\n'
+traces 'files of a source, in the order of their names' 0 "${places}0 b.c:1 f\n1 b.c:8 f\n2 b.c:8 f\n3 a dir/a:c.c:3 -\n4 - f\n-- result\n1\n" "$(file 'a dir/a:c.c')DA:3,1\n$(totals 1 1 0 0)$(file b.c)DA:1,1\n${jumped}DA:8,0\n$(totals 2 1 2 1)" "$passes"
+traces 'slots of a line, in any order' 0 "${places}4 x.c:10 f\n2 x.c:9 f\n3 x.c:9 f\n1 x.c:1 f\n0 x.c:1 f\n-- result\n1\n" "$(file x.c)DA:1,1\n${jumped}DA:9,1\nDA:10,1\n$(totals 3 3 2 1)" "$passes"
+traces 'two jumps of a line' 0 '-- listing\njeq r2, 0, one\njeq r2, 1, one\nmov r0, 3\nexit\none: mov r0, 4\nexit\n-- lines\n0 x.c:5 f\n1 x.c:5 f\n2 x.c:6 f\n3 x.c:6 f\n4 x.c:7 f\n5 x.c:7 f\n-- name\na\n-- result\n4\n-- name\nb\n-- mem\n00\n-- result\n4\n' "$(file x.c)DA:5,1\nBRDA:5,0,0,1\nBRDA:5,0,1,1\nBRDA:5,1,0,0\nBRDA:5,1,1,1\nDA:6,0\nDA:7,1\n$(totals 3 2 4 3)" '1..2\nok 1 - a\nok 2 - b\n'
+traces 'blank rows, blanks, other numbers, and a slot that is not there' 0 "${places}\n 0 x.c:1 f \r\n\r\n\t0x1 x.c:0x2 f\f2 x.c:2 f\n9 x.c:4 f\n-- result\n1\n" "$(file x.c)DA:1,1\n${jumped}DA:2,0\nDA:4,0\n$(totals 3 1 2 1)" "$passes"
+traces 'a jump that did not run' 0 '-- listing\nmov r0, 1\nexit\njeq r2, 0, last\nmov r0, 2\nlast: exit\n-- lines\n2 x.c:3 f\n-- result\n1\n' "$(file x.c)DA:3,0\nBRDA:3,2,0,-\nBRDA:3,2,1,-\n$(totals 1 0 2 0)" "$passes"
+traces 'the second slot of an instruction' 0 '-- listing\nlddw r0, 1\nexit\n-- lines\n1 x.c:3 f\n2 x.c:4 f\n-- result\n1\n' "$(file x.c)DA:3,0\nDA:4,1\n$(totals 2 1 0 0)" "$passes"
+traces 'words with lines' 0 '-- words\n9500000000000000\n-- lines\n0 x.c:3 f\n-- result\n0\n' "$(file x.c)DA:3,1\n$(totals 1 1 0 0)" "$passes"
+traces 'lines of no place' 0 "${places}0 - f\n1 - -\n-- result\n1\n" '' "$passes"
+traces 'no lines at all' 0 "${places}-- result\n1\n" '' "$passes"
+traces 'a name that steers' 0 "${places}0 a\033b.c:1 f\n-- result\n1\n" "$(file 'a\\x1bb.c')DA:1,1\n$jumped$(totals 1 1 2 1)" "$passes"
+traces 'lines of the shared program alone' 0 "${places}0 s.c:1 f\n-- name\na\n-- words\n9500000000000000\n-- result\n0\n-- name\nb\n-- lines\n0 t.c:2 f\n-- result\n1\n" "$(file s.c)DA:1,1\n$jumped$(totals 1 1 2 1)$(words 11)" '1..2\nok 1 - a\nok 2 - b\n'
+traces "lines of a test's own program alone" 0 "${covered}-- name\na\n-- words\n9500000000000000\n-- lines\n0 t.c:2 f\n-- result\n0\n$none" "$last$(file t.c)DA:2,1\n$(totals 1 1 0 0)" '1..2\nok 1 - a\nok 2 - none\n'
+for each in 'x x.c:1 f' '-1 x.c:1 f' '18446744073709551616 x.c:1 f' 1 '1 f' '1 x.c:1' '1 x.c: f' '1 x.c:-1 f' '1 x.c:18446744073709551616 f' '1 :3 f' '1 x.c f' '0 x.c:1 f\n1'; do
+    traces "a row that is none: $each" 2 "-- listing\nexit\n-- lines\n$each\n-- result\n0\n" '' 'refused T4 at line 3: malformed section\n'
+done
+traces 'lines twice' 2 "${places}-- lines\n-- result\n0\n" '' 'refused T3 at line 8: section given twice\n'
 traces 'beside --cover' 0 "$covered$none" "$last" '1..1\nok 1 - none\n' --cover
 traces 'a part of a test' 0 "$covered$none" '--steps=1000000\n' '' --show options
 traces 'no test' 2 "$covered$none" '' 'refused T7: no test of this name: b\n' --only b
@@ -45,7 +71,67 @@ row 'bpfdb test --cover-info of a name with line feeds' 0 '' 'TN:\nSF:a\\x0aend_
 if has_clang 'bpfdb test --cover-info of an object'; then
     printf 'int f(void *context) { return 2; }\n' > two.c
     clang -g -O2 -target bpf -c two.c -o two.o 2> found/err || complain "two.c: $(cat found/err)"
-    traces 'an object' 0 '-- object two.o\n-- result\n2\n' "$(words 1)" '1..1\nok 1\n'
+    here=$(pwd -P)
+    traces 'an object' 0 '-- object two.o\n-- result\n2\n' "$(file "$here/two.c")DA:1,1\n$(totals 1 1 0 0)" "$passes"
+    clang -O2 -target bpf -c two.c -o plain.o 2> found/err || complain "two.c: $(cat found/err)"
+    traces 'an object without lines' 0 '-- object plain.o\n-- result\n2\n' '' "$passes"
+    traces 'an object with maps of the test' 0 '-- object two.o\n-- maps\n8x1\n-- result\n2\n' "$(file "$here/two.c")DA:1,1\n$(totals 1 1 0 0)" "$passes"
+    traces 'an object beside the lines of its test' 2 '-- object two.o\n-- lines\n0 x.c:1 f\n-- result\n2\n' '' 'refused T3 at line 2: section given twice\n'
+    # A function with a branch each way, and one that is never called, as docs/TESTS.md shows it: the lines that each byte runs.
+    cat > pick.c << 'END'
+static __attribute__((noinline)) int pick(int n)
+{
+    if (n > 2)
+        return 7;
+    return n + 1;
+}
+
+int never(int n)
+{
+    return n;
+}
+
+int verdict(unsigned char *bytes)
+{
+    return pick(bytes[0]);
+}
+END
+    clang -O0 -g -target bpf -c pick.c -o pick.o 2> found/err || complain "pick.c: $(cat found/err)"
+    few='-- name\nfew\n-- mem\n01\n-- result\n2\n' many='-- name\nmany\n-- mem\n05\n-- result\n7\n'
+    # runs NAME LINES TESTS: which lines of pick.c tests run.
+    runs() {
+        count=$((count + 1))
+        printf -- "-- object pick.o\n-- entry verdict\n$3" > pick.test
+        "$program" test --cover-info pick.test > cover.info 2> told || complain "pick.test: $1: $(cat told)"
+        [ "$(sed -n 's/^DA://p' cover.info | tr '\n' ' ')" = "$2 " ] || complain "pick.test: $1: $(cat cover.info)"
+    }
+    runs few '1,1 3,1 4,0 5,1 6,1 8,0 10,0 13,1 15,1' "$few"
+    runs many '1,1 3,1 4,1 5,0 6,1 8,0 10,0 13,1 15,1' "$many"
+    runs both '1,1 3,1 4,1 5,1 6,1 8,0 10,0 13,1 15,1' "$few$many"
+    # Each line of its record, by what else bpfdb tells of it, as it is compiled each way; and with tests that have the object alone, whose records come twice.
+    if has python3 'records of C'; then
+        grep -v -e '^int never' pick.c | sed '8,11d' > whole.c
+        for level in 0 1 2; do
+            count=$((count + 1))
+            clang "-O$level" -g -target bpf -c whole.c -o whole.o 2> found/err || complain "whole.c: $(cat found/err)"
+            printf -- "-- object whole.o\n$few$many" > whole.test
+            python3 "$top/tests/trials/sources.py" "$program" whole.o 01 05 > wanted.info 2> told || complain "whole.c at -O$level: $(cat told)"
+            "$program" test --cover-info whole.test > cover.info 2> told && cmp -s wanted.info cover.info || complain "whole.test at -O$level: $(cat told cover.info)"
+        done
+        count=$((count + 1))
+        printf -- "$few-- object whole.o\n$many-- object whole.o\n" > whole.test
+        for each in 01 05; do
+            python3 "$top/tests/trials/sources.py" "$program" whole.o "$each" || complain 'whole.c: a byte'
+        done > wanted.info
+        "$program" test --cover-info whole.test > cover.info 2> told && cmp -s wanted.info cover.info || complain "whole.test: $(cat told cover.info)"
+    fi
+    # What isn't asked for isn't made: without the option nothing is refused of an object whose list of lines is malformed.
+    count=$((count + 1))
+    damaged=$(python3 -c 'import sys; data = bytearray(open("two.o", "rb").read()); at = data.find(b"\x9f\xeb\x01\x00", data.find(b"\x9f\xeb\x01\x00") + 1); data[at + 16:at + 20] = b"\xff" * 4; open("bad.o", "wb").write(data)' 2>&1) || complain "bad.o: $damaged"
+    printf -- '-- object bad.o\n-- result\n2\n' > bad.test
+    "$program" test bad.test > told 2>&1 && [ "$(tail -n 1 told)" = 'ok 1' ] || complain "bad.test: $(cat told)"
+    "$program" test --cover-info bad.test > told 2> found/err
+    [ $? = 2 ] && [ ! -s told ] && grep -q '^refused E[0-9]*: .*(the object in line 1)$' found/err || complain "bad.test: $(cat told found/err)"
 fi
 
 # Where the output, or standard error, takes nothing.
@@ -78,6 +164,14 @@ if has genhtml 'tracefiles by lcov'; then
     printf -- "${covered}-- name\na\n-- words\n9500000000000000\n-- result\n0\n-- name\nb\n-- listing\nmov r0, 1\nexit\n-- result\n1\n$none" > covered.test
     "$program" test --cover-info covered.test > cover.info 2> /dev/null
     rates 'several programs of a file' '6 of 11' '1 of 4'
+    if [ -f pick.o ]; then
+        printf -- "-- object pick.o\n-- entry verdict\n$few" > pick.test
+        "$program" test --cover-info pick.test > cover.info 2> /dev/null
+        rates 'lines of C' '6 of 9' '1 of 2'
+        page=$(find pages -name pick.c.gcov.html)
+        grep -q 'lineNoCov.*return 7;' "$page" && grep -q 'lineCov.*return n + 1;' "$page" || complain "genhtml: no lines of C: $page"
+        rm -f pick.test whole.test bad.test
+    fi
     cp "$top"/examples/suite/*.test "$parts"/suites/*.test .
     for file in *.test; do
         "$program" test --cover-info "$file" > cover.info 2> /dev/null
@@ -102,7 +196,7 @@ if has python3 'tracefiles of tests at random'; then
     count=$((count + $(sed -n 's/^\([0-9]*\) trials$/\1/p' told)))
 fi
 
-# A program of 65,535 slots, and 10,000 tests of one program and with one each: the tracefile costs what the file is long.
+# A program of 65,535 slots, 10,000 tests of one program and with one each, and 100,000 places of as many files: the tracefile costs what the file is long.
 {
     printf -- '-- listing\n'
     yes 'mov r0, 1' | head -n 65534
@@ -134,7 +228,17 @@ echo 0 > wanted/status
     awk 'BEGIN { print "1..10000"; for (i = 1; i <= 10000; i++) print "ok " i " - x" }' > wanted/err
     run test --cover-info covered.test
     compare 'bpfdb test --cover-info of 10,000 programs'
+    {
+        printf -- '-- listing\nexit\n-- result\n0\n-- lines\n'
+        awk 'BEGIN { for (i = 0; i < 100000; i++) print i * 7919 % 100000 " f" i * 7919 % 100000 ".c:1 f" }'
+    } > covered.test
+    awk 'BEGIN { for (i = 0; i < 100000; i++) print "f" i ".c" }' | LC_ALL=C sort | awk '{
+        print "TN:\nSF:" $0 "\nDA:1," ($0 == "f0.c") "\nLF:1\nLH:" ($0 == "f0.c") "\nBRF:0\nBRH:0\nend_of_record"
+    }' > wanted/out
+    printf '1..1\nok 1\n' > wanted/err
+    run test --cover-info covered.test
+    compare 'bpfdb test --cover-info of 100,000 files'
     exit "$failures"
 )
 failures=$((failures + $?))
-count=$((count + 2))
+count=$((count + 3))

@@ -1,6 +1,6 @@
 """tracefiles.py BPFDB FOLDER: files of tests at random, written into FOLDER, whose programs are moves, sums, loads and jumps. A machine of its own runs
-them line by line of the file, and tells what `bpfdb test --cover-info` is to write; nothing of a program's words is known here. Says what differs, and
-how many were tried."""
+them line by line of the file, and tells what `bpfdb test --cover-info` is to write; nothing of a program's words is known here, but that a wide load has
+two slots, by which sections at random tell the lines of sources. Says what differs, and how many were tried."""
 import os
 import random
 import subprocess
@@ -8,6 +8,7 @@ import sys
 
 TRIALS, SEED = 1500, 9669
 MASK = (1 << 64) - 1
+FILES = ['b.c', 'a.c', 'a b:2.c', 'src/a.c', '/usr/a.c', 'ä.c']
 TESTS = {'jeq': lambda a, b: a == b, 'jne': lambda a, b: a != b, 'jlt': lambda a, b: a < b, 'jge': lambda a, b: a >= b, 'jset': lambda a, b: a & b != 0}
 
 
@@ -76,6 +77,49 @@ class Program:
         self.lines = listing(chance) if self.is_listing else []
         self.insns = [insn for _, insn in self.lines if insn] or [('exit',)]
         self.ran, self.met = set(), False
+        self.slots, slot = {}, 0
+        for at, insn in enumerate(self.insns):
+            self.slots[slot] = at
+            slot += 2 if insn[0] == 'lddw' else 1
+        self.rows = self.table(chance, slot) if chance.random() < 0.4 else None
+
+    def table(self, chance, end):
+        """Rows at random: slots, each with its file and its line, or None."""
+        rows = []
+        for slot in chance.sample(range(end + 2), chance.randrange(end + 3)):
+            place = (chance.choice(FILES[:chance.choice([1, 2, 6])]), chance.choice([1, 2, 3, 9, 10, 200]))
+            rows.append((slot, None if chance.random() < 0.1 else place))
+        return rows
+
+    def put_rows(self, chance, out):
+        out.append('-- lines')
+        for slot, place in self.rows:
+            out.extend([''] * chance.choice([0, 0, 0, 1]))
+            word = f'{place[0]}:{place[1]}' if place else '-'
+            out.append(f'{chance.choice(["", "", " "])}{chance.choice([str(slot), hex(slot)])} {word} {chance.choice(["f", "-"])}{chance.choice(["", " "])}')
+
+    def records(self):
+        """The records of the files of a source, by its rows."""
+        files, out = {}, []
+        for slot, place in self.rows:
+            if place:
+                files.setdefault(place[0], {}).setdefault(place[1], []).append(slot)
+        for name in sorted(files, key=str.encode):
+            out.extend(['TN:', 'SF:' + name])
+            hit = ways = taken = 0
+            for line, slots in sorted(files[name].items()):
+                at_slots = [(slot, self.slots.get(slot)) for slot in sorted(slots)]
+                ran = any(index in [at for _, at in at_slots if at is not None] for index, _ in self.ran)
+                hit += ran
+                out.append(f'DA:{line},{int(ran)}')
+                for slot, at in at_slots:
+                    if at is not None and self.insns[at][0] in TESTS and self.insns[at][3] != at + 1:
+                        all_ways = {way for index, way in self.ran if index == at}
+                        for branch, way in enumerate((False, True)):
+                            out.append(f'BRDA:{line},{slot},{branch},{int(way in all_ways) if all_ways else "-"}')
+                        ways, taken = ways + 2, taken + len(all_ways)
+            out.extend([f'LF:{len(files[name])}', f'LH:{hit}', f'BRF:{ways}', f'BRH:{taken}', 'end_of_record'])
+        return out
 
     def put(self, out):
         self.head = len(out) + 1
@@ -92,6 +136,8 @@ class Program:
     def record(self, name):
         if not self.met:
             return []
+        if self.rows is not None:
+            return self.records()
         if not self.is_listing:
             return [f'# the program in line {self.head} is no listing: it has no lines here']
         out, found, hit, ways, taken, at = ['TN:', 'SF:' + name], 0, 0, 0, 0, 0
@@ -115,6 +161,8 @@ def trial(chance, name):
     shared = Program(chance) if chance.random() < 0.8 else None
     if shared:
         shared.put(out)
+        if shared.rows is not None:
+            shared.put_rows(chance, out)
     programs = []
     for number in range(chance.randrange(1, 5)):
         out.extend(['-- name', f't{number}'])
@@ -129,6 +177,8 @@ def trial(chance, name):
             out.extend(section)
         if own:
             own.put(out)
+            if own.rows is not None:
+                own.put_rows(chance, out)
             programs.append(own)
         for section in sections[first:]:
             out.extend(section)
@@ -151,7 +201,7 @@ def main(program, folder):
         came = subprocess.run([program, 'test', '--cover-info', 'random.test'], cwd=folder, capture_output=True, timeout=60)
         if came.stdout.decode() != wanted or came.stderr != plain.stdout or came.returncode != plain.returncode:
             print(f'FAILED: tests/trials/tracefiles.py: trial {number}:\n{text}wanted:\n{wanted}came:\n{came.stdout.decode()}{came.stderr.decode()}')
-        for word in ('# the program', ',-', ',0,1,1', ',0,1,0', ',0,0,0'):
+        for word in ('# the program', ',-', ',0,1,1', ',0,1,0', ',0,0,0', 'SF:a b:2.c', 'SF:ä.c'):
             told[word] = told.get(word, 0) + (word in wanted)
     for word, times in told.items():
         if times < 50:

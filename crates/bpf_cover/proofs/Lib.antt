@@ -1,3 +1,5 @@
+pub mod Grouping
 pub mod Making
 pub mod Marks
+pub mod Placing
 pub mod Records

@@ -1,6 +1,6 @@
 -- What ran of a program as lcov has it in its tracefiles (geninfo(1)): of each line with an instruction whether that ran, and of each conditional
 -- jump which ways were taken. How often isn't kept: 1 is once or more.
-use Rattle.std.specs.Prelude.{ℕ, ◌+◌, ◌*◌, ◌&&◌, Bool, true, false, if◌then◌else◌, List, [], ◌∷◌, ◌++◌, count_by, decimal, flat_map, slice_get, Option, Some, None, codes}
+use Rattle.std.specs.Prelude.{ℕ, ◌+◌, ◌*◌, ◌&&◌, Bool, true, false, if◌then◌else◌, List, [], ◌++◌, count_by, decimal, flat_map, slice_get, Option, Some, None, codes}
 use Rattle.std.specs.Option.{option_and_then}
 use Rattle.counted_io.specs.Cuts.{after, before}
 use Rattle.counted_io.specs.Numerals.{as_u64, natural}
@@ -13,20 +13,20 @@ abbrev pub once : Bool → List ℕ
 once true = codes "1"
 once false = codes "0"
 
-abbrev pub line_text : ℕ → Mark → List ℕ
-line_text line mark = codes "DA:" ++ decimal line ++ codes "," ++ once (has_run mark) ++ codes "\n"
+abbrev pub line_text : ℕ → Bool → List ℕ
+line_text line ran = codes "DA:" ++ decimal line ++ codes "," ++ once ran ++ codes "\n"
 
--- A conditional jump has two branches, 0 where it goes on and 1 where it jumps. Neither is told of one that didn't run.
+-- A conditional jump has two branches, 0 where it goes on and 1 where it jumps, in a block of its line. Neither is told of one that didn't run.
 abbrev pub taken : Mark → Bool → List ℕ
 taken mark way = if has_run mark then once way else codes "-"
 
-abbrev pub ways_text : ℕ → Mark → List ℕ
-ways_text line mark =
-    codes "BRDA:" ++ decimal line ++ codes ",0,0," ++ taken mark mark.went_on ++ codes "\nBRDA:" ++ decimal line ++ codes ",0,1,"
-    ++ taken mark mark.jumped ++ codes "\n"
+abbrev pub ways_text : ℕ → ℕ → Mark → List ℕ
+ways_text line block mark =
+    codes "BRDA:" ++ decimal line ++ codes "," ++ decimal block ++ codes ",0," ++ taken mark mark.went_on ++ codes "\nBRDA:" ++ decimal line
+    ++ codes "," ++ decimal block ++ codes ",1," ++ taken mark mark.jumped ++ codes "\n"
 
-abbrev pub branches_text : ℕ → Mark → List ℕ
-branches_text line mark = if mark.forks then ways_text line mark else []
+abbrev pub branches_text : ℕ → ℕ → Mark → List ℕ
+branches_text line block mark = if mark.forks then ways_text line block mark else []
 
 -- The rows of a table of lines tell first the slot of an instruction and then its line, counted behind so many lines of its file.
 abbrev pub number_of : List ℕ → Option ℕ
@@ -39,7 +39,7 @@ abbrev pub line_in : ℕ → List ℕ → Option ℕ
 line_in head row = option_and_then (λ line. as_u64 (head + line)) (number_of (before 32 (after 32 row)))
 
 abbrev pub place_text : Option ℕ → Option Mark → List ℕ
-place_text (Some line) (Some mark) = line_text line mark ++ branches_text line mark
+place_text (Some line) (Some mark) = line_text line (has_run mark) ++ branches_text line 0 mark
 place_text (Some line) None = []
 place_text None mark = []
 
@@ -53,13 +53,16 @@ rows_text head marks rows = flat_map (row_text head marks) rows
 abbrev pub ways_taken : List Mark → ℕ
 ways_taken marks = count_by (λ mark. mark.forks && mark.went_on) marks + count_by (λ mark. mark.forks && mark.jumped) marks
 
-abbrev pub totals_text : List Mark → List ℕ
-totals_text marks =
-    codes "LF:" ++ decimal (count_by (λ mark. mark.starts) marks) ++ codes "\nLH:" ++ decimal (count_by has_run marks)
-    ++ codes "\nBRF:" ++ decimal (2 * count_by (λ mark. mark.forks) marks) ++ codes "\nBRH:" ++ decimal (ways_taken marks)
+abbrev pub totals_text : ℕ → ℕ → ℕ → ℕ → List ℕ
+totals_text lines ran forks taken =
+    codes "LF:" ++ decimal lines ++ codes "\nLH:" ++ decimal ran ++ codes "\nBRF:" ++ decimal (2 * forks) ++ codes "\nBRH:" ++ decimal taken
     ++ codes "\nend_of_record\n"
+
+abbrev pub totals_of : List Mark → List ℕ
+totals_of marks =
+    totals_text (count_by (λ mark. mark.starts) marks) (count_by has_run marks) (count_by (λ mark. mark.forks) marks) (ways_taken marks)
 
 -- The record of a program that stands in a file, behind so many lines of it, by the rows of its table of lines.
 unfoldable pub record_text : List ℕ → ℕ → List (List ℕ) → List Mark → List ℕ
 record_text file head rows marks =
-    codes "TN:\nSF:" ++ shown file ++ codes "\n" ++ rows_text head marks rows ++ totals_text marks
+    codes "TN:\nSF:" ++ shown file ++ codes "\n" ++ rows_text head marks rows ++ totals_of marks

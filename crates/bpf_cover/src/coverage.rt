@@ -1,15 +1,17 @@
 //! What ran of a program: of each slot whether some step went on from it, and whether some jumped.
-ghost use Rattle.std.specs.Prelude.{◌≡◌, ◌&&◌, ◌||◌, ◌++◌, ◌==◌, ◌+◌, IfOk, List, [], count_by, length, ◌≤◌};
+ghost use Rattle.std.specs.Prelude.{◌≡◌, ◌&&◌, ◌||◌, ◌++◌, ◌==◌, ◌+◌, IfOk, List, [], count_by, length, ◌≤◌, ℕ};
 ghost use Rattle.std.specs.Option.{option_map};
 ghost use Rattle.bpf_isa.specs.Programs.{Checked};
 ghost use Rattle.bpf_steps.specs.State.{State};
 ghost use Rattle.bpf_cover.specs.Coverage.{counts_line, covered, has_run, is_far, is_fork as is_fork_of, mark_at, marks_of, miss_line, missed, table_text, way_missed, went_both_ways};
 ghost use Rattle.bpf_cover.specs.Runs.{steps_of};
 ghost use Rattle.bpf_cover.specs.Marking.{IsMarked, stepped};
+ghost use Rattle.bpf_cover.specs.Sources.{AreRecords};
 ghost use Rattle.bpf_cover.specs.Tracefiles.{record_text};
 ghost use Rattle.counted_io.specs.Lines.{lines};
 ghost use Rattle.counted_io.specs.Writing.{WritesAfter};
 
+use crate::sources::put_records;
 use crate::texts::Texts;
 use crate::tracefile::put_record;
 use bpf_isa::{Insn, Program};
@@ -103,6 +105,22 @@ impl Coverage {
             (record_text file.now head (lines table.now) self.now.marks) }
     {
         put_record(writer, so_far, file, head, table, self.marks.as_slice())
+    }
+
+    /// Writes a record for each file of a program's source in a tracefile of lcov, by a table of where
+    /// its slots stand there ([`is_table`](crate::is_table)). Takes time in proportion to the length of
+    /// the table, times its logarithm.
+    pub fn put_records<W: Write>(
+        &self,
+        alloc: Global,
+        writer: &mut Counted<W>,
+        so_far: Result<(), WriteFault>,
+        table: &[u8],
+    ) -> Result<Result<(), WriteFault>, AllocError>
+        ensures { IfOk result (λ told. (text : List ℕ) × AreRecords self.now.marks table.now text
+            × WritesAfter W.contents writer.old so_far writer.new told text) }
+    {
+        put_records(alloc, writer, so_far, table, self.marks.as_slice())
     }
 }
 

@@ -2,7 +2,10 @@
 #![tactic(auto)]
 
 mod coverage;
+mod places;
+mod sources;
 mod texts;
 mod tracefile;
 
 pub use coverage::Coverage;
+pub use places::is_table;

@@ -1,8 +1,8 @@
 //! What ran of a program, as a record of lcov's tracefiles.
-ghost use Rattle.std.specs.Prelude.{◌≡◌, ◌&&◌, ◌*◌, ◌≤◌, count_by, length};
+ghost use Rattle.std.specs.Prelude.{◌≡◌, ◌&&◌, ◌<◌, ◌^◌, ◌≤◌, count_by, length};
 ghost use Rattle.counted_io.specs.Lines.{lines};
 ghost use Rattle.counted_io.specs.Writing.{WritesAfter};
-ghost use Rattle.bpf_cover.specs.Tracefiles.{branches_text, line_in, line_text, mark_in, number_of, once, place_text, record_text, row_text, rows_text, taken, totals_text, ways_taken, ways_text};
+ghost use Rattle.bpf_cover.specs.Tracefiles.{branches_text, line_in, line_text, mark_in, number_of, once, place_text, record_text, row_text, rows_text, taken, totals_of, totals_text, ways_taken, ways_text};
 
 use crate::coverage::{Mark, count_forks, count_run, count_starts, has_run};
 use counted_io::{Counted, Piece, WriteFault, natural, put, put_all, sides};
@@ -26,7 +26,7 @@ pub fn put_record<W: Write>(
     let named = put_shown(writer, begun, file);
     let headed = put(writer, named, b"\n");
     let told = put_rows(writer, headed, head, table, marks);
-    put_totals(writer, told, marks)
+    put_marked(writer, told, marks)
 }
 
 /// Writes what ran of the instructions of each row.
@@ -89,7 +89,7 @@ fn mark_in(marks: &[Mark], row: &[u8]) -> Option<Mark>
 }
 
 /// The number that a word is, None where it is none.
-fn number_of(word: &[u8]) -> Option<u64>
+pub fn number_of(word: &[u8]) -> Option<u64>
     ensures { result ≡ number_of word.now }
 {
     natural(word)?.to_u64()
@@ -106,23 +106,23 @@ fn put_place<W: Write>(
 {
     match (line, mark) {
         (Some(line), Some(mark)) => {
-            let told = put_line(writer, so_far, line, mark);
-            put_branches(writer, told, line, mark)
+            let told = put_line(writer, so_far, line, has_run(mark));
+            put_branches(writer, told, line, 0, mark)
         }
         _ => put(writer, so_far, b""),
     }
 }
 
-/// Writes whether the instruction of a line ran.
-fn put_line<W: Write>(
+/// Writes whether a line ran.
+pub fn put_line<W: Write>(
     writer: &mut Counted<W>,
     so_far: Result<(), WriteFault>,
     line: u64,
-    mark: Mark,
+    ran: bool,
 ) -> Result<(), WriteFault>
-    ensures { WritesAfter W.contents writer.old so_far writer.new result (line_text line mark) }
+    ensures { WritesAfter W.contents writer.old so_far writer.new result (line_text line ran) }
 {
-    let ran = once(has_run(mark));
+    let ran = once(ran);
     let pieces = [
         Piece::Text(b"DA:"),
         Piece::Decimal(line),
@@ -133,18 +133,20 @@ fn put_line<W: Write>(
     put_all(writer, so_far, &pieces)
 }
 
-/// Writes which ways the conditional jump of a line went; nothing of another instruction.
-fn put_branches<W: Write>(
+/// Writes which ways the conditional jump of a line went, as a block of this number; nothing of
+/// another instruction.
+pub fn put_branches<W: Write>(
     writer: &mut Counted<W>,
     so_far: Result<(), WriteFault>,
     line: u64,
+    block: u64,
     mark: Mark,
 ) -> Result<(), WriteFault>
     ensures { WritesAfter W.contents writer.old so_far writer.new result
-        (branches_text line mark) }
+        (branches_text line block mark) }
 {
     if mark.forks {
-        put_ways(writer, so_far, line, mark)
+        put_ways(writer, so_far, line, block, mark)
     } else {
         put(writer, so_far, b"")
     }
@@ -155,20 +157,26 @@ fn put_ways<W: Write>(
     writer: &mut Counted<W>,
     so_far: Result<(), WriteFault>,
     line: u64,
+    block: u64,
     mark: Mark,
 ) -> Result<(), WriteFault>
-    ensures { WritesAfter W.contents writer.old so_far writer.new result (ways_text line mark) }
+    ensures { WritesAfter W.contents writer.old so_far writer.new result
+        (ways_text line block mark) }
 {
     let on = taken(mark, mark.went_on);
     let off = taken(mark, mark.jumped);
     let pieces = [
         Piece::Text(b"BRDA:"),
         Piece::Decimal(line),
-        Piece::Text(b",0,0,"),
+        Piece::Text(b","),
+        Piece::Decimal(block),
+        Piece::Text(b",0,"),
         Piece::Text(on),
         Piece::Text(b"\nBRDA:"),
         Piece::Decimal(line),
-        Piece::Text(b",0,1,"),
+        Piece::Text(b","),
+        Piece::Decimal(block),
+        Piece::Text(b",1,"),
         Piece::Text(off),
         Piece::Text(b"\n"),
     ];
@@ -190,36 +198,45 @@ fn once(ran: bool) -> &'static [u8]
 }
 
 /// Writes how many lines and branches there are, and how many ran or were taken.
-fn put_totals<W: Write>(
+pub fn put_totals<W: Write>(
     writer: &mut Counted<W>,
     so_far: Result<(), WriteFault>,
-    marks: &[Mark],
+    lines: usize,
+    ran: usize,
+    forks: usize,
+    taken: usize,
 ) -> Result<(), WriteFault>
-    ensures { WritesAfter W.contents writer.old so_far writer.new result (totals_text marks.now) }
+    requires { forks < 2 ^ 63 }
+    ensures { WritesAfter W.contents writer.old so_far writer.new result
+        (totals_text lines ran forks taken) }
 {
-    let instructions = count_starts(marks);
-    let ran = count_run(marks);
-    let branches = count_branches(marks);
-    let ways = count_ways(marks);
     let pieces = [
         Piece::Text(b"LF:"),
-        Piece::Decimal(instructions as u64),
+        Piece::Decimal(lines as u64),
         Piece::Text(b"\nLH:"),
         Piece::Decimal(ran as u64),
         Piece::Text(b"\nBRF:"),
-        Piece::Decimal(branches as u64),
+        Piece::Decimal(2 * forks as u64),
         Piece::Text(b"\nBRH:"),
-        Piece::Decimal(ways as u64),
+        Piece::Decimal(taken as u64),
         Piece::Text(b"\nend_of_record\n"),
     ];
     put_all(writer, so_far, &pieces)
 }
 
-/// How many branches conditional jumps have.
-fn count_branches(marks: &[Mark]) -> usize
-    ensures { result ≡ 2 * count_by (λ mark. mark.forks) marks.now }
+/// Writes how many instructions and branches there are, and how many ran or were taken.
+fn put_marked<W: Write>(
+    writer: &mut Counted<W>,
+    so_far: Result<(), WriteFault>,
+    marks: &[Mark],
+) -> Result<(), WriteFault>
+    ensures { WritesAfter W.contents writer.old so_far writer.new result (totals_of marks.now) }
 {
-    2 * count_forks(marks)
+    let instructions = count_starts(marks);
+    let ran = count_run(marks);
+    let forks = count_forks(marks);
+    let ways = count_ways(marks);
+    put_totals(writer, so_far, instructions, ran, forks, ways)
 }
 
 /// How many of them were taken.

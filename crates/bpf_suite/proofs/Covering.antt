@@ -8,15 +8,17 @@ use Rattle.bpf_isa.specs.Programs.{Checked}
 use Rattle.bpf_steps.specs.State.{State}
 use Rattle.bpf_cover.specs.Coverage.{Covered, covered}
 use Rattle.bpf_cover.specs.Runs.{steps_of}
+use Rattle.bpf_cover.specs.Sources.{AreRecords}
 use Rattle.bpf_cover.specs.Tracefiles.{record_text}
 use Rattle.bpf_text.specs.LineTable.{IsLineTable}
 use Rattle.counted_io.specs.Lines.{lines}
 use Rattle.bpf_suite.specs.Benches.{shares_program}
-use Rattle.bpf_suite.specs.Covers.{AddsSharing, AreBegun, CoversEach, CoversProgram, Finds, IsFound, IsFoundBy, IsRecordOf, Notes, has_program, program_by, program_in, steps_from, steps_in, unlined_text}
+use Rattle.bpf_suite.specs.Covers.{AddsSharing, AreBegun, AreRecordsOf, CoversEach, CoversProgram, Finds, IsFound, IsFoundBy, IsRecordOf, Notes, has_program, program_by, program_in, steps_from, steps_in, unlined_text}
 use Rattle.bpf_suite.specs.Files.{with_shared}
 use Rattle.bpf_suite.specs.Outcomes.{Comes, Outcome}
-use Rattle.bpf_suite.specs.Tests.{limit, limited, program, program_line, setting}
+use Rattle.bpf_suite.specs.Tests.{body_for, has_listing, limit, limited, program, program_line, setting}
 use Rattle.bpf_suite.specs.declared.cover.CoverForm.{CoverForm}
+use Rattle.bpf_suite.specs.declared.kind.Part.TheVariants as part
 use Rattle.bpf_suite.specs.declared.refusal.Refusal.{Refusal}
 use Rattle.bpf_suite.specs.declared.section.Section.{Section}
 
@@ -104,10 +106,11 @@ pub found-none : IsFoundBy [] None
 found-none = ([], refl, (refl, refl))
 
 -- the tables of programs that tests have alone
-pub each-behind : (form : CoverForm) (tests more : List (List Section)) (front back : List ℕ) → CoversEach form tests front → CoversEach form more back → CoversEach form (tests ++ more) (front ++ back)
-each-behind form [] more front back e f = rw e f
-each-behind form (test ∷ tests) more front back e f =
-    let rest = each-behind form tests more e.1 back e.3 f in
+pub each-behind : (form : CoverForm) (shared : List Section) (owns more : List (List Section)) (front back : List ℕ) → CoversEach form shared owns front
+    → CoversEach form shared more back → CoversEach form shared (owns ++ more) (front ++ back)
+each-behind form shared [] more front back e f = rw e f
+each-behind form shared (own ∷ owns) more front back e f =
+    let rest = each-behind form shared owns more e.1 back e.3 f in
     (e.0, e.1 ++ back, e.2, rest, ap (λ (s : List ℕ). s ++ back) e.4 ∙ append_assoc e.0 e.1 back)
 
 has-own : (own : List Section) (b : Bool) → shares_program own ≡ not b → has_program own ≡ b
@@ -124,18 +127,17 @@ has-own own false e = not-same (has_program own) false e where
   not-same true false e = cc
   not-same false true e = cc
 
-pub each-sharing : (form : CoverForm) (shared own : List Section) → shares_program own ≡ true → CoversEach form (with_shared shared (filter has_program (own ∷ []))) []
+pub each-sharing : (form : CoverForm) (shared own : List Section) → shares_program own ≡ true → CoversEach form shared (filter has_program (own ∷ [])) []
 each-sharing form shared own e = rw (has-own own false e) refl
 
-pub each-alone : (form : CoverForm) (shared own : List Section) (text : List ℕ) → shares_program own ≡ false → CoversProgram form (own ++ shared) ((own ++ shared) ∷ []) text
-    → CoversEach form (with_shared shared (filter has_program (own ∷ []))) text
+pub each-alone : (form : CoverForm) (shared own : List Section) (text : List ℕ) → shares_program own ≡ false → CoversProgram form own ((own ++ shared) ∷ []) text
+    → CoversEach form shared (filter has_program (own ∷ [])) text
 each-alone form shared own text e covers = rw (has-own own true e) (text, [], covers, refl, sym (append-nil text))
 
-pub each-next : (form : CoverForm) (shared own : List Section) (done : List (List Section)) (front text : List ℕ) → CoversEach form (with_shared shared (filter has_program done)) front
-    → CoversEach form (with_shared shared (filter has_program (own ∷ []))) text → CoversEach form (with_shared shared (filter has_program (done ++ own ∷ []))) (front ++ text)
+pub each-next : (form : CoverForm) (shared own : List Section) (done : List (List Section)) (front text : List ℕ) → CoversEach form shared (filter has_program done) front
+    → CoversEach form shared (filter has_program (own ∷ [])) text → CoversEach form shared (filter has_program (done ++ own ∷ [])) (front ++ text)
 each-next form shared own done front text e f =
-    rw (filter-append has_program done (own ∷ []), map-append (λ o. o ++ shared) (filter has_program done) (filter has_program (own ∷ [])))
-    (each-behind form (with_shared shared (filter has_program done)) (with_shared shared (filter has_program (own ∷ []))) front text e f)
+    rw (filter-append has_program done (own ∷ [])) (each-behind form shared (filter has_program done) (filter has_program (own ∷ [])) front text e f)
 
 -- what is found of a test alone
 pub found-alone : (test : List Section) (found : Option Covered) → Finds test None found → IsFoundBy (test ∷ []) found
@@ -157,3 +159,12 @@ record-listed b file test c table e is = rw e (table, is, refl)
 
 pub record-unlined : (b : Bool) (file : List ℕ) (test : List Section) (c : Covered) → b ≡ false → IsRecordOf b file test c (unlined_text (program_line test))
 record-unlined b file test c e = rw e refl
+
+-- the records of a program with a table of its places, and of another
+pub records-placed : (b : Bool) (file : List ℕ) (sections : List Section) (c : Covered) (text : List ℕ) → b ≡ true
+    → AreRecords c.marks (body_for part.Lines sections) text → AreRecordsOf b file sections c text
+records-placed b file sections c text e are = rw e are
+
+pub records-other : (b : Bool) (file : List ℕ) (sections : List Section) (c : Covered) (text : List ℕ) → b ≡ false
+    → IsRecordOf (has_listing sections) file sections c text → AreRecordsOf b file sections c text
+records-other b file sections c text e is = rw e is

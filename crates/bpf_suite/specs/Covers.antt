@@ -6,6 +6,7 @@ use Rattle.bpf_isa.specs.Programs.{Checked}
 use Rattle.bpf_steps.specs.State.{State}
 use Rattle.bpf_cover.specs.Coverage.{Covered, covered, table_text}
 use Rattle.bpf_cover.specs.Runs.{steps_of}
+use Rattle.bpf_cover.specs.Sources.{AreRecords}
 use Rattle.bpf_cover.specs.Tracefiles.{record_text}
 use Rattle.bpf_text.specs.LineTable.{IsLineTable}
 use Rattle.counted_io.specs.Lines.{lines}
@@ -13,7 +14,7 @@ use Rattle.bpf_suite.specs.Benches.{shares_program}
 use Rattle.bpf_suite.specs.Faults.{has_part}
 use Rattle.bpf_suite.specs.Files.{with_shared}
 use Rattle.bpf_suite.specs.Outcomes.{Comes, Outcome}
-use Rattle.bpf_suite.specs.Tests.{has_listing, is_named, limit, limited, program, program_line, setting}
+use Rattle.bpf_suite.specs.Tests.{body_for, has_listing, is_named, limit, limited, program, program_line, setting}
 use Rattle.bpf_suite.specs.declared.cover.CoverForm.{CoverForm}
 use Rattle.bpf_suite.specs.declared.cover.CoverForm.TheVariants.{Tables, Tracefile}
 use Rattle.bpf_suite.specs.declared.kind.Part.TheVariants as part
@@ -56,39 +57,44 @@ IsFound (Some program) xs found = found ≡ Some (covered program xs)
 abbrev pub IsFoundBy : List (List Section) → Option Covered → Type 0
 IsFoundBy tests found = (outcomes : List Outcome) × AreBegun tests outcomes × IsFound (program_in None outcomes) (steps_in tests outcomes) found
 
--- The record of a test's program in a tracefile, by the lines of its listing in the file of tests; of other programs none are known.
+-- The records of a program in a tracefile, by the sections among which it stands: those of the files of its source, if they have a table of its
+-- places there; else that of its listing, by its lines in the file of tests. Of other programs none are known.
 abbrev pub unlined_text : ℕ → List ℕ
 unlined_text line = codes "# the program in line " ++ decimal line ++ codes " is no listing: it has no lines here\n"
 
 abbrev pub IsRecordOf : Bool → List ℕ → List Section → Covered → List ℕ → Type 0
-IsRecordOf true file test c text =
-    (table : List ℕ) × IsLineTable (program test) table × (text ≡ record_text file (program_line test) (lines table) c.marks)
-IsRecordOf false file test c text = text ≡ unlined_text (program_line test)
+IsRecordOf true file sections c text =
+    (table : List ℕ) × IsLineTable (program sections) table × (text ≡ record_text file (program_line sections) (lines table) c.marks)
+IsRecordOf false file sections c text = text ≡ unlined_text (program_line sections)
 
--- What ran of a test's program, in either form; nothing where nothing is found. And that of a program over the tests that have it.
+abbrev pub AreRecordsOf : Bool → List ℕ → List Section → Covered → List ℕ → Type 0
+AreRecordsOf true file sections c text = AreRecords c.marks (body_for part.Lines sections) text
+AreRecordsOf false file sections c text = IsRecordOf (has_listing sections) file sections c text
+
+-- What ran of the program that stands among sections, in either form; nothing where nothing is found. And the same over the tests that have it.
 abbrev pub Tells : CoverForm → List Section → Covered → List ℕ → Type 0
-Tells Tables test c text = text ≡ table_text (program_line test) c
-Tells (Tracefile file) test c text = IsRecordOf (has_listing test) file.now test c text
+Tells Tables sections c text = text ≡ table_text (program_line sections) c
+Tells (Tracefile file) sections c text = AreRecordsOf (has_part part.Lines sections) file.now sections c text
 
 abbrev pub TellsFound : CoverForm → List Section → Option Covered → List ℕ → Type 0
-TellsFound form test None text = text ≡ []
-TellsFound form test (Some c) text = Tells form test c text
+TellsFound form sections None text = text ≡ []
+TellsFound form sections (Some c) text = Tells form sections c text
 
 abbrev pub CoversProgram : CoverForm → List Section → List (List Section) → List ℕ → Type 0
-CoversProgram form test tests text = (found : Option Covered) × IsFoundBy tests found × TellsFound form test found text
+CoversProgram form sections tests text = (found : Option Covered) × IsFoundBy tests found × TellsFound form sections found text
 
--- The same of the programs that tests have alone.
-abbrev pub CoversEach : CoverForm → List (List Section) → List ℕ → Type 0
-CoversEach form [] text = text ≡ []
-CoversEach form (test ∷ tests) text =
-    (one more : List ℕ) × CoversProgram form test (test ∷ []) one × CoversEach form tests more × (text ≡ one ++ more)
+-- The same of the programs that tests have alone, each among the test's own sections.
+abbrev pub CoversEach : CoverForm → List Section → List (List Section) → List ℕ → Type 0
+CoversEach form shared [] text = text ≡ []
+CoversEach form shared (own ∷ others) text =
+    (one more : List ℕ) × CoversProgram form own ((own ++ shared) ∷ []) one × CoversEach form shared others more × (text ≡ one ++ more)
 
 -- What ran of all programs of tests, which have these sections of their own: first of that which tests share.
 pub record Covers (form : CoverForm) (shared : List Section) (own : List (List Section)) (text : List ℕ) : Type 0 where
   pub front : List ℕ
   pub back : List ℕ
   pub sharing : CoversProgram form shared (with_shared shared (filter shares_program own)) front
-  pub alone : CoversEach form (with_shared shared (filter has_program own)) back
+  pub alone : CoversEach form shared (filter has_program own) back
   pub whole : text ≡ front ++ back
 
 -- The own sections of the tests of a name; of all where none is named.

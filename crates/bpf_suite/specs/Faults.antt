@@ -1,6 +1,7 @@
 -- What is wrong with a test file: the first section with a fault, each with a number and a text. bpfdb's own choice.
 use Rattle.std.specs.Prelude.{ℕ, ◌≡◌, ⊤, Bool, true, not, if◌then◌else◌, List, [], ◌∷◌, ◌++◌, codes, Option, Some, None, is_some}
 use Rattle.std.specs.List.{list_any}
+use Rattle.bpf_cover.specs.Places.{is_table}
 use Rattle.bpf_suite.specs.Bodies.{are_remarks, bytes_of, is_line, is_pattern, is_phrase, is_title, limit_of, number_of, solid, trimmed}
 use Rattle.bpf_suite.specs.Cells.{are_cells, are_patterns}
 use Rattle.bpf_suite.specs.Files.{front, sections, until_name}
@@ -46,6 +47,7 @@ is_well_formed kind.Limit body = is_line (trimmed body)
 is_well_formed kind.Refused body = is_phrase (trimmed body)
 is_well_formed kind.MemAfter body = is_pattern (solid body)
 is_well_formed kind.MapAfter body = are_patterns body
+is_well_formed kind.Lines body = is_table body
 is_well_formed kind.Unknown body = true
 
 -- A test that lacks its program, or its expectation.

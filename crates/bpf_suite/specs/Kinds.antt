@@ -24,6 +24,7 @@ kind_named name =
     else if bytes_eq name (codes "refused") then kind.Refused
     else if bytes_eq name (codes "mem-after") then kind.MemAfter
     else if bytes_eq name (codes "map-after") then kind.MapAfter
+    else if bytes_eq name (codes "lines") then kind.Lines
     else kind.Unknown
 
 -- What a section is of its test. A test has each part once at most.
@@ -42,6 +43,7 @@ part_of kind.Limit = part.Expected
 part_of kind.Refused = part.Expected
 part_of kind.MemAfter = part.After
 part_of kind.MapAfter = part.CellsAfter
+part_of kind.Lines = part.Lines
 part_of kind.Unknown = part.Nothing
 
 -- The parts, numbered.
@@ -56,7 +58,8 @@ part_number part.Steps = 6
 part_number part.Expected = 7
 part_number part.After = 8
 part_number part.CellsAfter = 9
-part_number part.Nothing = 10
+part_number part.Lines = 10
+part_number part.Nothing = 11
 
 abbrev pub is_part : Part → Kind → Bool
 is_part p k = part_number (part_of k) == part_number p

@@ -2,11 +2,14 @@
 ghost use Rattle.std.specs.Prelude.{◌≡◌, ℕ, ◌++◌, ◌∷◌, [], filter, IfOk, List, OnOk};
 ghost use Rattle.counted_io.specs.Writing.{WritesAfter};
 ghost use Rattle.bpf_suite.specs.Benches.{shares_program};
-ghost use Rattle.bpf_suite.specs.Covers.{AddsSharing, Covers, CoversEach, CoversProgram, IsFoundBy, IsRecordOf, Tells, TellsFound, has_program, unlined_text};
+ghost use Rattle.bpf_suite.specs.Covers.{AddsSharing, AreRecordsOf, Covers, CoversEach, CoversProgram, IsFoundBy, IsRecordOf, Tells, TellsFound, has_program, unlined_text};
+ghost use Rattle.bpf_suite.specs.Faults.{has_part};
 ghost use Rattle.bpf_suite.specs.Files.{with_shared};
 ghost use Rattle.bpf_suite.specs.Tests.{has_listing};
+ghost use Rattle.bpf_suite.specs.declared.kind.Part.TheVariants as part;
 
 use crate::bench::{Bench, shares_program};
+use crate::kind::Part;
 use crate::list::Own;
 use crate::section::Section;
 use crate::test::Test;
@@ -94,7 +97,7 @@ fn put_each<'b, 'a, W: Write>(
     form: &CoverForm<'_>,
 ) -> Result<Result<(), WriteFault>, AllocError>
     ensures { IfOk result (λ told. (text : List ℕ)
-        × CoversEach form.now (with_shared bench.old.sections (filter has_program own.now)) text
+        × CoversEach form.now bench.old.sections (filter has_program own.now) text
         × WritesAfter W.contents writer.old so_far writer.new told text) }
 {
     let mut told = so_far;
@@ -117,7 +120,7 @@ fn put_next<'b, 'a, W: Write>(
     form: &CoverForm<'_>,
 ) -> Result<Result<(), WriteFault>, AllocError>
     ensures text { IfOk result (λ told. (text : List ℕ)
-        × CoversEach form.now (with_shared bench.old.sections (filter has_program (own.now ∷ []))) text
+        × CoversEach form.now bench.old.sections (filter has_program (own.now ∷ [])) text
         × WritesAfter W.contents writer.old so_far writer.new told text) }
     ensures sections { bench.new.sections ≡ bench.old.sections }
 {
@@ -137,17 +140,20 @@ fn put_alone<'b, 'a, W: Write>(
     so_far: Result<(), WriteFault>,
     form: &CoverForm<'_>,
 ) -> Result<Result<(), WriteFault>, AllocError>
-    ensures text { IfOk result (λ told. let test = own.now ++ bench.old.sections in
-        (text : List ℕ) × CoversProgram form.now test (test ∷ []) text
+    ensures text { IfOk result (λ told. (text : List ℕ)
+        × CoversProgram form.now own.now ((own.now ++ bench.old.sections) ∷ []) text
         × WritesAfter W.contents writer.old so_far writer.new told text) }
     ensures sections { bench.new.sections ≡ bench.old.sections }
 {
-    let test = bench.test(own);
     let found = bench.cover_alone(alloc, own)?;
-    put_found(alloc, writer, so_far, form, &test, &found)
+    let alone = Test {
+        own: &[],
+        shared: own.sections,
+    };
+    put_found(alloc, writer, so_far, form, &alone, &found)
 }
 
-/// Writes what ran of a test's program, if anything is known of it.
+/// Writes what ran of the program among sections, if anything is known of it.
 fn put_found<W: Write>(
     alloc: Global,
     writer: &mut Counted<W>,
@@ -166,7 +172,7 @@ fn put_found<W: Write>(
     }
 }
 
-/// Writes what ran of a test's program.
+/// Writes what ran of the program among sections.
 fn put_coverage<W: Write>(
     alloc: Global,
     writer: &mut Counted<W>,
@@ -181,12 +187,32 @@ fn put_coverage<W: Write>(
 {
     match form {
         CoverForm::Tables => Ok(coverage.put(writer, so_far, test.program_line())),
-        CoverForm::Tracefile(file) => put_record(alloc, writer, so_far, file, test, coverage),
+        CoverForm::Tracefile(file) => put_records(alloc, writer, so_far, file, test, coverage),
     }
 }
 
-/// Writes what ran of a test's program as a record of a tracefile. (It ran: a listing of it has no
-/// fault.)
+/// Writes what ran of the program among sections as records of a tracefile: by its source, if they
+/// have a table of its places there.
+fn put_records<W: Write>(
+    alloc: Global,
+    writer: &mut Counted<W>,
+    so_far: Result<(), WriteFault>,
+    file: &[u8],
+    test: &Test<'_, '_>,
+    coverage: &Coverage,
+) -> Result<Result<(), WriteFault>, AllocError>
+    ensures { IfOk result (λ told. (text : List ℕ)
+        × AreRecordsOf (has_part part.Lines test.now) file.now test.now coverage.now text
+        × WritesAfter W.contents writer.old so_far writer.new told text) }
+{
+    if test.has(Part::Lines) {
+        coverage.put_records(alloc, writer, so_far, test.text(Part::Lines))
+    } else {
+        put_record(alloc, writer, so_far, file, test, coverage)
+    }
+}
+
+/// Writes what ran of a listing as a record of a tracefile. (It ran: it has no fault.)
 fn put_record<W: Write>(
     alloc: Global,
     writer: &mut Counted<W>,

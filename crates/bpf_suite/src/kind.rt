@@ -35,6 +35,8 @@ pub enum Kind {
     MemAfter,
     /// What cells of maps hold where the program has ended, a line each, with `.` for any digit.
     MapAfter,
+    /// Where the slots of the program stand in its source, a line each.
+    Lines,
     /// Its name is none of these.
     Unknown,
 }
@@ -52,6 +54,7 @@ pub enum Part {
     Expected,
     After,
     CellsAfter,
+    Lines,
     Nothing,
 }
 
@@ -71,7 +74,8 @@ impl Part {
             Part::Expected => 7,
             Part::After => 8,
             Part::CellsAfter => 9,
-            Part::Nothing => 10,
+            Part::Lines => 10,
+            Part::Nothing => 11,
         }
     }
 }
@@ -111,6 +115,8 @@ impl Kind {
             Kind::MemAfter
         } else if is(name, "map-after") {
             Kind::MapAfter
+        } else if is(name, "lines") {
+            Kind::Lines
         } else {
             Kind::Unknown
         }
@@ -135,6 +141,7 @@ impl Kind {
             Kind::Refused => Part::Expected,
             Kind::MemAfter => Part::After,
             Kind::MapAfter => Part::CellsAfter,
+            Kind::Lines => Part::Lines,
             Kind::Unknown => Part::Nothing,
         }
     }

@@ -18,6 +18,7 @@ use crate::list::{Own, TestList};
 use crate::regs::are_regs;
 use crate::section::{Section, front, sections, until_name};
 use crate::test::{Test, has_part};
+use bpf_cover::is_table;
 use std::alloc::{AllocError, Global};
 use std::marker::Model;
 
@@ -308,6 +309,7 @@ fn is_well_formed(alloc: Global, kind: Kind, body: &[u8]) -> Result<bool, AllocE
         Kind::Cells => are_cells(alloc, body),
         Kind::Regs => Ok(are_regs(body)),
         Kind::MapAfter => are_patterns(alloc, body),
+        Kind::Lines => Ok(is_table(body)),
         Kind::Listing | Kind::Unknown => Ok(true),
     }
 }

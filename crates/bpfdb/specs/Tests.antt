@@ -20,10 +20,11 @@ abbrev pub is_test : Subcommand → Bool
 is_test Test = true
 is_test subcommand = false
 
--- Names of files begin in the folder of FILE.
+-- Names of files begin in the folder of FILE; and a tracefile is by the lines of what objects come from.
 pub record IsPlaceOf (plan : Plan) (place : Place) : Type 0 where
   pub folder : place.folder.now ≡ folder_of plan.file.now
   pub anywhere : place.anywhere ≡ plan.options.anywhere
+  pub lines : place.lines ≡ plan.options.is_tracefile
 
 -- FILE for the plan's job: of `test` with what sections name in their place; else as it is.
 abbrev pub TestsIn : Bool → (List ℕ → Option (List ℕ)) → Plan → List ℕ → List ℕ → Type 0

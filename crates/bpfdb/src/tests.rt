@@ -31,6 +31,7 @@ pub fn place_of<'a>(plan: &Plan<'a>) -> Place<'a>
     Place {
         folder: folder_of(plan.file.as_bytes()),
         anywhere: plan.options.anywhere,
+        lines: plan.options.is_tracefile,
     }
 }
 

@@ -1,2 +1,4 @@
+pub mod Desking
 pub mod Faulting
+pub mod Naming
 pub mod Shelving

@@ -1,10 +1,13 @@
 -- The program of an object, as a section asks for it: it is joined to others, and linked, as `link` does.
-use Rattle.std.specs.Prelude.{ℕ, ◌≡◌, ◌⊎◌, List, [], ◌∷◌, Vec, Option, Some, None, Result, Ok, Err, map, unwrap_or}
+use Rattle.std.specs.Prelude.{ℕ, ◌≡◌, ◌⊎◌, Bool, true, false, List, [], ◌∷◌, Vec, codes, Option, Some, None, Result, Ok, Err, map, unwrap_or}
 use Rattle.std.specs.declared.alloc.Global.{Global}
 use Rattle.bpf_join.specs.Chains.{IsChain, IsChainFault}
 use Rattle.bpf_join.specs.declared.chain.ChainFault.{ChainFault}
-use Rattle.bpf_join.specs.declared.fault.JoinFault.TheVariants.{First}
+use Rattle.bpf_join.specs.declared.fault.JoinFault.TheVariants.{First, Second}
 use Rattle.bpf_join.specs.declared.joined.Joined.{Joined}
+use Rattle.bpf_lines.specs.Objects.{AreBehind, AreLinesOf, IsFunctionsRefusal, IsLinesRefusal, program_table}
+use Rattle.bpf_lines.specs.declared.objects.LinesFault.{LinesFault}
+use Rattle.bpf_lines.specs.declared.objects.ObjectLines.{ObjectLines}
 use Rattle.bpf_link.specs.Names.{fault_names}
 use Rattle.bpf_link.specs.Programs.{Asked as Link, IsLinkRefusal, IsLinkedAs}
 use Rattle.bpf_link.specs.StubLists.{stubs_in}
@@ -62,6 +65,18 @@ pub record IsToldOf (asked : Asked) (object : List ℕ) (fault : LinkFault) (tol
 abbrev pub IsLinkRefused : Asked → List ℕ → List Stub → ChainFault → Type 0
 IsLinkRefused asked object stubs told = (fault : LinkFault) × IsLinkRefusal (link_of asked object stubs) fault × IsToldOf asked object fault told
 
+-- What is told of its slots: where they stand in the source of these objects.
+pub record AreLines (asked : Asked) (object : List ℕ) (with : List (List ℕ)) (all : List ObjectLines) : Type 0 where
+  pub own : ObjectLines
+  pub first : AreLinesOf object (name_of asked.section) own
+  pub others : AreBehind (own ∷ []) with all
+
+-- A table of them, where one is wanted: the one that `lines` writes of the same objects.
+abbrev pub IsTableOf : Bool → Asked → List ℕ → List (List ℕ) → List ℕ → List ℕ → Type 0
+IsTableOf false asked object with words table = table ≡ []
+IsTableOf true asked object with words table =
+    (all : List ObjectLines) × AreLines asked object with all × (table ≡ program_table words all)
+
 -- Why there is none: the stubs first, then what is joined, then the object.
 abbrev pub IsUnlinked : Asked → List ℕ → List (List ℕ) → ChainFault → Type 0
 IsUnlinked asked object with told =
@@ -69,3 +84,14 @@ IsUnlinked asked object with told =
     ⊎ (IsUnjoined asked object with told
     ⊎ ((stubs : List Stub) × (bytes : List ℕ) × (stubs_of asked.stubs ≡ Ok stubs) × IsJoinedTo asked object with bytes
     × IsLinkRefused asked bytes stubs told))
+
+-- Why nothing is told of its slots: the lines of the object are malformed, or those of one with functions.
+pub record IsToldOfOther (refused : LinesFault) (told : ChainFault) : Type 0 where
+  pub index : told.index ≡ refused.index
+  pub is_fault : told.fault ≡ Second refused.fault
+  pub names : told.names.items ≡ fault_names refused.object (codes ".text") refused.fault
+
+abbrev pub IsUntold : Asked → List ℕ → List (List ℕ) → ChainFault → Type 0
+IsUntold asked object with told =
+    ((fault : LinkFault) × IsLinesRefusal object (name_of asked.section) fault × IsToldOf asked object fault told)
+    ⊎ ((refused : LinesFault) × IsFunctionsRefusal with refused × IsToldOfOther refused told)

@@ -1,10 +1,9 @@
 -- Why no file of tests comes of one that names files: the first of its pieces in whose place nothing can stand.
 use Rattle.std.specs.Prelude.{ℕ, ◌≡◌, ◌⊎◌, ◌<◌, Bool, true, false, List, [], ◌++◌, Option, Some, None, get_or, length, ⊤}
-use Rattle.bpf_join.specs.declared.chain.ChainFault.{ChainFault}
 use Rattle.suite_files.specs.Asks.{Asks, AsksNothing}
-use Rattle.suite_files.specs.Links.{IsUnlinked}
-use Rattle.suite_files.specs.Replaced.{IsPut, ReadFirst, ReplacesFirst, capture_name, no_piece, packet_number}
-use Rattle.suite_files.specs.Shelves.{IsFile, IsNameFault}
+use Rattle.suite_files.specs.Links.{IsUnlinked, IsUntold}
+use Rattle.suite_files.specs.Replaced.{IsPut, ReadFirst, ReplacesFirst, capture_name, no_piece, packet_number, paths_first}
+use Rattle.suite_files.specs.Shelves.{IsFile, IsNameFault, with_names}
 use Rattle.suite_files.specs.declared.asked.Asked.{Asked}
 use Rattle.suite_files.specs.declared.fault.FilesFault.{FilesFault}
 use Rattle.suite_files.specs.declared.fault.FilesFault.TheVariants as whole
@@ -22,20 +21,20 @@ use Rattle.suite_texts.specs.declared.piece.Piece.{Piece}
 use Rattle.suite_texts.specs.declared.word.Word.{Word}
 use Rattle.suite_texts.specs.declared.word.Word.TheVariants as word
 
--- The file of a name isn't there.
+-- The file of a name isn't there, behind files of some paths.
 abbrev pub put_fault : NameFault → PutFault
 put_fault (name.Named fault) = Named fault
 put_fault name.Memory = Memory
 
-abbrev pub IsCopyFault : Place → List ℕ → PutFault → Type 0
-IsCopyFault place named (Named fault) = IsNameFault place named (name.Named fault)
-IsCopyFault place named (Link told) = ⊥
-IsCopyFault place named Memory = ⊤
+abbrev pub IsCopyFault : Place → List (List ℕ) → List ℕ → PutFault → Type 0
+IsCopyFault place paths named (Named fault) = IsNameFault place paths named (name.Named fault)
+IsCopyFault place paths named (Link told) = ⊥
+IsCopyFault place paths named Memory = ⊤
 
 -- `-- mem-file FILE`: the lines behind the head aren't blank, or else the file isn't there.
-abbrev pub IsMemoryFault : Bool → Place → List ℕ → PutFault → Type 0
-IsMemoryFault false place said fault = fault ≡ Named Malformed
-IsMemoryFault true place said fault = IsCopyFault place said fault
+abbrev pub IsMemoryFault : Bool → Place → List (List ℕ) → List ℕ → PutFault → Type 0
+IsMemoryFault false place paths said fault = fault ≡ Named Malformed
+IsMemoryFault true place paths said fault = IsCopyFault place paths said fault
 
 -- `-- packet FILE N`: so it is, too; or N is no number, or else the capture isn't there, or has no such packet.
 pub record LacksPacket (bytes_at : List ℕ → Option (List ℕ)) (place : Place) (said : List ℕ) (number : ℕ) : Type 0 where
@@ -43,58 +42,62 @@ pub record LacksPacket (bytes_at : List ℕ → Option (List ℕ)) (place : Plac
   pub file : IsFile bytes_at place (capture_name said) capture
   pub none : packet_in capture number ≡ None
 
-abbrev pub IsNumberedFault : (List ℕ → Option (List ℕ)) → Place → List ℕ → Option ℕ → PutFault → Type 0
-IsNumberedFault bytes_at place said None fault = fault ≡ Named Malformed
-IsNumberedFault bytes_at place said (Some number) fault =
-    IsCopyFault place (capture_name said) fault ⊎ ((fault ≡ Named NoPacket) × LacksPacket bytes_at place said number)
+abbrev pub IsNumberedFault : (List ℕ → Option (List ℕ)) → Place → List (List ℕ) → List ℕ → Option ℕ → PutFault → Type 0
+IsNumberedFault bytes_at place paths said None fault = fault ≡ Named Malformed
+IsNumberedFault bytes_at place paths said (Some number) fault =
+    IsCopyFault place paths (capture_name said) fault ⊎ ((fault ≡ Named NoPacket) × LacksPacket bytes_at place said number)
 
-abbrev pub IsPacketFault : Bool → (List ℕ → Option (List ℕ)) → Place → List ℕ → PutFault → Type 0
-IsPacketFault false bytes_at place said fault = fault ≡ Named Malformed
-IsPacketFault true bytes_at place said fault = IsNumberedFault bytes_at place said (packet_number said) fault
+abbrev pub IsPacketFault : Bool → (List ℕ → Option (List ℕ)) → Place → List (List ℕ) → List ℕ → PutFault → Type 0
+IsPacketFault false bytes_at place paths said fault = fault ≡ Named Malformed
+IsPacketFault true bytes_at place paths said fault = IsNumberedFault bytes_at place paths said (packet_number said) fault
 
 -- `-- object FILE`: the first of the objects that are joined isn't there; or the object isn't; or no program comes of them.
-pub record LacksOther (bytes_at : List ℕ → Option (List ℕ)) (place : Place) (names : List (List ℕ)) (fault : PutFault) : Type 0 where
+pub record LacksOther (bytes_at : List ℕ → Option (List ℕ)) (place : Place) (paths names : List (List ℕ)) (fault : PutFault) : Type 0 where
   pub n : ℕ
   pub inside : n < length names
   pub before : List (List ℕ)
   pub read : ReadFirst bytes_at place names n before
-  pub why : IsCopyFault place (get_or names n []) fault
+  pub why : IsCopyFault place (with_names place paths names n) (get_or names n []) fault
 
-pub record LacksObject (bytes_at : List ℕ → Option (List ℕ)) (place : Place) (asked : Asked) (fault : PutFault) : Type 0 where
+pub record LacksObject (bytes_at : List ℕ → Option (List ℕ)) (place : Place) (paths : List (List ℕ)) (asked : Asked) (fault : PutFault) : Type 0 where
   pub with : List (List ℕ)
   pub others : ReadFirst bytes_at place asked.with.items (length asked.with.items) with
-  pub why : IsCopyFault place asked.object fault
+  pub why : IsCopyFault place (with_names place paths asked.with.items (length asked.with.items)) asked.object fault
+
+-- (Or the table of its lines is wanted, and none comes of them.)
+abbrev pub IsUnmade : Bool → Asked → List ℕ → List (List ℕ) → PutFault → Type 0
+IsUnmade wanted asked object with (Named fault) = ⊥
+IsUnmade wanted asked object with (Link told) = IsUnlinked asked object with told ⊎ ((wanted ≡ true) × IsUntold asked object with told)
+IsUnmade wanted asked object with Memory = ⊤
 
 pub record HasNoProgram (bytes_at : List ℕ → Option (List ℕ)) (place : Place) (asked : Asked) (fault : PutFault) : Type 0 where
   pub object : List ℕ
   pub file : IsFile bytes_at place asked.object object
   pub with : List (List ℕ)
   pub others : ReadFirst bytes_at place asked.with.items (length asked.with.items) with
-  pub told : ChainFault
-  pub is_told : fault ≡ Link told
-  pub why : IsUnlinked asked object with told
+  pub why : IsUnmade place.lines asked object with fault
 
-abbrev pub IsOthersFault : (List ℕ → Option (List ℕ)) → Place → Asked → PutFault → Type 0
-IsOthersFault bytes_at place asked fault = (fault ≡ Memory) ⊎ LacksOther bytes_at place asked.with.items fault
+abbrev pub IsOthersFault : (List ℕ → Option (List ℕ)) → Place → List (List ℕ) → Asked → PutFault → Type 0
+IsOthersFault bytes_at place paths asked fault = (fault ≡ Memory) ⊎ LacksOther bytes_at place paths asked.with.items fault
 
-abbrev pub IsAskedFault : (List ℕ → Option (List ℕ)) → Place → Asked → PutFault → Type 0
-IsAskedFault bytes_at place asked fault =
-    IsOthersFault bytes_at place asked fault ⊎ (LacksObject bytes_at place asked fault ⊎ HasNoProgram bytes_at place asked fault)
+abbrev pub IsAskedFault : (List ℕ → Option (List ℕ)) → Place → List (List ℕ) → Asked → PutFault → Type 0
+IsAskedFault bytes_at place paths asked fault =
+    IsOthersFault bytes_at place paths asked fault ⊎ (LacksObject bytes_at place paths asked fault ⊎ HasNoProgram bytes_at place asked fault)
 
 -- What it asks is malformed, or isn't there.
-abbrev pub IsProgramFault : (List ℕ → Option (List ℕ)) → Place → List ℕ → PutFault → Type 0
-IsProgramFault bytes_at place piece fault = (fault ≡ Memory) ⊎ (((fault ≡ Named Malformed) × AsksNothing piece)
-    ⊎ ((asked : Asked) × Asks piece asked × IsAskedFault bytes_at place asked fault))
+abbrev pub IsProgramFault : (List ℕ → Option (List ℕ)) → Place → List (List ℕ) → List ℕ → PutFault → Type 0
+IsProgramFault bytes_at place paths piece fault = (fault ≡ Memory) ⊎ (((fault ≡ Named Malformed) × AsksNothing piece)
+    ⊎ ((asked : Asked) × Asks piece asked × IsAskedFault bytes_at place paths asked fault))
 
 -- Why nothing stands in place of a piece; one that names no file stands there itself, unless memory runs out.
-abbrev pub IsPutFaultBy : Word → (List ℕ → Option (List ℕ)) → Place → List ℕ → PutFault → Type 0
-IsPutFaultBy word.Object bytes_at place piece fault = IsProgramFault bytes_at place piece fault
-IsPutFaultBy word.MemFile bytes_at place piece fault = IsMemoryFault (is_empty piece) place (head_of piece).value fault
-IsPutFaultBy word.Packet bytes_at place piece fault = IsPacketFault (is_empty piece) bytes_at place (head_of piece).value fault
-IsPutFaultBy _ bytes_at place piece fault = fault ≡ Memory
+abbrev pub IsPutFaultBy : Word → (List ℕ → Option (List ℕ)) → Place → List (List ℕ) → List ℕ → PutFault → Type 0
+IsPutFaultBy word.Object bytes_at place paths piece fault = IsProgramFault bytes_at place paths piece fault
+IsPutFaultBy word.MemFile bytes_at place paths piece fault = IsMemoryFault (is_empty piece) place paths (head_of piece).value fault
+IsPutFaultBy word.Packet bytes_at place paths piece fault = IsPacketFault (is_empty piece) bytes_at place paths (head_of piece).value fault
+IsPutFaultBy _ bytes_at place paths piece fault = fault ≡ Memory
 
-abbrev pub IsPutFault : (List ℕ → Option (List ℕ)) → Place → List ℕ → PutFault → Type 0
-IsPutFault bytes_at place piece fault = IsPutFaultBy (head_of piece).word bytes_at place piece fault
+abbrev pub IsPutFault : (List ℕ → Option (List ℕ)) → Place → List (List ℕ) → List ℕ → PutFault → Type 0
+IsPutFault bytes_at place paths piece fault = IsPutFaultBy (head_of piece).word bytes_at place paths piece fault
 
 -- It is told with the line of the piece.
 abbrev pub files_fault : ℕ → PutFault → FilesFault
@@ -110,9 +113,9 @@ abbrev pub IsTooLong : ℕ → List ℕ → FilesFault → Type 0
 IsTooLong line text fault = (fault ≡ whole.Memory) ⊎ ((fault ≡ whole.Section TooMuch line) × (most_bytes < length text))
 
 -- Behind what stands in place of the pieces before it nothing can stand in place of a piece, or all of that is too long.
-abbrev pub IsPieceFault : (List ℕ → Option (List ℕ)) → Place → List ℕ → Piece → FilesFault → Type 0
-IsPieceFault bytes_at place before piece fault =
-    ((why : PutFault) × IsPutFault bytes_at place piece.text why × (fault ≡ files_fault piece.line why))
+abbrev pub IsPieceFault : (List ℕ → Option (List ℕ)) → Place → List (List ℕ) → List ℕ → Piece → FilesFault → Type 0
+IsPieceFault bytes_at place paths before piece fault =
+    ((why : PutFault) × IsPutFault bytes_at place paths piece.text why × (fault ≡ files_fault piece.line why))
     ⊎ ((put : List ℕ) × IsPut bytes_at place piece.text put × IsTooLong piece.line (before ++ put) fault)
 
 -- Of some pieces behind a text it is the first one.
@@ -121,7 +124,7 @@ pub record AreFaulty (bytes_at : List ℕ → Option (List ℕ)) (place : Place)
   pub inside : n < length all
   pub before : List ℕ
   pub are_before : ReplacesFirst bytes_at place all begun n before
-  pub why : IsPieceFault bytes_at place before (get_or all n no_piece) fault
+  pub why : IsPieceFault bytes_at place (paths_first place all n) before (get_or all n no_piece) fault
 
 abbrev pub IsFilesFault : (List ℕ → Option (List ℕ)) → Place → List ℕ → FilesFault → Type 0
 IsFilesFault bytes_at place text fault = (fault ≡ whole.Memory) ⊎ AreFaulty bytes_at place (pieces text) (front text) fault

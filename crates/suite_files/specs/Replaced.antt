@@ -1,21 +1,21 @@
 -- A file of tests in which sections that name files are replaced by sections of what these hold.
-use Rattle.std.specs.Prelude.{ℕ, zero, suc, ◌≡◌, true, List, [], ◌∷◌, ◌++◌, Option, Some, drop, get_or, length, take}
+use Rattle.std.specs.Prelude.{ℕ, zero, suc, ◌≡◌, ◌≤◌, true, List, [], ◌∷◌, ◌++◌, Option, Some, drop, get_or, length, take}
 use Rattle.std.specs.List.{position_or_len}
 use Rattle.std.specs.Option.{option_and_then}
-use Rattle.bpf_link.specs.declared.linker.Linked.{Linked}
 use Rattle.counted_io.specs.Lines.{is_blank, trim_start}
 use Rattle.counted_io.specs.Numerals.{as_u64, natural}
 use Rattle.suite_files.specs.Asks.{Asks}
-use Rattle.suite_files.specs.Links.{IsProgramOf}
+use Rattle.suite_files.specs.Links.{IsProgramOf, IsTableOf}
 use Rattle.suite_files.specs.Maps.{maps_text}
-use Rattle.suite_files.specs.Shelves.{IsFile}
+use Rattle.suite_files.specs.Shelves.{IsFile, most_files, path_of, with_names, with_path}
 use Rattle.suite_files.specs.declared.asked.Asked.{Asked}
+use Rattle.suite_files.specs.declared.linked.Made.{Made}
 use Rattle.suite_files.specs.declared.place.Place.{Place}
 use Rattle.suite_texts.specs.Captures.{packet_in}
 use Rattle.suite_texts.specs.Heads.{head_of}
-use Rattle.suite_texts.specs.Options.{is_empty}
+use Rattle.suite_texts.specs.Options.{is_empty, option_lines, values_of}
 use Rattle.suite_texts.specs.Pieces.{front, pieces}
-use Rattle.suite_texts.specs.Puts.{feeds, memory_text, words_text}
+use Rattle.suite_texts.specs.Puts.{feeds, memory_text, with_lines, words_text}
 use Rattle.suite_texts.specs.declared.piece.Piece.{Piece}
 use Rattle.suite_texts.specs.declared.word.Word.{Word}
 use Rattle.suite_texts.specs.declared.word.Word.TheVariants as word
@@ -51,23 +51,24 @@ ReadFirst bytes_at place names zero all = all ≡ []
 ReadFirst bytes_at place names (suc n) all = (before : List (List ℕ)) × ReadFirst bytes_at place names n before
     × (bytes : List ℕ) × IsFile bytes_at place (get_or names n []) bytes × (all ≡ before ++ bytes ∷ [])
 
--- In place of `-- object FILE` stand the words of the program that is asked for, and its maps.
-abbrev pub program_text : Linked → List ℕ
-program_text program = words_text program.words.items (maps_text program.shapes.items)
+-- In place of `-- object FILE` stand the words of the program that is asked for, its maps, and the table of its lines.
+abbrev pub program_text : Made → List ℕ
+program_text made = with_lines (words_text made.program.words.items (maps_text made.program.shapes.items)) made.table.items
 
-pub record IsAskedProgram (bytes_at : List ℕ → Option (List ℕ)) (place : Place) (asked : Asked) (program : Linked) : Type 0 where
+pub record IsAskedProgram (bytes_at : List ℕ → Option (List ℕ)) (place : Place) (asked : Asked) (made : Made) : Type 0 where
   pub object : List ℕ
   pub file : IsFile bytes_at place asked.object object
   pub with : List (List ℕ)
   pub others : ReadFirst bytes_at place asked.with.items (length asked.with.items) with
-  pub is_program : IsProgramOf asked object with program
+  pub is_program : IsProgramOf asked object with made.program
+  pub is_table : IsTableOf place.lines asked object with made.program.words.items made.table.items
 
 pub record IsProgramPut (bytes_at : List ℕ → Option (List ℕ)) (place : Place) (piece put : List ℕ) : Type 0 where
   pub asked : Asked
   pub asks : Asks piece asked
-  pub program : Linked
-  pub is_program : IsAskedProgram bytes_at place asked program
-  pub is_put : put ≡ program_text program ++ feeds piece
+  pub made : Made
+  pub is_made : IsAskedProgram bytes_at place asked made
+  pub is_put : put ≡ program_text made ++ feeds piece
 
 -- What stands in place of a piece: itself where it names no file.
 abbrev pub IsPutBy : Word → (List ℕ → Option (List ℕ)) → Place → List ℕ → List ℕ → Type 0
@@ -88,6 +89,27 @@ ReplacesFirst bytes_at place all begun zero text = text ≡ begun
 ReplacesFirst bytes_at place all begun (suc n) text = (before : List ℕ) × ReplacesFirst bytes_at place all begun n before
     × (put : List ℕ) × IsPut bytes_at place (get_or all n no_piece).text put × (text ≡ before ++ put)
 
--- Each piece of a file is replaced, and what stands in front of them stays.
+-- The paths of the files that a piece names, in the order in which they are looked at, behind others; and those that the first n pieces name.
+abbrev pub with_objects : Place → List (List ℕ) → List (List ℕ) → List ℕ → List (List ℕ)
+with_objects place paths with object = with_path (with_names place paths with (length with)) (path_of place object)
+
+abbrev pub with_piece_by : Word → Place → List (List ℕ) → List ℕ → List (List ℕ)
+with_piece_by word.Object place paths piece = with_objects place paths (values_of word.With (option_lines piece)) (head_of piece).value
+with_piece_by word.MemFile place paths piece = with_path paths (path_of place (head_of piece).value)
+with_piece_by word.Packet place paths piece = with_path paths (path_of place (capture_name (head_of piece).value))
+with_piece_by _ place paths piece = paths
+
+abbrev pub with_piece : Place → List (List ℕ) → List ℕ → List (List ℕ)
+with_piece place paths piece = with_piece_by (head_of piece).word place paths piece
+
+abbrev pub paths_first : Place → List Piece → ℕ → List (List ℕ)
+paths_first place all zero = []
+paths_first place all (suc n) = with_piece place (paths_first place all n) (get_or all n no_piece).text
+
+abbrev pub NameFew : Place → List Piece → Type 0
+NameFew place all = length (paths_first place all (length all)) ≤ most_files
+
+-- Each piece of a file is replaced, and what stands in front of them stays. They name so many files at most.
 abbrev pub IsReplaced : (List ℕ → Option (List ℕ)) → Place → List ℕ → List ℕ → Type 0
-IsReplaced bytes_at place text all = ReplacesFirst bytes_at place (pieces text) (front text) (length (pieces text)) all
+IsReplaced bytes_at place text all =
+    ReplacesFirst bytes_at place (pieces text) (front text) (length (pieces text)) all × NameFew place (pieces text)

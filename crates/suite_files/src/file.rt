@@ -1,8 +1,9 @@
 //! A file of tests whose sections name files, as one that names none.
 ghost use Rattle.std.specs.Prelude.{◌≡◌, ◌++◌, ◌<◌, ℕ, List, IfOk, IfErr, IfSome, OnOk, get_or, length};
-ghost use Rattle.suite_files.specs.Desks.{IsDesk};
+ghost use Rattle.suite_files.specs.Desks.{HasPaths, IsDesk};
 ghost use Rattle.suite_files.specs.Refused.{AreFaulty, IsFilesFault, IsPieceFault, IsTooLong, files_fault};
-ghost use Rattle.suite_files.specs.Replaced.{IsPut, IsReplaced, ReplacesFirst};
+ghost use Rattle.suite_files.specs.Replaced.{IsPut, IsReplaced, NameFew, ReplacesFirst, with_piece};
+ghost use Rattle.suite_files.specs.Shelves.{paths_on};
 ghost use Rattle.suite_files.specs.declared.file.Done.{Done};
 ghost use Rattle.suite_texts.specs.Pieces.{front, pieces};
 
@@ -96,8 +97,10 @@ fn with_new<'a, F: Opener>(
     ensures ok { IfOk result (λ all. (put : List ℕ)
         × IsPut (F.bytes_at files.now) place.now piece.now.text put
         × (all.items ≡ text.items ++ put)) }
-    ensures err { IfErr result (IsPieceFault (F.bytes_at files.now) place.now text.items piece.now) }
-    ensures desk { OnOk result (IsDesk (F.bytes_at files.now) place.now desk.new) }
+    ensures err { IfErr result (IsPieceFault (F.bytes_at files.now) place.now
+        (paths_on desk.old.shelf.items) text.items piece.now) }
+    ensures desk { OnOk result (HasPaths (F.bytes_at files.now) place.now
+        (with_piece place.now (paths_on desk.old.shelf.items) piece.now.text) desk.new) }
 {
     let line = line_of(piece);
     let bytes = text_of(piece);
@@ -132,8 +135,10 @@ fn with_piece<'a, F: Opener>(
     ensures ok { IfOk result (λ all. (put : List ℕ)
         × IsPut (F.bytes_at files.now) place.now piece.now.text put
         × (all.items ≡ text.items ++ put)) }
-    ensures err { IfErr result (IsPieceFault (F.bytes_at files.now) place.now text.items piece.now) }
-    ensures desk { OnOk result (IsDesk (F.bytes_at files.now) place.now desk.new) }
+    ensures err { IfErr result (IsPieceFault (F.bytes_at files.now) place.now
+        (paths_on desk.old.shelf.items) text.items piece.now) }
+    ensures desk { OnOk result (HasPaths (F.bytes_at files.now) place.now
+        (with_piece place.now (paths_on desk.old.shelf.items) piece.now.text) desk.new) }
 {
     match done_at(desk.done.as_slice(), piece.text.bytes) {
         Some(at) => {
@@ -154,6 +159,7 @@ fn with_pieces<'a, F: Opener>(
 ) -> Result<Vec<u8>, FilesFault>
     ensures ok { IfOk result (λ all. ReplacesFirst (F.bytes_at files.now) place.now pieces.now
         begun.items (length pieces.now) all.items) }
+    ensures few { OnOk result (NameFew place.now pieces.now) }
     ensures err { IfErr result (AreFaulty (F.bytes_at files.now) place.now pieces.now begun.items) }
 {
     let mut desk = Desk {

@@ -1,18 +1,28 @@
 //! The program of an object, as a section asks for it.
-ghost use Rattle.std.specs.Prelude.{◌≡◌, IfErr, IfOk, Ok, Err};
+ghost use Rattle.std.specs.Prelude.{◌≡◌, All, IfErr, IfOk, Ok, Err, true};
 ghost use Rattle.bpf_join.specs.Chains.{others};
+ghost use Rattle.bpf_lines.specs.Objects.{HasPartLines, program_table};
 ghost use Rattle.bpf_link.specs.Names.{fault_names};
 ghost use Rattle.bpf_link.specs.Programs.{IsLinkedAs};
-ghost use Rattle.suite_files.specs.Links.{IsJoinedTo, IsLinkRefused, IsProgramOf, IsUnjoined, IsUnlinked, contents, link_of, name_of, stubs_of};
+ghost use Rattle.suite_files.specs.Links.{AreLines, IsJoinedTo, IsLinkRefused, IsProgramOf, IsTableOf, IsToldOfOther, IsUnjoined, IsUnlinked, IsUntold, contents, link_of, name_of, stubs_of};
 
 use crate::asked::Asked;
 use arrayvec::ArrayVec;
 use bpf_join::{ChainFault, JoinFault, join_all};
+use bpf_lines::{LinesFault, ObjectLines, first_lines, with_functions, write_table};
 use bpf_link::{
     LinkFault, LinkOptions, Linked, MOST_STUBS, Stub, fault_names, link_with, stubs_in,
 };
+use counted_io::{Counted, WriteFault};
 use std::alloc::{AllocError, Global};
 use suite_texts::Text;
+
+/// A program, and the table of where its slots stand in its source, if that is wanted.
+#[derive(Drop)]
+pub struct Made {
+    pub program: Linked,
+    pub table: Vec<u8>,
+}
 
 /// A name, empty where there is none.
 fn name_of<'a>(text: &Option<Text<'a>>) -> &'a [u8]
@@ -136,5 +146,80 @@ pub fn program_of(
         Ok(Ok(bytes)) => Ok(linked_of(alloc, asked, bytes.as_slice(), stubs.as_slice())),
         Ok(Err(told)) => Ok(Err(told)),
         Err(fault) => Err(fault),
+    }
+}
+
+/// What is told of an object with functions of whose slots nothing is.
+fn told_of_other(refused: &LinesFault<'_>) -> ChainFault
+    ensures { IsToldOfOther refused.now result }
+{
+    let names = fault_names(refused.object.bytes, b".text", &refused.fault);
+    ChainFault {
+        index: refused.index,
+        fault: JoinFault::Second(refused.fault),
+        names,
+    }
+}
+
+/// The table of a program's slots, of which this is told.
+fn written(alloc: Global, words: &[u8], all: &[ObjectLines<'_>]) -> Result<Vec<u8>, AllocError>
+    requires { All HasPartLines all.now }
+    ensures { IfOk result (λ table. table.items ≡ program_table words.now all.now) }
+{
+    let mut writer = Counted::new(Vec::new(alloc));
+    match write_table(&mut writer, words, all) {
+        Ok(()) => Ok(writer.into_inner()),
+        Err(WriteFault) => Err(AllocError),
+    }
+}
+
+/// What is told of the slots of an object's program, with others that are joined to it.
+fn lines_of<'a>(
+    alloc: Global,
+    asked: &Asked<'_>,
+    object: &'a [u8],
+    with: &'a [Vec<u8>],
+) -> Result<Vec<ObjectLines<'a>>, ChainFault>
+    ensures ok { IfOk result (λ all. AreLines asked.now object.now (contents with.now) all.items) }
+    ensures told { IfOk result (λ all. All HasPartLines all.items) }
+    ensures err { IfErr result (IsUntold asked.now object.now (contents with.now)) }
+{
+    let own = match first_lines(alloc, object, name_of(&asked.section)) {
+        Ok(own) => own,
+        Err(fault) => return Err(told_of(asked, object, fault)),
+    };
+    match with.split_first() {
+        Some((second, further)) => match with_functions(alloc, own, second.as_slice(), further) {
+            Ok(all) => Ok(all),
+            Err(refused) => Err(told_of_other(&refused)),
+        },
+        None => Ok(own),
+    }
+}
+
+/// The table of where the slots of a program stand in the source of an object, and of others that are
+/// joined to it; nothing where none is wanted.
+pub fn table_of(
+    alloc: Global,
+    wanted: bool,
+    asked: &Asked<'_>,
+    object: &[u8],
+    with: &[Vec<u8>],
+    words: &[u8],
+) -> Result<Result<Vec<u8>, ChainFault>, AllocError>
+    ensures ok { IfOk result (λ made. IfOk made (λ table.
+        IsTableOf wanted asked.now object.now (contents with.now) words.now table.items)) }
+    ensures err { IfOk result (λ made. IfErr made (λ told.
+        (wanted ≡ true) × IsUntold asked.now object.now (contents with.now) told)) }
+{
+    if !wanted {
+        return Ok(Ok(Vec::new(alloc)));
+    }
+    match lines_of(alloc, asked, object, with) {
+        Ok(all) => match written(alloc, words, all.as_slice()) {
+            Ok(table) => Ok(Ok(table)),
+            Err(fault) => Err(fault),
+        },
+        Err(told) => Ok(Err(told)),
     }
 }

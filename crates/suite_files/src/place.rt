@@ -5,13 +5,15 @@ ghost use Rattle.suite_files.specs.Shelves.{is_allowed, path_of};
 use std::alloc::{AllocError, Global};
 use suite_texts::{is_absolute, is_below};
 
-/// Where names of files begin.
+/// Where names of files begin, and what is wanted of objects.
 #[derive(Clone, Copy)]
 pub struct Place<'a> {
     /// The folder of the tests, with the slash at its end; nothing where that is the present one.
     pub folder: &'a [u8],
     /// Files may lie anywhere, and not only there or below.
     pub anywhere: bool,
+    /// Behind the words of an object's program stands a table of their places in its source.
+    pub lines: bool,
 }
 
 /// Whether a file of this name may be read.

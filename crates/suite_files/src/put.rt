@@ -1,26 +1,26 @@
 //! What stands in place of a piece.
-ghost use Rattle.std.specs.Prelude.{◌≡◌, ◌++◌, ◌<◌, [], IfOk, IfErr, get_or, length};
+ghost use Rattle.std.specs.Prelude.{◌≡◌, ◌++◌, ◌<◌, [], IfOk, IfErr, OnOk, get_or, length};
 ghost use Rattle.suite_files.specs.Asks.{Asks};
-ghost use Rattle.suite_files.specs.Links.{contents};
-ghost use Rattle.suite_files.specs.Refused.{IsAskedFault, IsCopyFault, IsMemoryFault, IsOthersFault, IsPacketFault, IsProgramFault, IsPutFault, put_fault};
-ghost use Rattle.suite_files.specs.Replaced.{IsAskedProgram, IsMemoryPut, IsPacketPut, IsProgramPut, IsPut, ReadFirst, capture_name, packet_number, program_text};
-ghost use Rattle.suite_files.specs.Shelves.{AreRead, IsFile};
+ghost use Rattle.suite_files.specs.Links.{IsProgramOf, IsTableOf, contents};
+ghost use Rattle.suite_files.specs.Refused.{IsAskedFault, IsCopyFault, IsMemoryFault, IsOthersFault, IsPacketFault, IsProgramFault, IsPutFault, IsUnmade, put_fault};
+ghost use Rattle.suite_files.specs.Replaced.{IsAskedProgram, IsMemoryPut, IsPacketPut, IsProgramPut, IsPut, ReadFirst, capture_name, packet_number, program_text, with_objects, with_piece, with_piece_by};
+ghost use Rattle.suite_files.specs.Shelves.{AreRead, IsFile, IsShelf, path_of, paths_on, with_names, with_path};
 ghost use Rattle.suite_texts.specs.Heads.{head_of};
 ghost use Rattle.suite_texts.specs.Options.{is_empty};
 ghost use Rattle.suite_texts.specs.Puts.{feeds, memory_text};
+ghost use Rattle.suite_texts.specs.declared.word.Word.TheVariants as word;
 
 use crate::asked::{Asked, asked_of};
 use crate::fault::NamedFault;
-use crate::linked::program_of;
+use crate::linked::{Made, program_of, table_of};
 use crate::maps::maps_text;
 use crate::place::Place;
 use crate::shelf::{NameFault, Shelved, shelve};
 use bpf_join::ChainFault;
-use bpf_link::Linked;
 use bpfdb_files::Opener;
 use counted_io::{find_blank, natural, trim_start};
 use std::alloc::{AllocError, Global};
-use suite_texts::{Word, feeds, head_of, is_empty, memory_text, words_text};
+use suite_texts::{Word, feeds, head_of, is_empty, memory_text, with_lines, words_text};
 
 /// Why there is nothing in place of a piece.
 #[derive(Drop)]
@@ -59,12 +59,13 @@ fn memory_put(alloc: Global, piece: &[u8], bytes: &[u8]) -> Result<Vec<u8>, Allo
     with_feeds(alloc, text, piece)
 }
 
-/// A program and its maps, in place of a piece.
-fn program_put(alloc: Global, piece: &[u8], program: &Linked) -> Result<Vec<u8>, AllocError>
-    ensures { IfOk result (λ put. put.items ≡ program_text program.now ++ feeds piece.now) }
+/// A program, its maps and the table of its lines, in place of a piece.
+fn program_put(alloc: Global, piece: &[u8], made: &Made) -> Result<Vec<u8>, AllocError>
+    ensures { IfOk result (λ put. put.items ≡ program_text made.now ++ feeds piece.now) }
 {
-    let maps = maps_text(alloc, program.shapes.as_slice())?;
-    let text = words_text(alloc, program.words.as_slice(), maps.as_slice())?;
+    let maps = maps_text(alloc, made.program.shapes.as_slice())?;
+    let words = words_text(alloc, made.program.words.as_slice(), maps.as_slice())?;
+    let text = with_lines(alloc, words, made.table.as_slice())?;
     with_feeds(alloc, text, piece)
 }
 
@@ -85,8 +86,10 @@ fn put_memory<F: Opener>(
 ) -> Result<Vec<u8>, PutFault>
     requires { AreRead (F.bytes_at files.now) shelf.old.items }
     ensures ok { IfOk result (λ put. IsMemoryPut (F.bytes_at files.now) place.now piece.now put.items) }
-    ensures err { IfErr result (IsMemoryFault (is_empty piece.now) place.now (head_of piece.now).value) }
-    ensures read { AreRead (F.bytes_at files.now) shelf.new.items }
+    ensures err { IfErr result (IsMemoryFault (is_empty piece.now) place.now (paths_on shelf.old.items)
+        (head_of piece.now).value) }
+    ensures shelf { OnOk result (IsShelf (F.bytes_at files.now)
+        (with_piece_by word.MemFile place.now (paths_on shelf.old.items) piece.now) shelf.new.items) }
 {
     if !is_empty(piece) {
         return Err(PutFault::Named(NamedFault::Malformed));
@@ -126,8 +129,9 @@ fn put_packet<F: Opener>(
     requires { AreRead (F.bytes_at files.now) shelf.old.items }
     ensures ok { IfOk result (λ put. IsPacketPut (F.bytes_at files.now) place.now piece.now put.items) }
     ensures err { IfErr result (IsPacketFault (is_empty piece.now) (F.bytes_at files.now) place.now
-        (head_of piece.now).value) }
-    ensures read { AreRead (F.bytes_at files.now) shelf.new.items }
+        (paths_on shelf.old.items) (head_of piece.now).value) }
+    ensures shelf { OnOk result (IsShelf (F.bytes_at files.now)
+        (with_piece_by word.Packet place.now (paths_on shelf.old.items) piece.now) shelf.new.items) }
 {
     if !is_empty(piece) {
         return Err(PutFault::Named(NamedFault::Malformed));
@@ -159,8 +163,9 @@ fn copied<F: Opener>(
 ) -> Result<Vec<u8>, PutFault>
     requires { AreRead (F.bytes_at files.now) shelf.old.items }
     ensures ok { IfOk result (λ bytes. IsFile (F.bytes_at files.now) place.now name.now bytes.items) }
-    ensures err { IfErr result (IsCopyFault place.now name.now) }
-    ensures read { AreRead (F.bytes_at files.now) shelf.new.items }
+    ensures err { IfErr result (IsCopyFault place.now (paths_on shelf.old.items) name.now) }
+    ensures shelf { OnOk result (IsShelf (F.bytes_at files.now)
+        (with_path (paths_on shelf.old.items) (path_of place.now name.now)) shelf.new.items) }
 {
     match shelve(alloc, files, place, name, shelf) {
         Ok(at) => match Vec::from_slice(alloc, shelf[at].bytes.as_slice()) {
@@ -197,8 +202,11 @@ fn others_of<F: Opener>(
     requires { AreRead (F.bytes_at files.now) shelf.old.items }
     ensures ok { IfOk result (λ all. ReadFirst (F.bytes_at files.now) place.now asked.now.with.items
         (length asked.now.with.items) (contents all.items)) }
-    ensures err { IfErr result (IsOthersFault (F.bytes_at files.now) place.now asked.now) }
-    ensures read { AreRead (F.bytes_at files.now) shelf.new.items }
+    ensures err { IfErr result (IsOthersFault (F.bytes_at files.now) place.now
+        (paths_on shelf.old.items) asked.now) }
+    ensures shelf { OnOk result (IsShelf (F.bytes_at files.now)
+        (with_names place.now (paths_on shelf.old.items) asked.now.with.items
+        (length asked.now.with.items)) shelf.new.items) }
 {
     let mut all = Vec::new(alloc);
     let names = asked.with.as_slice();
@@ -216,18 +224,47 @@ fn others_of<F: Opener>(
     Ok(all)
 }
 
-/// The program that is asked for.
+/// The program of an object that is asked for, with others that are joined to it, and its table.
+fn made_of(
+    alloc: Global,
+    wanted: bool,
+    asked: &Asked<'_>,
+    object: &[u8],
+    with: &[Vec<u8>],
+) -> Result<Made, PutFault>
+    ensures program { IfOk result (λ made.
+        IsProgramOf asked.now object.now (contents with.now) made.program) }
+    ensures table { IfOk result (λ made. IsTableOf wanted asked.now object.now (contents with.now)
+        made.program.words.items made.table.items) }
+    ensures err { IfErr result (IsUnmade wanted asked.now object.now (contents with.now)) }
+{
+    let program = match program_of(alloc, asked, object, with) {
+        Ok(Ok(program)) => program,
+        Ok(Err(told)) => return Err(PutFault::Link(told)),
+        Err(_) => return Err(PutFault::Memory),
+    };
+    match table_of(alloc, wanted, asked, object, with, program.words.as_slice()) {
+        Ok(Ok(table)) => Ok(Made { program, table }),
+        Ok(Err(told)) => Err(PutFault::Link(told)),
+        Err(_) => Err(PutFault::Memory),
+    }
+}
+
+/// The program that is asked for, and its table.
 fn asked_program<F: Opener>(
     alloc: Global,
     files: &F,
     place: &Place<'_>,
     asked: &Asked<'_>,
     shelf: &mut Vec<Shelved>,
-) -> Result<Linked, PutFault>
+) -> Result<Made, PutFault>
     requires { AreRead (F.bytes_at files.now) shelf.old.items }
     ensures ok { IfOk result (IsAskedProgram (F.bytes_at files.now) place.now asked.now) }
-    ensures err { IfErr result (IsAskedFault (F.bytes_at files.now) place.now asked.now) }
-    ensures read { AreRead (F.bytes_at files.now) shelf.new.items }
+    ensures err { IfErr result (IsAskedFault (F.bytes_at files.now) place.now
+        (paths_on shelf.old.items) asked.now) }
+    ensures shelf { OnOk result (IsShelf (F.bytes_at files.now)
+        (with_objects place.now (paths_on shelf.old.items) asked.now.with.items
+        asked.now.object) shelf.new.items) }
 {
     let others = match others_of(alloc, files, place, asked, shelf) {
         Ok(others) => others,
@@ -238,10 +275,11 @@ fn asked_program<F: Opener>(
         Ok(at) => at,
         Err(fault) => return Err(fault_of(fault)),
     };
-    match program_of(alloc, asked, shelf[at].bytes.as_slice(), others.as_slice()) {
-        Ok(Ok(program)) => Ok(program),
-        Ok(Err(told)) => Err(PutFault::Link(told)),
-        Err(_) => Err(PutFault::Memory),
+    let wanted = place.lines;
+    let object = shelf[at].bytes.as_slice();
+    match made_of(alloc, wanted, asked, object, others.as_slice()) {
+        Ok(made) => Ok(made),
+        Err(fault) => Err(fault),
     }
 }
 
@@ -257,11 +295,13 @@ fn put_asked<F: Opener>(
     requires asked { Asks piece.now asked.now }
     requires read { AreRead (F.bytes_at files.now) shelf.old.items }
     ensures ok { IfOk result (λ put. IsProgramPut (F.bytes_at files.now) place.now piece.now put.items) }
-    ensures err { IfErr result (IsProgramFault (F.bytes_at files.now) place.now piece.now) }
-    ensures read { AreRead (F.bytes_at files.now) shelf.new.items }
+    ensures err { IfErr result (IsProgramFault (F.bytes_at files.now) place.now
+        (paths_on shelf.old.items) piece.now) }
+    ensures shelf { OnOk result (IsShelf (F.bytes_at files.now)
+        (with_piece_by word.Object place.now (paths_on shelf.old.items) piece.now) shelf.new.items) }
 {
     match asked_program(alloc, files, place, asked, shelf) {
-        Ok(program) => match program_put(alloc, piece, &program) {
+        Ok(made) => match program_put(alloc, piece, &made) {
             Ok(put) => Ok(put),
             Err(_) => Err(PutFault::Memory),
         },
@@ -279,8 +319,10 @@ fn put_program<F: Opener>(
 ) -> Result<Vec<u8>, PutFault>
     requires { AreRead (F.bytes_at files.now) shelf.old.items }
     ensures ok { IfOk result (λ put. IsProgramPut (F.bytes_at files.now) place.now piece.now put.items) }
-    ensures err { IfErr result (IsProgramFault (F.bytes_at files.now) place.now piece.now) }
-    ensures read { AreRead (F.bytes_at files.now) shelf.new.items }
+    ensures err { IfErr result (IsProgramFault (F.bytes_at files.now) place.now
+        (paths_on shelf.old.items) piece.now) }
+    ensures shelf { OnOk result (IsShelf (F.bytes_at files.now)
+        (with_piece_by word.Object place.now (paths_on shelf.old.items) piece.now) shelf.new.items) }
 {
     match asked_of(alloc, piece) {
         Ok(Some(asked)) => put_asked(alloc, files, place, piece, &asked, shelf),
@@ -299,8 +341,10 @@ pub fn put_piece<F: Opener>(
 ) -> Result<Vec<u8>, PutFault>
     requires { AreRead (F.bytes_at files.now) shelf.old.items }
     ensures ok { IfOk result (λ put. IsPut (F.bytes_at files.now) place.now piece.now put.items) }
-    ensures err { IfErr result (IsPutFault (F.bytes_at files.now) place.now piece.now) }
-    ensures read { AreRead (F.bytes_at files.now) shelf.new.items }
+    ensures err { IfErr result (IsPutFault (F.bytes_at files.now) place.now (paths_on shelf.old.items)
+        piece.now) }
+    ensures shelf { OnOk result (IsShelf (F.bytes_at files.now)
+        (with_piece place.now (paths_on shelf.old.items) piece.now) shelf.new.items) }
 {
     match head_of(piece).word {
         Word::Object => put_program(alloc, files, place, piece, shelf),

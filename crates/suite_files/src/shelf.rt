@@ -1,8 +1,8 @@
 //! The files that were read, each once.
-ghost use Rattle.std.specs.Prelude.{◌≡◌, ◌<◌, IfOk, IfErr, IfSome, Some, get_or, length, option_map};
+ghost use Rattle.std.specs.Prelude.{◌≡◌, ◌<◌, IfOk, IfErr, IfNone, IfSome, OnOk, Some, false, get_or, length, option_map};
 ghost use Rattle.bpfdb_files.specs.Reading.{Gives};
 ghost use Rattle.bpfdb_files.specs.declared.kinds.FileKind.TheVariants.{Source};
-ghost use Rattle.suite_files.specs.Shelves.{AreRead, HoldsAt, IsNameFault, IsReadFault, IsShelved};
+ghost use Rattle.suite_files.specs.Shelves.{AreRead, HoldsAt, IsNameFault, IsReadFault, IsShelf, IsShelved, IsUnread, Lacks, is_among, path_of, paths_on, with_path};
 ghost use Rattle.suite_files.specs.declared.shelf.Shelved.{Shelved};
 ghost use Rattle.suite_texts.specs.Captures.{AreStarts, packet_in};
 
@@ -45,8 +45,9 @@ pub enum NameFault {
 
 /// Which of the files has this path.
 fn place_of(shelf: &[Shelved], path: &[u8]) -> Option<usize>
-    ensures { IfSome result (λ at. (at < length shelf.now)
+    ensures some { IfSome result (λ at. (at < length shelf.now)
         × ((d : Shelved) → (get_or shelf.now at d).path.items ≡ path.now)) }
+    ensures none { IfNone result (is_among path.now (paths_on shelf.now) ≡ false) }
 {
     for at in 0..shelf.len() {
         if shelf[at].path.as_slice() == path {
@@ -59,7 +60,7 @@ fn place_of(shelf: &[Shelved], path: &[u8]) -> Option<usize>
 /// The bytes of the file of a path.
 fn bytes_of<F: Opener>(alloc: Global, files: &F, path: &[u8]) -> Result<Vec<u8>, NameFault>
     ensures ok { IfOk result (λ bytes. Gives Source (F.bytes_at files.now path.now) (Some bytes.items)) }
-    ensures err { IfErr result IsReadFault }
+    ensures err { IfErr result IsUnread }
 {
     let Ok(path) = str::from_utf8(path) else {
         return Err(NameFault::Named(NamedFault::Unread));
@@ -83,10 +84,11 @@ fn add<F: Opener>(
     path: Vec<u8>,
     shelf: &mut Vec<Shelved>,
 ) -> Result<usize, NameFault>
-    requires { AreRead (F.bytes_at files.now) shelf.old.items }
+    requires { Lacks (F.bytes_at files.now) shelf.old.items path.items }
     ensures at { IfOk result (HoldsAt (F.bytes_at files.now) shelf.new.items path.items) }
-    ensures err { IfErr result IsReadFault }
-    ensures read { AreRead (F.bytes_at files.now) shelf.new.items }
+    ensures err { IfErr result (IsReadFault (paths_on shelf.old.items) path.items) }
+    ensures shelf { OnOk result (IsShelf (F.bytes_at files.now)
+        (with_path (paths_on shelf.old.items) path.items) shelf.new.items) }
 {
     let at = shelf.len();
     if at >= MOST_FILES {
@@ -120,8 +122,9 @@ pub fn shelve<F: Opener>(
 ) -> Result<usize, NameFault>
     requires { AreRead (F.bytes_at files.now) shelf.old.items }
     ensures at { IfOk result (IsShelved (F.bytes_at files.now) place.now name.now shelf.new.items) }
-    ensures err { IfErr result (IsNameFault place.now name.now) }
-    ensures read { AreRead (F.bytes_at files.now) shelf.new.items }
+    ensures err { IfErr result (IsNameFault place.now (paths_on shelf.old.items) name.now) }
+    ensures shelf { OnOk result (IsShelf (F.bytes_at files.now)
+        (with_path (paths_on shelf.old.items) (path_of place.now name.now)) shelf.new.items) }
 {
     if name.is_empty() {
         return Err(NameFault::Named(NamedFault::Malformed));

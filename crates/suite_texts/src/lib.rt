@@ -15,5 +15,5 @@ pub use head::{Head, Text, head_of};
 pub use options::{are_options, is_empty, once_of, option_lines, values_of};
 pub use path::{folder_of, is_absolute, is_below};
 pub use piece::{Piece, front, pieces};
-pub use put::{feeds, memory_text, words_text};
+pub use put::{feeds, memory_text, with_lines, words_text};
 pub use word::Word;

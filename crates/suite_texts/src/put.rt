@@ -1,7 +1,7 @@
 //! What stands in place of a piece that names files: sections of the same lines.
-ghost use Rattle.std.specs.Prelude.{◌≡◌, ◌++◌, IfOk};
+ghost use Rattle.std.specs.Prelude.{◌≡◌, ◌++◌, IfOk, map};
 ghost use Rattle.hex.specs.Hex.{encode_lower};
-ghost use Rattle.suite_texts.specs.Puts.{feeds, memory_text, with_maps, words_text};
+ghost use Rattle.suite_texts.specs.Puts.{feeds, memory_text, row_byte, with_lines, with_maps, words_text};
 
 use hex::encode;
 use std::alloc::{AllocError, Global};
@@ -61,4 +61,34 @@ pub fn words_text(alloc: Global, words: &[u8], maps: &[u8]) -> Result<Vec<u8>, A
     let begun = with(Vec::new(alloc), b"-- words\x0c")?;
     let told = with_digits(alloc, begun, words)?;
     with_maps(told, maps)
+}
+
+/// A byte of a table, where a form feed ends a row.
+fn row_byte(byte: u8) -> u8
+    ensures { result ≡ row_byte byte }
+{
+    if byte == b'\n' { b'\x0c' } else { byte }
+}
+
+/// A table, in which form feeds end the rows.
+fn rows(alloc: Global, table: &[u8]) -> Result<Vec<u8>, AllocError>
+    ensures { IfOk result (λ found. found.items ≡ map row_byte table.now) }
+{
+    table
+        .iter()
+        .copied()
+        .map(|byte| row_byte(byte))
+        .collect(alloc)
+}
+
+/// A text, and behind it a section with a table of lines, if that has rows.
+pub fn with_lines(alloc: Global, text: Vec<u8>, table: &[u8]) -> Result<Vec<u8>, AllocError>
+    ensures { IfOk result (λ all. all.items ≡ with_lines text.items table.now) }
+{
+    if table.is_empty() {
+        return Ok(text);
+    }
+    let headed = with(text, b"\x0c-- lines\x0c")?;
+    let found = rows(alloc, table)?;
+    with(headed, found.as_slice())
 }

@@ -1,4 +1,4 @@
-use Rattle.std.proofs.Common.{◌∙◌, arith}
+use Rattle.std.proofs.Common.{arith}
 use Rattle.bpf_cover.proofs.Marks.{Marks-start, Marks-step, Marks-ended, Marks-all, runs_if_ok, ended_if_err}
 use Rattle.bpf_cover.proofs.coverage.mark_steps.Goals as goal
 

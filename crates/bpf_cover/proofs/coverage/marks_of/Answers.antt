@@ -1,5 +1,3 @@
-use Rattle.std.proofs.Common.{◌∙◌, ap, List}
-use Rattle.bpf_cover.specs.declared.coverage.Mark.{Mark}
 use Rattle.bpf_cover.proofs.Marks.{marks-push}
 use Rattle.bpf_cover.proofs.coverage.marks_of.Goals as goal
 

@@ -2,7 +2,7 @@ use Rattle.std.proofs.Common.{◌≡◌, ◌++◌, ℕ, List, append_assoc, code
 use Rattle.counted_io.proofs.Appending.{Writes-text}
 use Rattle.counted_io.specs.Lines.{lines}
 use Rattle.shown_text.specs.Shown.{shown}
-use Rattle.bpf_cover.specs.Tracefiles.{record_text, rows_text, totals_text}
+use Rattle.bpf_cover.specs.Tracefiles.{record_text, rows_text, totals_of}
 use Rattle.bpf_cover.proofs.tracefile.put_record.Goals as goal
 
 -- the parts of a record, one behind the other
@@ -17,6 +17,6 @@ returns g c = λ first front known.
     let named = c.put_shown-named.ensures first _ begun in
     let headed = c.put-headed.ensures first _ named in
     let told = c.put_rows-told.ensures first _ headed in
-    Writes-text g.W.Write.contents _ _ _ _ _ (c.put_totals.ensures first _ told)
+    Writes-text g.W.Write.contents _ _ _ _ _ (c.put_marked.ensures first _ told)
     (in_record front (codes "TN:\nSF:") (shown c.args.file.now) (codes "\n") (rows_text c.args.head c.args.marks.now (lines c.args.table.now))
-    (totals_text c.args.marks.now))
+    (totals_of c.args.marks.now))

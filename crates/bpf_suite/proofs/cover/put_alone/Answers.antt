@@ -7,4 +7,4 @@ returns-clause-text g c =
     let test = c.args.own.now ++ c.args.bench.now.sections in
     let found = c.in_ok-found.found in
     if-ok c.put_found.result _ _ (λ told p. (p.0, (found, found-alone test found c.in_ok-found.ensures.found, p.1), p.2))
-    (rw c.test-test.ensures at c.put_found.ensures)
+    (rw c.own.view_is at c.put_found.ensures)

@@ -1,8 +1,11 @@
 use Rattle.std.proofs.Common.{◌≡◌, ◌<◌, ◌+◌, ◌++◌, ◌∙◌, ℕ, List, add-one, length, subst, sym}
 use Rattle.std.proofs.lemmas.List.{get_or_default}
 use Rattle.std.specs.Prelude.{Option, get_or}
+use Rattle.suite_files.proofs.Desking.{few-named, paths-more}
+use Rattle.suite_files.specs.Desks.{HasPaths}
 use Rattle.suite_files.specs.Refused.{IsPieceFault}
-use Rattle.suite_files.specs.Replaced.{IsPut, ReplacesFirst, no_piece}
+use Rattle.suite_files.specs.Replaced.{IsPut, ReplacesFirst, no_piece, paths_first}
+use Rattle.suite_files.specs.Shelves.{paths_on}
 use Rattle.suite_files.specs.declared.place.Place.{Place}
 use Rattle.suite_texts.specs.declared.piece.Piece.{Piece}
 use Rattle.suite_files.proofs.file.with_pieces.Goals as goal
@@ -29,7 +32,11 @@ returns-in-Err-clause-err g c =
       inside = c.loop-k-test.true;
       before = c.loop-k.text.items;
       are_before = c.loop-k.invariant.first;
-      why = subst (λ (p : Piece). IsPieceFault bytes_at c.args.place.now c.loop-k.text.items p c.in-Err.fault) is c.in-Err.ensures.err;
+      why =
+          subst (λ (ps : List (List ℕ)). IsPieceFault bytes_at c.args.place.now ps c.loop-k.text.items (get_or all c.loop-k.k no_piece) c.in-Err.fault)
+          c.loop-k.invariant.desk.are
+          (subst (λ (p : Piece). IsPieceFault bytes_at c.args.place.now (paths_on c.loop-k.desk.shelf.items) c.loop-k.text.items p c.in-Err.fault) is
+          c.in-Err.ensures.err);
     }
 
 pub loop-k-preserved : goal.loop-k-preserved
@@ -41,5 +48,7 @@ loop-k-preserved g c =
       first =
           one_more bytes_at c.args.place.now all c.args.begun.items c.loop-k.k c.index-pieces-k.result c.loop-k.text.items c.in-Ok.all.items is
           c.loop-k.invariant.first c.in-Ok.ensures.ok;
-      desk = c.in-Ok.ensures.desk;
+      desk =
+          paths-more bytes_at c.args.place.now all c.loop-k.k c.index-pieces-k.result (paths_on c.loop-k.desk.shelf.items) _ is
+          c.loop-k.invariant.desk.are c.in-Ok.ensures.desk;
     }

@@ -5,8 +5,8 @@ pub returns-in-Ok-program_put-clause-ok : goal.returns-in-Ok-program_put-clause-
 returns-in-Ok-program_put-clause-ok g c = record {
   asked = c.args.asked.now;
   asks = c.requires.asked;
-  program = c.in-Ok.program;
-  is_program = c.in-Ok.ensures.ok;
+  made = c.in-Ok.made;
+  is_made = c.in-Ok.ensures.ok;
   is_put = c.in-Ok-program_put.ensures;
 }
 

@@ -8,19 +8,19 @@ use Rattle.suite_files.specs.declared.place.Place.{Place}
 use Rattle.suite_files.specs.declared.put.PutFault.TheVariants.{Named}
 use Rattle.suite_texts.specs.Heads.{head_of}
 use Rattle.suite_texts.specs.Options.{is_empty}
-use Rattle.suite_files.specs.Shelves.{IsFile}
+use Rattle.suite_files.specs.Shelves.{IsFile, paths_on}
 use Rattle.suite_files.proofs.put.put_packet.Goals as goal
 
 -- a capture that has no such packet
-no-packet : (bytes_at : List ℕ → Option (List ℕ)) (place : Place) (piece said : List ℕ) (number : ℕ) → is_empty piece ≡ true
-    → packet_number said ≡ Some number → LacksPacket bytes_at place said number → IsPacketFault (is_empty piece) bytes_at place said (Named NoPacket)
-no-packet bytes_at place piece said number empty numbered lacks =
-    subst (λ (b : Bool). IsPacketFault b bytes_at place said (Named NoPacket)) (sym empty)
-    (subst (λ (n : Option ℕ). IsNumberedFault bytes_at place said n (Named NoPacket)) (sym numbered) (inr (refl, lacks)))
+no-packet : (bytes_at : List ℕ → Option (List ℕ)) (place : Place) (paths : List (List ℕ)) (piece said : List ℕ) (number : ℕ) → is_empty piece ≡ true
+    → packet_number said ≡ Some number → LacksPacket bytes_at place said number → IsPacketFault (is_empty piece) bytes_at place paths said (Named NoPacket)
+no-packet bytes_at place paths piece said number empty numbered lacks =
+    subst (λ (b : Bool). IsPacketFault b bytes_at place paths said (Named NoPacket)) (sym empty)
+    (subst (λ (n : Option ℕ). IsNumberedFault bytes_at place paths said n (Named NoPacket)) (sym numbered) (inr (refl, lacks)))
 
 pub packet-requires : goal.packet-requires
 packet-requires g c =
-    starts-at (g.F.Opener.bytes_at c.args.files.now) c.shelve.new.shelf.items c.in-Ok.at c.index.result.now c.shelve.ensures.read
+    starts-at (g.F.Opener.bytes_at c.args.files.now) c.shelve.new.shelf.items c.in-Ok.at c.index.result.now c.in-Ok.ensures.shelf.read
     c.in-Ok.ensures.at.inside c.index.ensures
 
 pub returns-in-Ok-memory_put-clause-ok : goal.returns-in-Ok-memory_put-clause-ok
@@ -48,7 +48,7 @@ returns-in-None-clause-err g c =
     let one = c.index.result.now in
     let file =
     file-at bytes_at c.args.place.now c.capture_name-name.result.now c.shelve.new.shelf.items c.in-Ok.at one c.in-Ok.ensures.at c.index.ensures in
-    no-packet bytes_at c.args.place.now c.args.piece.now (head_of c.args.piece.now).value c.in-Some.number (sym c.if-not-is_empty.ensures)
+    no-packet bytes_at c.args.place.now (paths_on c.args.shelf.now.items) c.args.piece.now (head_of c.args.piece.now).value c.in-Some.number (sym c.if-not-is_empty.ensures)
     (ap packet_number (sym c.value_of-said.ensures) ∙ sym c.in-Some.ensures)
     (record {
       capture = one.bytes.items;

@@ -1,0 +1,15 @@
+use Rattle.std.proofs.Common.{◌==◌, ◌||◌, rules, tests}
+use Rattle.std.proofs.lemmas.Iterator.{items_from_collect}
+use Rattle.std.proofs.lemmas.Iterator.Consumers.{YieldsList-at, YieldsList-from_filter_map}
+use Rattle.std.proofs.lemmas.Iterator.Splits.{YieldsList-from_slice_split}
+use Rattle.counted_io.specs.Cuts.{trim}
+use Rattle.bpf_cover.specs.Places.{spot_of}
+use Rattle.bpf_cover.proofs.places.spots_of.Goals as goal
+
+pub returns : goal.returns
+returns c =
+    items_from_collect _ c.collect.ensures.ran
+    (YieldsList-from_filter_map _ (λ row. spot_of (trim row))
+    (YieldsList-at c.filter_map.ensures.source
+    (YieldsList-from_slice_split _ (λ b. b == 10 || b == 12) c.args.table.now c.split.ensures.rest c.split.ensures.done c.split.ensures.closure (λ x b q h. search (rules, tests))))
+    c.filter_map.ensures.closure (λ x r q k. search (rules, tests)))
