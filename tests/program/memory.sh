@@ -195,6 +195,12 @@ if has_clang 'link --with where memory is refused'; then
     wants "$plain$e26${of_functions}refused E26: out of memory (--with, object 2)\n" 0 "$(text table)" '' \
         lines --object --with functions.o --with twice.o --section time program.o
 fi
+# The places of branches in C, which are looked up before the run.
+if has_clang 'trace --branches --object where memory is refused'; then
+    clang -g -O2 -target bpf -c "$parts/places/branches.c" -o branches.o 2> found/err || complain "branches.c: $(cat found/err)"
+    "$program" trace --branches --object --entry entry -m context branches.o > table
+    wants "$plain$e26$c13$o2" 0 "$(text table)" '' trace --branches --object --entry entry -m context branches.o
+fi
 # Programs in turn.
 if has_clang 'link --entry where memory is refused'; then
     clang -g -O2 -target bpf -c "$parts/turns/pair.c" -o pair.o 2> found/err || complain "pair.c: $(cat found/err)"
