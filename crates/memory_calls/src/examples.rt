@@ -93,18 +93,18 @@ fn of_machine(alloc: Global) -> Option<(u64, u64)> {
 
 /// How many moves the timeline kept, and where its machine stands.
 fn of_history(alloc: Global) -> Option<(u64, u64)> {
-    let (kept, pc) = history::play(&mut history::timeline(alloc)?);
+    let (kept, pc) = history::play(&mut history::timeline(alloc, machine::machine(alloc)?)?);
     Some((kept as u64, u64::from(pc)))
 }
 
 /// What the session replies.
 fn of_session(alloc: Global) -> Option<Vec<u8>> {
-    let mut session = session::session(alloc)?;
+    let mut session = session::session(alloc, machine::machine(alloc)?)?;
     session::replies(alloc, &mut session, b"stepi 2\nreverse-stepi\n")
 }
 
 /// What the connection answers.
 fn of_connection(alloc: Global) -> Option<Vec<u8>> {
-    let mut session = connection::session(alloc)?;
+    let mut session = session::session(alloc, machine::machine(alloc)?)?;
     connection::answers(alloc, &mut session, b"$s#73")
 }

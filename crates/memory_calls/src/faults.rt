@@ -11,12 +11,14 @@ use std::alloc::{AllocError, Global};
 use std::fmt::Display;
 use std::io::Write;
 
-/// Writes the line of a fault, if there is memory for it.
+/// Writes the line of a fault behind what is told, if there is memory for it.
 fn tell<W: Write, D: Display>(
     alloc: Global,
     output: &mut Counted<W>,
+    told: Result<(), Lack>,
     fault: &D,
 ) -> Result<(), Lack> {
+    told?;
     match format!(in alloc; "{fault}\n") {
         Ok(line) => say(output, line.as_bytes()),
         Err(AllocError) => Err(Lack::Memory),
@@ -26,50 +28,58 @@ fn tell<W: Write, D: Display>(
 /// The lines of faults of words, programs and maps.
 fn tell_programs<W: Write>(alloc: Global, output: &mut Counted<W>) -> Result<(), Lack> {
     let (slot, fault) = (7, PieceFault::RunsOff);
-    tell(alloc, output, &WordFault::CutOff)?;
-    tell(alloc, output, &fault)?;
-    tell(alloc, output, &LoadFault::Empty)?;
-    tell(alloc, output, &LoadFault::At { slot, fault })?;
-    tell(alloc, output, &MapFault::Full)
+    let told = tell(alloc, output, Ok(()), &WordFault::CutOff);
+    let told = tell(alloc, output, told, &fault);
+    let told = tell(alloc, output, told, &LoadFault::Empty);
+    let told = tell(alloc, output, told, &LoadFault::At { slot, fault });
+    tell(alloc, output, told, &MapFault::Full)
 }
 
 /// The lines of faults of listings, machines and journals, and of a refusal.
-fn tell_openings<W: Write>(alloc: Global, output: &mut Counted<W>) -> Result<(), Lack> {
-    tell(alloc, output, &AsmFault::Line(LineFault::LabelTwice(1), 3))?;
-    tell(alloc, output, &AsmFault::Memory)?;
-    tell(alloc, output, &OpenFault::ContextTooLong)?;
-    tell(alloc, output, &JournalFault::SizeOutOfRange)?;
-    tell(alloc, output, &Refusal::NoCell)
+fn tell_openings<W: Write>(
+    alloc: Global,
+    output: &mut Counted<W>,
+    told: Result<(), Lack>,
+) -> Result<(), Lack> {
+    let twice = AsmFault::Line(LineFault::LabelTwice(1), 3);
+    let told = tell(alloc, output, told, &twice);
+    let told = tell(alloc, output, told, &AsmFault::Memory);
+    let told = tell(alloc, output, told, &OpenFault::ContextTooLong);
+    let told = tell(alloc, output, told, &JournalFault::SizeOutOfRange);
+    tell(alloc, output, told, &Refusal::NoCell)
 }
 
 /// The lines of the faults of edits.
-fn tell_edits<W: Write>(alloc: Global, output: &mut Counted<W>) -> Result<(), Lack> {
-    for fault in [
-        EditFault::AddressNotPresent,
-        EditFault::RegisterNotWritable,
-        EditFault::NoStart,
-        EditFault::NoCell,
-    ] {
-        tell(alloc, output, &fault)?;
-    }
-    Ok(())
+fn tell_edits<W: Write>(
+    alloc: Global,
+    output: &mut Counted<W>,
+    told: Result<(), Lack>,
+) -> Result<(), Lack> {
+    let told = tell(alloc, output, told, &EditFault::AddressNotPresent);
+    let told = tell(alloc, output, told, &EditFault::RegisterNotWritable);
+    let told = tell(alloc, output, told, &EditFault::NoStart);
+    tell(alloc, output, told, &EditFault::NoCell)
 }
 
 /// The lines of the faults of moves and of streams.
-fn tell_moves<W: Write>(alloc: Global, output: &mut Counted<W>) -> Result<(), Lack> {
+fn tell_moves<W: Write>(
+    alloc: Global,
+    output: &mut Counted<W>,
+    told: Result<(), Lack>,
+) -> Result<(), Lack> {
     let refused = MoveFault::Edit(EditFault::NoStart);
-    tell(alloc, output, &Ended)?;
-    tell(alloc, output, &TimelineFault::Move(refused))?;
-    tell(alloc, output, &MoveFault::Ended)?;
-    tell(alloc, output, &TimelineFault::OutOfMemory)?;
-    tell(alloc, output, &RunFault::Read)?;
-    tell(alloc, output, &RunFault::Write)
+    let told = tell(alloc, output, told, &Ended);
+    let told = tell(alloc, output, told, &TimelineFault::Move(refused));
+    let told = tell(alloc, output, told, &MoveFault::Ended);
+    let told = tell(alloc, output, told, &TimelineFault::OutOfMemory);
+    let told = tell(alloc, output, told, &RunFault::Read);
+    tell(alloc, output, told, &RunFault::Write)
 }
 
 /// `Display`: the lines of all these.
 pub fn tell_faults<W: Write>(alloc: Global, output: &mut Counted<W>) -> Result<(), Lack> {
-    tell_programs(alloc, output)?;
-    tell_openings(alloc, output)?;
-    tell_edits(alloc, output)?;
-    tell_moves(alloc, output)
+    let told = tell_programs(alloc, output);
+    let told = tell_openings(alloc, output, told);
+    let told = tell_edits(alloc, output, told);
+    tell_moves(alloc, output, told)
 }

@@ -21,7 +21,6 @@ mod telling;
 
 use bpfdb_files::FileKind;
 use counted_io::{Counted, put, put_decimal};
-use scripts::Script;
 use std::io::Write;
 use std::process::ExitCode;
 use std::{env, io};
@@ -127,9 +126,9 @@ fn made<W: Write>(rt: &HostRuntime, name: &str, output: &mut Counted<W>) -> Resu
         "machine" => programs::open_machine(alloc, output),
         "list" => scripts::open_list(alloc, output),
         "ring" => scripts::open_ring(alloc, output),
-        "answer" => scripts::run_script(alloc, Script::Answer, output),
-        "loop" => scripts::run_script(alloc, Script::Loop, output),
-        "edits" => scripts::run_script(alloc, Script::Edits, output),
+        "answer" => scripts::run_script(alloc, &scripts::ANSWER, output),
+        "loop" => scripts::run_script(alloc, &scripts::LOOP, output),
+        "edits" => scripts::run_script(alloc, &scripts::EDITS, output),
         "program" => files::read(alloc, FileKind::Program, output),
         "context" => files::read(alloc, FileKind::Context, output),
         "source" => files::read(alloc, FileKind::Source, output),

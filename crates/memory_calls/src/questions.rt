@@ -5,9 +5,9 @@
 //! the program may access them. `listing LINES`, with a bar between two: what a reader of its fault
 //! looks for. A question that is none has no answer.
 use crate::programs::CONTEXT;
-use crate::sessions::{bytes_of, maps_of, text_of};
+use crate::sessions::{bytes_of, machine_of, maps_of, text_of};
 use crate::telling::{Lack, said};
-use bpf_isa::{Insn, WordFault, check, decode};
+use bpf_isa::{Insn, WordFault, decode};
 use bpf_machine::Cpu;
 use bpf_text::{AsmFault, LineFault, assemble, write_insn};
 use bpfdb_files::FileKind;
@@ -141,9 +141,7 @@ fn run_told(alloc: Global, words: &str) -> Option<&'static str> {
 
 /// The same in a machine with these maps.
 fn answers_with(alloc: Global, maps: &str, address: u64, count: usize) -> Option<&'static str> {
-    let maps = maps_of(maps)?;
-    let program = check(alloc, &EXIT, &maps).ok()?;
-    let cpu = Cpu::open(alloc, program, CONTEXT).ok()?;
+    let cpu = machine_of(alloc, &EXIT, &maps_of(maps)?, CONTEXT)?;
     Some(answers(&cpu, address, count))
 }
 

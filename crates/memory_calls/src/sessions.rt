@@ -16,7 +16,7 @@ ghost use Rattle.bpf_journal.specs.Tracks.{RingHolds, ring_room};
 
 use crate::telling::{Lack, say};
 use crate::word;
-use bpf_isa::{MapTable, Program, Reg, check};
+use bpf_isa::{MapTable, Reg, check};
 use bpf_journal::{Keeper, ListKeeper, RingKeeper};
 use bpf_machine::{Cpu, Ended};
 use bpf_remote::{Layout, Wanted, serve};
@@ -48,9 +48,18 @@ pub fn play_words<W: Write>(
     let Some(way) = way_of(words, way) else {
         return Err(Lack::NotReached);
     };
+    let Some(cpu) = machine(rt, words) else {
+        return Err(Lack::NotReached);
+    };
     match keeper {
-        "list" => play_list(rt, machine(rt, words), way, output),
-        "ring" => play_ring(rt, machine(rt, words), way, output),
+        "list" => {
+            let session = list_session(rt.alloc(), cpu, way.size, way.limit);
+            play_in(rt, session, way, output)
+        }
+        "ring" => {
+            let session = ring_session(rt.alloc(), cpu, way.size, way.limit);
+            play_ring(rt, session, way, output)
+        }
         _ => Err(Lack::NotReached),
     }
 }
@@ -103,18 +112,21 @@ pub fn maps_of(text: &str) -> Option<MapTable> {
     MapTable::parse(text.as_bytes()).ok()
 }
 
-/// The program that the words name, with its maps.
-fn program(rt: &HostRuntime, words: &[String]) -> Option<Program> {
-    let maps = maps_of(word(words, 4))?;
-    let bytes = bytes_at(rt, word(words, 2), FileKind::Program)?;
-    check(rt.alloc(), &bytes, &maps).ok()
+/// The machine of a program's words, with these maps and the bytes of a context, before its first
+/// step.
+pub fn machine_of(alloc: Global, words: &[u8], maps: &MapTable, context: &[u8]) -> Option<Cpu> {
+    match check(alloc, words, maps) {
+        Ok(program) => Cpu::open(alloc, program, context).ok(),
+        Err(_) => None,
+    }
 }
 
-/// The machine that the words name, before its first step.
+/// The machine that the words of the command line name, before its first step.
 fn first_machine(rt: &HostRuntime, words: &[String]) -> Option<Cpu> {
+    let maps = maps_of(word(words, 4))?;
+    let program = bytes_at(rt, word(words, 2), FileKind::Program)?;
     let context = context_at(rt, word(words, 3))?;
-    let program = program(rt, words)?;
-    Cpu::open(rt.alloc(), program, &context).ok()
+    machine_of(rt.alloc(), &program, &maps, &context)
 }
 
 /// The machine that the words name, after the steps that they name.
@@ -196,41 +208,17 @@ fn ring_session(alloc: Global, cpu: Cpu, size: usize, limit: Count) -> Option<Se
     }
 }
 
-/// Plays the script over a list.
-fn play_list<W: Write>(
-    rt: &HostRuntime,
-    cpu: Option<Cpu>,
-    way: Way,
-    output: &mut Counted<W>,
-) -> Result<(), Lack> {
-    match cpu {
-        Some(cpu) => play_in(
-            rt,
-            list_session(rt.alloc(), cpu, way.size, way.limit),
-            way,
-            output,
-        ),
-        None => Err(Lack::NotReached),
-    }
-}
-
-/// Plays the script over a ring.
+/// Plays the script over a ring, whose bytes are told or not.
 fn play_ring<W: Write>(
     rt: &HostRuntime,
-    cpu: Option<Cpu>,
+    session: Option<Session<RingKeeper>>,
     way: Way,
     output: &mut Counted<W>,
 ) -> Result<(), Lack> {
-    match cpu {
-        Some(cpu) => {
-            let session = ring_session(rt.alloc(), cpu, way.size, way.limit);
-            if way.bytes {
-                play_told(rt, session, output)
-            } else {
-                play_in(rt, session, way, output)
-            }
-        }
-        None => Err(Lack::NotReached),
+    if way.bytes {
+        play_told(rt, session, output)
+    } else {
+        play_in(rt, session, way, output)
     }
 }
 

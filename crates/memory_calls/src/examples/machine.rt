@@ -3,9 +3,10 @@ use bpf_isa::{MapTable, Reg, check};
 use bpf_machine::{Cpu, Edit, Status};
 use std::alloc::Global;
 
-/// mov r0, 40; add r0, 2; exit.
-const WORDS: [u8; 24] = [
-    0xb7, 0, 0, 0, 40, 0, 0, 0, 0x07, 0, 0, 0, 2, 0, 0, 0, 0x95, 0, 0, 0, 0, 0, 0, 0,
+/// mov r0, 40; add r0, 2; stb [r10-8], 7; exit.
+const WORDS: [u8; 32] = [
+    0xb7, 0, 0, 0, 40, 0, 0, 0, 0x07, 0, 0, 0, 2, 0, 0, 0, 0x72, 0x0a, 0xf8, 0xff, 7, 0, 0, 0,
+    0x95, 0, 0, 0, 0, 0, 0, 0,
 ];
 
 /// The machine before its first step.
@@ -14,7 +15,7 @@ pub fn machine(alloc: Global) -> Option<Cpu> {
     Cpu::open(alloc, program, b"the context").ok()
 }
 
-/// Takes the first step, changes r0 by hand, and takes the other two. Answers r0 before the change
+/// Takes the first step, changes r0 by hand, and takes the other three. Answers r0 before the change
 /// and at the end, if the program has ended then.
 pub fn play(cpu: &mut Cpu) -> Option<(u64, u64)> {
     let register = Reg::new(0)?;
@@ -22,8 +23,9 @@ pub fn play(cpu: &mut Cpu) -> Option<(u64, u64)> {
     let before = cpu.reg(register);
     let value = 50;
     cpu.edit(&Edit::Register { register, value }).ok()?;
-    cpu.advance().ok()?;
-    cpu.advance().ok()?;
+    for _ in 0..3 {
+        cpu.advance().ok()?;
+    }
     match cpu.status() {
         Status::Exited => Some((before, cpu.reg(register))),
         _ => None,
