@@ -14,7 +14,7 @@ ghost use Rattle.std.specs.Prelude.{◌≡◌, [], IfSome};
 ghost use Rattle.bpf_journal.specs.Histories.{HasHistory};
 ghost use Rattle.bpf_journal.specs.Tracks.{RingHolds, ring_room};
 
-use crate::telling::{Lack, say};
+use crate::telling::{Lack, said};
 use crate::word;
 use bpf_isa::{MapTable, Reg, check};
 use bpf_journal::{Keeper, ListKeeper, RingKeeper};
@@ -22,7 +22,7 @@ use bpf_machine::{Cpu, Ended};
 use bpf_remote::{Layout, Wanted, serve};
 use bpf_session::{Count, RunFault, Session, run};
 use bpfdb_files::{FileKind, read_kind};
-use counted_io::Counted;
+use counted_io::{Counted, put};
 use std::alloc::Global;
 use std::fs;
 use std::io::{Read, Write};
@@ -386,7 +386,10 @@ fn play_line<K: Anew, W: Write>(
 fn again<K: Anew>(alloc: Global, session: Session<K>, limit: Count) -> Result<Session<K>, Lack> {
     let (cpu, keeper) = session.close();
     let keeper = keeper.anew(&cpu);
-    opened(alloc, cpu, keeper, limit).ok_or(Lack::NotReached)
+    match opened(alloc, cpu, keeper, limit) {
+        Some(session) => Ok(session),
+        None => Err(Lack::NotReached),
+    }
 }
 
 /// A keeper that is taken apart and put together again, where it has parts.
@@ -418,13 +421,22 @@ fn tell_bytes<W: Write>(
     output: &mut Counted<W>,
 ) -> Result<(), Lack> {
     match digits_of(alloc, ring) {
-        Some(digits) => say(output, digits.as_bytes()),
+        Some(digits) => {
+            let told = put(output, Ok(()), b"bytes ");
+            let told = put(output, told, digits.as_bytes());
+            said(put(output, told, b"\n"))
+        }
         None => Err(Lack::Memory),
     }
 }
 
-/// The bytes of a ring in hexadecimal, the oldest first, in a line.
+/// The bytes of a ring in hexadecimal.
 fn digits_of(alloc: Global, ring: &RingKeeper) -> Option<String> {
+    hex::encode(alloc, &bytes_in(alloc, ring)?).ok()
+}
+
+/// The bytes of a ring, the oldest first.
+fn bytes_in(alloc: Global, ring: &RingKeeper) -> Option<Vec<u8>> {
     let mut bytes = Vec::new(alloc);
     for index in 0..=ring.capacity() {
         match ring.byte(index) {
@@ -432,6 +444,5 @@ fn digits_of(alloc: Global, ring: &RingKeeper) -> Option<String> {
             None => break,
         }
     }
-    let digits = hex::encode(alloc, &bytes).ok()?;
-    format!(in alloc; "bytes {digits}\n").ok()
+    Some(bytes)
 }
