@@ -1,7 +1,7 @@
 -- What was read and linked, as further pieces are put.
 use Rattle.std.proofs.Common.{◌≡◌, ◌∙◌, ◌≤◌, ◌+◌, [], ℕ, List, add-one, ap, arith, length, refl, subst, sym}
 use Rattle.std.proofs.lemmas.List.{length-map}
-use Rattle.std.specs.Prelude.{Option, get_or}
+use Rattle.std.specs.Prelude.{OnOk, Option, Result, Ok, Err, get_or}
 use Rattle.std.specs.List.{All}
 use Rattle.suite_files.proofs.Naming.{piece-known, piece-others}
 use Rattle.suite_files.specs.Desks.{HasPaths, IsDesk, IsDone}
@@ -36,6 +36,11 @@ done-now bytes_at place paths shelf done put is =
       is_put = put;
       known = λ all among. piece-known (head_of done.piece.now).word place paths done.piece.now all among;
     })
+
+-- what holds whatever is answered
+pub on-all : {A E P : Type 0} (r : Result A E) → P → OnOk r P
+on-all (Ok v) p = p
+on-all (Err e) p = tt
 
 -- the same piece again
 pub desk-again : (bytes_at : List ℕ → Option (List ℕ)) (place : Place) (desk : Desk) (done : Done) (piece : List ℕ) → IsDesk bytes_at place desk

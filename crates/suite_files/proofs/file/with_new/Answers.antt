@@ -21,9 +21,10 @@ returns-then-not-is-clause-desk g c =
     let bytes_at = g.F.Opener.bytes_at c.args.files.now in
     let place = c.args.place.now in
     let paths = paths_on c.args.desk.now.shelf.items in
-    let shelf = subst (λ (bytes : List ℕ). IsShelf bytes_at (with_piece place paths bytes) _) c.text_of-bytes.ensures c.in-Ok.ensures.shelf in
+    let all = c.put_piece.new.shelf.items in
+    let shelf = subst (λ (bytes : List ℕ). IsShelf bytes_at (with_piece place paths bytes) all) c.text_of-bytes.ensures c.in-Ok.ensures.shelf in
     record {
-      is_desk = record { read = shelf.read; done = all-later bytes_at place paths c.args.piece.now.text _ _ c.requires.done shelf };
+      is_desk = record { read = shelf.read; done = all-later bytes_at place paths c.args.piece.now.text all _ c.requires.done shelf };
       are = shelf.are;
     }
 
@@ -32,15 +33,16 @@ returns-in-Ok-push-clause-desk g c =
     let bytes_at = g.F.Opener.bytes_at c.args.files.now in
     let place = c.args.place.now in
     let paths = paths_on c.args.desk.now.shelf.items in
+    let all = c.put_piece.new.shelf.items in
     let read = c.in-Ok.ensures.shelf in
-    let shelf = subst (λ (bytes : List ℕ). IsShelf bytes_at (with_piece place paths bytes) _) c.text_of-bytes.ensures read in
+    let shelf = subst (λ (bytes : List ℕ). IsShelf bytes_at (with_piece place paths bytes) all) c.text_of-bytes.ensures read in
     record {
       is_desk = record {
         read = shelf.read;
         done =
-            subst (λ (all : List Done). All (IsDone bytes_at place (paths_on _)) all) (sym c.in-Ok-push.ensures.items)
-            (All-push (IsDone bytes_at place (paths_on _)) _ _ (all-later bytes_at place paths c.args.piece.now.text _ _ c.requires.done shelf)
-            (done-now bytes_at place paths _ _ c.in-Ok.ensures.ok read));
+            subst (λ (done : List Done). All (IsDone bytes_at place (paths_on all)) done) (sym c.in-Ok-push.ensures.items)
+            (All-push (IsDone bytes_at place (paths_on all)) _ _ (all-later bytes_at place paths c.args.piece.now.text all _ c.requires.done shelf)
+            (done-now bytes_at place paths all _ c.in-Ok.ensures.ok read));
       };
       are = shelf.are;
     }

@@ -8,7 +8,7 @@ use Rattle.suite_files.specs.declared.place.Place.{Place}
 use Rattle.suite_files.specs.declared.put.PutFault.TheVariants.{Named}
 use Rattle.suite_texts.specs.Heads.{head_of}
 use Rattle.suite_texts.specs.Options.{is_empty}
-use Rattle.suite_files.specs.Shelves.{IsFile, paths_on}
+use Rattle.suite_files.specs.Shelves.{IsFile, IsShelf, path_of, paths_on, with_path}
 use Rattle.suite_files.proofs.put.put_packet.Goals as goal
 
 -- a capture that has no such packet
@@ -57,3 +57,10 @@ returns-in-None-clause-err g c =
           (c.capture_name-name.ensures ∙ ap capture_name c.value_of-said.ensures) file;
       none = sym c.in-None.ensures;
     })
+
+pub returns-in-Ok-memory_put-clause-shelf : goal.returns-in-Ok-memory_put-clause-shelf
+returns-in-Ok-memory_put-clause-shelf g c =
+    let bytes_at = g.F.Opener.bytes_at c.args.files.now in
+    subst
+    (λ (name : List ℕ). IsShelf bytes_at (with_path (paths_on c.args.shelf.now.items) (path_of c.args.place.now name)) c.shelve.new.shelf.items)
+    (c.capture_name-name.ensures ∙ ap capture_name c.value_of-said.ensures) c.in-Ok.ensures.shelf
