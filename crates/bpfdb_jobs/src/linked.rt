@@ -1,7 +1,8 @@
 //! Jobs over an object: it is linked, and the job is done over its words, with its maps.
 ghost use Rattle.std.specs.Prelude.{◌≡◌, ◌≤◌, IfErr, IfOk};
-ghost use Rattle.bpfdb_jobs.specs.Done.{DoesLinked};
+ghost use Rattle.bpfdb_jobs.specs.Done.{DoesLinked, DoesPlain};
 ghost use Rattle.bpfdb_jobs.specs.Objects.{HasPlace, HasPlaces, IsOver, LinksTo, RefusesLinking, asks_place, is_check, is_whynot, links_first, tells_branches};
+ghost use Rattle.bpfdb_jobs.specs.declared.job.Job.{Job as Over};
 ghost use Rattle.bpfdb_limits.specs.Limits.{IsLimit};
 ghost use Rattle.bpfdb_faults.specs.Streams.{stream};
 
@@ -134,16 +135,39 @@ fn do_asked<R: Read, W: Write, E: Write>(
     ensures status { result ≤ 2 }
 {
     if !tells_branches(job) {
-        let over = job_over(job, linked, goals, None);
-        return plain_tool(alloc, &over, reader, writer, errors);
+        return do_over(alloc, job, linked, goals, None, reader, writer, errors);
     }
-    match object_places(alloc, job.file, section_of(job), linked.words.as_slice()) {
-        Ok(places) => {
-            let over = job_over(job, linked, goals, Some(places.as_slice()));
-            plain_tool(alloc, &over, reader, writer, errors)
+    let words = linked.words.as_slice();
+    match object_places(alloc, job.file, section_of(job), words) {
+        Ok(texts) => {
+            let places = Some(texts.as_slice());
+            do_over(alloc, job, linked, goals, places, reader, writer, errors)
         }
         Err(why) => refuse(job, job.file, errors, why),
     }
+}
+
+/// Does a job over that program, the slots of the place, and where its slots stand.
+fn do_over<R: Read, W: Write, E: Write>(
+    alloc: Global,
+    job: &Job<'_>,
+    linked: &Linked,
+    goals: Option<&[u8]>,
+    places: SlotTexts<'_>,
+    reader: &mut Counted<R>,
+    writer: &mut Counted<W>,
+    errors: &mut Counted<E>,
+) -> u8
+    requires limit { IsLimit job.now.options.limit }
+    requires known { HasPlace (asks_place job.now) job.now linked.now.words.items goals
+        × HasPlaces (tells_branches job.now) job.now linked.now.words.items places }
+    ensures does { (over : Over) × IsOver job.now linked.now over
+        × DoesPlain job.now.subcommand over (stream R.remaining reader.old reader.new)
+        (stream W.contents writer.old writer.new) (stream E.contents errors.old errors.new) result }
+    ensures status { result ≤ 2 }
+{
+    let over = job_over(job, linked, goals, places);
+    plain_tool(alloc, &over, reader, writer, errors)
 }
 
 /// The program of FILE. What linking needs of the stack is given back before the job is done.
