@@ -200,8 +200,9 @@ class Object:
         return names
 
 
-def held(path, options):
-    """How many bytes of an object's maps have the names that they should have; None where the object isn't linked."""
+def held(path, options, starts=range(8)):
+    """How many bytes of an object's maps have the names that they should have; None where the object isn't linked. A line has the name of the first of
+    its eight bytes: so bytes are asked about from several places on."""
     linked = subprocess.run([PROGRAM, 'link', *options, path], capture_output=True, check=False)
     told = linked.stderr.decode(errors='surrogateescape').split('\n')
     if linked.returncode or not told[0].startswith('--maps '):
@@ -214,8 +215,7 @@ def held(path, options):
         for index, shape in enumerate(told[0].split()[1].split(',')):
             size, entries = map(int, shape.split('x'))
             wanted = elf.map_names(index, names.get(index, ''), size, entries)
-            # (a line has the name of the first of its eight bytes)
-            for at in (at for start in range(8) for at in range(start, size * entries, 256)):
+            for at in (at for start in starts for at in range(start, size * entries, 256)):
                 first = BASE + STRIDE * index + at
                 asked = min(256, size * entries - at)
                 done = subprocess.run([PROGRAM, 'origin', '--script', script.name, '--object', *options, path, f'{first:#x}:{asked}'],
@@ -246,7 +246,7 @@ def turned(path, step, options):
             changed = os.path.join(folder, 'turned.o')
             with open(changed, 'wb') as file:
                 file.write(other)
-            count += held(changed, options) or 0
+            count += held(changed, options, [at % 8]) or 0
     return count
 
 
