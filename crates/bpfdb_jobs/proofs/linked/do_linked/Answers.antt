@@ -1,4 +1,4 @@
-use Rattle.std.proofs.Common.{◌≡◌, ◌∙◌, ℕ, Bool, List, Some, inr, refl, subst, sym, true}
+use Rattle.std.proofs.Common.{◌≡◌, ◌∙◌, ℕ, Bool, List, Some, inr, refl, subst, sym, false, true}
 use Rattle.std.specs.Prelude.{◌&&◌, ◌||◌}
 use Rattle.bpfdb_jobs.specs.Done.{Unlinked}
 use Rattle.bpf_places.specs.Lookups.{AreObjectSlots}
