@@ -3,7 +3,8 @@ use Rattle.std.specs.Prelude.{◌&&◌, ◌||◌}
 use Rattle.bpfdb_jobs.specs.Done.{Unlinked}
 use Rattle.bpf_places.specs.Lookups.{AreObjectSlots}
 use Rattle.bpfdb_jobs.specs.Jobs.{asked_of, section_of}
-use Rattle.bpfdb_jobs.specs.Objects.{HasPlace}
+use Rattle.bpfdb_jobs.specs.Objects.{HasPlace, asks_place, is_whynot, tells_branches}
+use Rattle.bpf_places.specs.Places.{is_place}
 use Rattle.bpfdb_jobs.proofs.linked.do_linked.Goals as goal
 
 pub do_asked-requires-in-Ok-clause-linked : goal.do_asked-requires-in-Ok-clause-linked
@@ -26,6 +27,8 @@ tells false b c e = absurd cc
 
 pub returns-in-Err-clause-does : goal.returns-in-Err-clause-does
 returns-in-Err-clause-does g c =
+    let job = c.args.job.now in
     let told = c.refuse.ensures.told in
-    let asks = tells _ _ _ (sym c.asks_place.ensures ∙ c.if-not-asks_place.false) in
-    Unlinked c.in-Err.why told.0 (inr (inr (asks, rw c.section_of.ensures at c.in-Err.ensures.err))) told.1 refl refl told.2 c.refuse.ensures.value
+    let asks : asks_place job ≡ true = sym c.asks_place.ensures ∙ c.if-not-asks_place.false in
+    let branches : tells_branches job ≡ true = tells (is_whynot job.subcommand) (is_place (asked_of job)) job.options.only_branches asks in
+    Unlinked c.in-Err.why told.0 (inr (inr (branches, rw c.section_of.ensures at c.in-Err.ensures.err))) told.1 refl refl told.2 c.refuse.ensures.value
