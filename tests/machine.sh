@@ -71,6 +71,14 @@ has_clang() {
     return 1
 }
 
+# find_compilers WHAT: `compilers` are those of C for BPF that are here, clang and clang-19; without clang none, and WHAT is left out.
+find_compilers() {
+    compilers=''
+    has_clang "$1" || return 0
+    compilers=clang
+    ! command -v clang-19 > /dev/null || compilers='clang clang-19'
+}
+
 # has_libpcap WHAT: whether python3 finds the library that reads captures; without it WHAT is left out.
 has_libpcap() {
     for name in libpcap.so.0.8 libpcap.so.1; do

@@ -10,11 +10,7 @@ finds() {
     result "$value\n" run --object --section "$section" "$@" sized.o
 }
 
-compilers=
-if has_clang 'link --entries'; then
-    compilers=clang
-    ! command -v clang-19 > found/which || compilers='clang clang-19'
-fi
+find_compilers 'link --entries'
 for compiler in $compilers; do
     for name in sized library; do
         "$compiler" -g -O2 -target bpf -c "$parts/counts/$name.c" -o $name.o 2> found/err || complain "$compiler: $name.c: $(cat found/err)"

@@ -24,10 +24,7 @@ gives() {
     cmp -s again words && cmp -s found/err told || complain "$section$with: another program than step by step"
 }
 
-if has_clang 'link --with'; then
-    compilers=clang
-    command -v clang-19 > found/which && compilers='clang clang-19'
-fi
+find_compilers 'link --with'
 for compiler in $compilers; do
     for name in program functions mock twice pointers fields; do
         "$compiler" -g -O2 -target bpf -c "$parts/join/$name.c" -o $name.o 2> found/err || complain "$compiler: $name.c: $(cat found/err)"

@@ -28,11 +28,7 @@ arithmetic="E58: arithmetic on the address of the packet's struct"
 escapes="E59: address of the packet's struct is stored, passed or returned"
 kernels="refused E55: entry takes the kernel's own struct of a packet: link --packet, in tests -- struct, or clang -include bpfdb.h, gives it one of the machine's"
 
-compilers=
-if has_clang 'link --packet'; then
-    compilers=clang
-    command -v clang-19 > found/which && compilers='clang clang-19'
-fi
+find_compilers 'link --packet'
 for compiler in $compilers; do
     for level in '-O1' '-O2' '-O2 -mcpu=v3'; do
         # (options have no blanks within)

@@ -54,11 +54,7 @@ refused 'refused A1 at line 1: unknown mnemonic' lines none.o
 usage "'--with' needs '--object'" lines --with calls.o none.o
 usage "'--section', '--entry', '--entries', '--stub' and '--as-compiled' need '--object'" lines --section prog none.o
 
-compilers=''
-if has_clang 'lines --object'; then
-    compilers=clang
-    command -v clang-19 > found/which && compilers='clang clang-19'
-fi
+find_compilers 'lines --object'
 for compiler in $compilers; do
     for level in 1 2; do
         "$compiler" -g -O$level -target bpf -c "$parts/lines/two.c" -o two.o 2> found/err || complain "$compiler: two.c: $(cat found/err)"

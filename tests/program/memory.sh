@@ -280,52 +280,37 @@ done
 table='# cover of the program in line 3: 2 of 2 instructions, 0 of 0 branches both ways\n'
 reports "$plan$one$two$cell$show$table" --cover
 said 'bpfdb test --cover' '0 lines\n1 lines\n2 lines\n9 lines\n'
-# With --cover-info the report stands on standard error, and behind it that memory ran out; then there is no tracefile, or else all of it.
-record='TN:\nSF:two.test\nDA:4,1\nDA:5,1\nLF:2\nLH:2\nBRF:0\nBRH:0\nend_of_record\n'
-: > met
-request=1 found=
-while [ "$found" != 1 ] && [ "$request" -le "$most" ]; do
-    for all in '' all; do
-        refuse "$request" "$all" test --cover-info two.test
-        if [ "$found" = 1 ]; then
-            check "bpfdb test --cover-info: request $request for memory refused, $all, and made again" 1 "$record" "$plan$one$two$cell$show"
-            continue
-        fi
-        lines=$(wc -l < found/err)
-        echo "$lines lines" >> met
-        case $lines in
-            1) reported= ;;
-            2) reported=$plan ;;
-            3) reported=$plan$one ;;
-            *) reported=$plan$one$two$cell$show ;;
-        esac
-        check "bpfdb test --cover-info: request $request for memory refused, $all" 2 '' "$reported$plain"
+# covers STATUS RECORD PLAN FIRST OTHERS FILE: so it is with --cover-info, where the report stands on standard error, in these three parts, and behind it that
+# memory ran out; then there is no tracefile, or else all of it.
+covers() {
+    ended=$1 record=$2 planned=$3 first=$4 others=$5 file=$6
+    : > met
+    request=1 found=
+    while [ "$found" != "$ended" ] && [ "$request" -le "$most" ]; do
+        for all in '' all; do
+            refuse "$request" "$all" test --cover-info "$file"
+            if [ "$found" = "$ended" ]; then
+                check "bpfdb test --cover-info $file: request $request for memory refused, $all, and made again" "$ended" "$record" "$planned$first$others"
+                continue
+            fi
+            lines=$(wc -l < found/err)
+            echo "$lines lines" >> met
+            case $lines in
+                1) reported= ;;
+                2) reported=$planned ;;
+                3) reported=$planned$first ;;
+                *) reported=$planned$first$others ;;
+            esac
+            check "bpfdb test --cover-info $file: request $request for memory refused, $all" 2 '' "$reported$plain"
+        done
+        request=$((request + 1))
     done
-    request=$((request + 1))
-done
+}
+covers 1 'TN:\nSF:two.test\nDA:4,1\nDA:5,1\nLF:2\nLH:2\nBRF:0\nBRH:0\nend_of_record\n' "$plan" "$one" "$two$cell$show" two.test
 said 'bpfdb test --cover-info' '10 lines\n1 lines\n2 lines\n3 lines\n'
 # The same by the lines of a source, which are put in order.
 printf -- '-- listing\nmov r0, 1\nexit\n-- lines\n0 b.c:2 f\n1 a.c:1 f\n-- result\n1\n' > lines.test
-: > met
-request=1 found=
-while [ "$found" != 0 ] && [ "$request" -le "$most" ]; do
-    for all in '' all; do
-        refuse "$request" "$all" test --cover-info lines.test
-        if [ "$found" = 0 ]; then
-            check "bpfdb test --cover-info of lines: request $request for memory refused, $all, and made again" 0 'TN:\nSF:a.c\nDA:1,1\nLF:1\nLH:1\nBRF:0\nBRH:0\nend_of_record\nTN:\nSF:b.c\nDA:2,1\nLF:1\nLH:1\nBRF:0\nBRH:0\nend_of_record\n' '1..1\nok 1\n'
-            continue
-        fi
-        lines=$(wc -l < found/err)
-        echo "$lines lines" >> met
-        case $lines in
-            1) reported= ;;
-            2) reported='1..1\n' ;;
-            *) reported='1..1\nok 1\n' ;;
-        esac
-        check "bpfdb test --cover-info of lines: request $request for memory refused, $all" 2 '' "$reported$plain"
-    done
-    request=$((request + 1))
-done
+covers 0 'TN:\nSF:a.c\nDA:1,1\nLF:1\nLH:1\nBRF:0\nBRH:0\nend_of_record\nTN:\nSF:b.c\nDA:2,1\nLF:1\nLH:1\nBRF:0\nBRH:0\nend_of_record\n' '1..1\n' 'ok 1\n' '' lines.test
 said 'bpfdb test --cover-info of lines' '1 lines\n2 lines\n3 lines\n'
 wants "$plain" 0 'set cell 0 1 0102\ncontinue\n' '' test --show script --only b two.test
 wants "$plain" 0 '--maps=2x2\n--steps=1000000\n' '' test --show options --only a two.test

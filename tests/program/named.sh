@@ -101,10 +101,7 @@ fails 'refused E32: malformed list of stubs (the object in line 2)' '\n-- object
 # (the other subcommands read no such names, and neither does a word of an option)
 usage "unexpected argument '--anywhere' found" run --anywhere folder/empty
 
-if has_clang 'sections of tests that name objects'; then
-    compilers=clang
-    command -v clang-19 > found/which && compilers='clang clang-19'
-fi
+find_compilers 'sections of tests that name objects'
 for compiler in $compilers; do
     for name in program mock; do
         "$compiler" -g -O2 -target bpf -c "$parts/named/$name.c" -o folder/$name.o 2> found/err || complain "$compiler: $name.c: $(cat found/err)"

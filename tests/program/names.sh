@@ -24,11 +24,7 @@ named() {
 }
 
 : > empty
-compilers=''
-if has_clang 'origin --object'; then
-    compilers=clang
-    command -v clang-19 > found/which && compilers='clang clang-19'
-fi
+find_compilers 'origin --object'
 for compiler in $compilers; do
     "$compiler" -g -O2 -target bpf -c "$parts/names/places.c" -o places.o 2> found/err || complain "$compiler: places.c: $(cat found/err)"
     "$program" link places.o > words 2> told || complain "places.o: $(cat told)"

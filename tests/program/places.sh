@@ -35,11 +35,7 @@ held() {
 printf '0M\007\010\011' > context
 printf ' M\007\010\011' > low
 printf '0N\007\010\011' > other
-compilers=''
-if has_clang 'places of branches in C'; then
-    compilers=clang
-    command -v clang-19 > found/which && compilers='clang clang-19'
-fi
+find_compilers 'places of branches in C'
 for compiler in $compilers; do
     for level in 1 2; do
         "$compiler" -g -O$level -target bpf -c "$parts/places/branches.c" -o branches.o 2> found/err || complain "$compiler: branches.c: $(cat found/err)"

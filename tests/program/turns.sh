@@ -38,10 +38,7 @@ begins() {
 
 printf '\003\0\0\0\0\0\0\0\005\0\0\0\0\0\0\0' > context
 compilers=''
-if has_clang 'programs in turn' && has python3 'programs in turn'; then
-    compilers=clang
-    ! command -v clang-19 > found/which || compilers='clang clang-19'
-fi
+! has python3 'programs in turn' || find_compilers 'programs in turn'
 for compiler in $compilers; do
     for name in pair clock packets; do
         "$compiler" -g -O2 -target bpf -c "$parts/turns/$name.c" -o $name.o 2> found/err || complain "$compiler: $name.c: $(cat found/err)"
