@@ -6,11 +6,11 @@ use Rattle.counted_io.specs.Counted.{Tally}
 use Rattle.counted_io.specs.Lines.{lines}
 use Rattle.bpf_session.specs.Runs.{Exchange}
 use Rattle.bpf_steps.specs.State.{State}
-use Rattle.case_texts.specs.ReadLines.{Buffer, Holds, ReadsLine, is_last, is_missing}
-use Rattle.case_texts.specs.declared.line.NextLine.{NextLine}
-use Rattle.case_texts.specs.declared.line.NextLine.TheVariants.{Ended, Last, Missing}
-use Rattle.case_texts.specs.declared.line.ReadFault.{ReadFault}
-use Rattle.case_texts.specs.declared.line.ReadFault.TheVariants as reading
+use Rattle.input_texts.specs.ReadLines.{Buffer, Holds, ReadsLine, is_last, is_missing}
+use Rattle.input_texts.specs.declared.case_line.NextLine.{NextLine}
+use Rattle.input_texts.specs.declared.case_line.NextLine.TheVariants.{Ended, Last, Missing}
+use Rattle.input_texts.specs.declared.case_line.ReadFault.{ReadFault}
+use Rattle.input_texts.specs.declared.case_line.ReadFault.TheVariants as reading
 use Rattle.bpf_batch.specs.Answers.{AnswersLine, AnswersLines}
 use Rattle.bpf_batch.specs.Batches.{AnswersAll, BreaksOff, CountsAnswer, FailsBy, Suits, WritesAnswer, fault_of}
 use Rattle.bpf_batch.specs.declared.batch.Batch.{Batch}

@@ -4,7 +4,7 @@ use Rattle.bpf_isa.specs.Programs.{Checked}
 use Rattle.bpf_session.specs.Plain.{plain_end}
 use Rattle.bpf_steps.specs.State.{State}
 use Rattle.bpf_suite.proofs.Programs.{plain_end-program}
-use Rattle.case_texts.specs.Cases.{read_case}
+use Rattle.input_texts.specs.Cases.{read_case}
 use Rattle.counted_io.specs.Counted.{Tally}
 use Rattle.counted_io.specs.Writing.{Writes}
 use Rattle.bpf_batch.specs.Answers.{AnswersLine, Refuses, RefusesLine, Runs, run_text, text_of_fault}

@@ -2,8 +2,8 @@
 use Rattle.std.specs.Prelude.{ℕ, ◌≡◌, List, [], ◌∷◌, ◌++◌, Option, Some, None, Result, Ok, Err, ⊤}
 use Rattle.bpf_session.specs.Runs.{Exchange, Wrote}
 use Rattle.bpf_steps.specs.State.{State}
-use Rattle.case_texts.specs.declared.line.ReadFault.{ReadFault}
-use Rattle.case_texts.specs.declared.line.ReadFault.TheVariants as reading
+use Rattle.input_texts.specs.declared.case_line.ReadFault.{ReadFault}
+use Rattle.input_texts.specs.declared.case_line.ReadFault.TheVariants as reading
 use Rattle.counted_io.specs.Counted.{Tally, one_more}
 use Rattle.counted_io.specs.Lines.{lines}
 use Rattle.counted_io.specs.Writing.{Writes}

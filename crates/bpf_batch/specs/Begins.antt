@@ -2,8 +2,8 @@
 use Rattle.std.specs.Prelude.{◌≡◌, Result, Ok, Err, ⊤}
 use Rattle.bpf_isa.specs.Programs.{Checked}
 use Rattle.bpf_steps.specs.State.{State, initial}
-use Rattle.case_texts.specs.Cases.{CaseValue}
-use Rattle.case_texts.specs.declared.fault.CaseFault.{CaseFault}
+use Rattle.input_texts.specs.Cases.{CaseValue}
+use Rattle.input_texts.specs.declared.case_fault.CaseFault.{CaseFault}
 use Rattle.bpf_batch.specs.Answers.{Opens, RefusesLine}
 use Rattle.bpf_batch.specs.declared.batch.Batch.{Batch}
 use Rattle.bpf_batch.specs.declared.fault.Refusal.{Refusal}

@@ -1,14 +1,14 @@
 //! The run of a batch: lines from a reader, and the answers to them.
 ghost use Rattle.std.specs.Prelude.{◌≡◌, IfErr, IfOk, List, OnOk, Some, ℕ};
 ghost use Rattle.bpf_batch.specs.Batches.{AnswersAll, BreaksOff, CountsAnswer, FailsBy, Suits, WritesAnswer, fault_of};
-ghost use Rattle.case_texts.specs.ReadLines.{Holds};
+ghost use Rattle.input_texts.specs.ReadLines.{Holds};
 
 use crate::answer::{put_refusal_line, run_case};
 use crate::begin::begin;
 use crate::fault::BatchFault;
 use bpf_isa::MapTable;
 use bpf_machine::Cpu;
-use case_texts::{LineBuffer, ReadFault, next_line};
+use input_texts::{LineBuffer, ReadFault, next_line};
 use counted_io::{Counted, WriteFault};
 use std::alloc::Global;
 use std::io::{Read, Write};

@@ -2,8 +2,8 @@
 ghost use Rattle.std.specs.Prelude.{◌≡◌, IfErr, IfOk, List, true, ℕ};
 ghost use Rattle.bpf_isa.specs.Programs.{Checked};
 ghost use Rattle.bpf_steps.specs.State.{initial};
-ghost use Rattle.case_texts.specs.Cases.{CaseValue, read_case};
-ghost use Rattle.case_texts.specs.ReadLines.{Holds};
+ghost use Rattle.input_texts.specs.Cases.{CaseValue, read_case};
+ghost use Rattle.input_texts.specs.ReadLines.{Holds};
 ghost use Rattle.bpf_batch.specs.Answers.{Opens, RefusesCase, is_memory, words_of};
 ghost use Rattle.bpf_batch.specs.Batches.{Suits};
 ghost use Rattle.bpf_batch.specs.Begins.{Begins, SuitsMachine};
@@ -12,7 +12,7 @@ use crate::batch::Batch;
 use crate::fault::Refusal;
 use bpf_isa::{LoadFault, check};
 use bpf_machine::{Cpu, OpenFault};
-use case_texts::{Case, CaseFault, LineBuffer, case_of};
+use input_texts::{Case, CaseFault, LineBuffer, case_of};
 use std::alloc::{AllocError, Global};
 
 impl Refusal {

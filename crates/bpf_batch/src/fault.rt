@@ -1,7 +1,7 @@
 //! Why a case isn't run, and why a batch breaks off.
 use bpf_isa::LoadFault;
 use bpf_machine::OpenFault;
-use case_texts::CaseFault;
+use input_texts::CaseFault;
 
 /// Why a case isn't run, in the order in which it is looked at.
 #[derive(Clone, Copy)]

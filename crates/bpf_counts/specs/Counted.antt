@@ -16,7 +16,7 @@ use Rattle.bpf_link.specs.declared.fault.LinkFault.{LinkFault}
 use Rattle.bpf_link.specs.declared.fault.LinkFault.TheVariants as link
 use Rattle.bpf_link.specs.declared.plan.Plan.{Plan}
 use Rattle.bpf_link.specs.declared.sections.Found.TheVariants.{Only}
-use Rattle.count_texts.specs.Texts.{count_in, name_in}
+use Rattle.input_texts.specs.Counts.{count_in, map_in}
 use Rattle.bpf_counts.specs.Btf.{btf_with}
 use Rattle.bpf_counts.specs.Files.{has_header, is_types, replaced}
 use Rattle.bpf_counts.specs.Walks.{IsCut, IsWalk, listed_at}
@@ -76,7 +76,7 @@ IsCountedOf bytes name (Some count) all =
     (section : List ℕ) × (plan : Plan) × (planned bytes section ≡ Ok plan) × IsCountedIn plan name count all
 
 abbrev pub IsCountedBy : List ℕ → List ℕ → List ℕ → Type 0
-IsCountedBy bytes text all = IsCountedOf bytes (name_in text) (count_in text) all
+IsCountedBy bytes text all = IsCountedOf bytes (map_in text) (count_in text) all
 
 abbrev pub IsUncountedOf : List ℕ → List ℕ → LinkFault → Type 0
 IsUncountedOf bytes name fault =
@@ -85,7 +85,7 @@ IsUncountedOf bytes name fault =
 
 abbrev pub IsUncountedBy : List ℕ → List ℕ → LinkFault → Type 0
 IsUncountedBy bytes text fault =
-    ((count_in text ≡ None) × (fault ≡ link.Map (length bytes) (Limits Entries))) ⊎ IsUncountedOf bytes (name_in text) fault
+    ((count_in text ≡ None) × (fault ≡ link.Map (length bytes) (Limits Entries))) ⊎ IsUncountedOf bytes (map_in text) fault
 
 -- That of the first k texts, one after the other.
 abbrev pub AreCounted : List ℕ → List (List ℕ) → ℕ → List ℕ → Type 0

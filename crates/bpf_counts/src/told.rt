@@ -14,7 +14,7 @@ use bpf_isa::MapFault;
 use bpf_link::{
     Found, LinkFault, Plan, fault_names, planned, section_bytes, told_of_types, u32_at,
 };
-use count_texts::{count_in, name_in};
+use input_texts::{count_in, map_in};
 use std::alloc::Global;
 
 /// Why a map doesn't get its entries.
@@ -208,7 +208,7 @@ fn counted_by(
     ensures err { IfErr result (λ fault. (fault ≡ Memory) ⊎ IsUncountedBy bytes.now text.now fault) }
 {
     match count_in(text) {
-        Some(count) => counted_of(alloc, bytes, section, name_in(text), count),
+        Some(count) => counted_of(alloc, bytes, section, map_in(text), count),
         None => Err(LinkFault::Map {
             at: bytes.len(),
             fault: BtfFault::Limits(MapFault::Entries),

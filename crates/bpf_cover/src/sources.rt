@@ -9,7 +9,7 @@ use crate::coverage::{Mark, has_run};
 use crate::places::{Spot, in_order, spots_of};
 use crate::tracefile::{put_branches, put_line, put_totals};
 use counted_io::{Counted, WriteFault, put};
-use shown_text::put_shown;
+use bpfdb_replies::put_shown;
 use std::alloc::{AllocError, Global};
 use std::io::Write;
 

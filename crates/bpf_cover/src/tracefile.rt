@@ -6,7 +6,7 @@ ghost use Rattle.bpf_cover.specs.Tracefiles.{branches_text, line_in, line_text, 
 
 use crate::coverage::{Mark, count_forks, count_run, count_starts, has_run};
 use counted_io::{Counted, Piece, WriteFault, natural, put, put_all, sides};
-use shown_text::put_shown;
+use bpfdb_replies::put_shown;
 use std::io::Write;
 
 /// Writes the record of a program that stands in a file, behind so many lines of it, by the table of

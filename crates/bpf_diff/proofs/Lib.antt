@@ -6,3 +6,7 @@ pub mod Latest
 pub mod Writes
 pub mod Leaving
 pub mod Outcomes
+pub mod AgainstTelling
+pub mod Along
+pub mod Lines
+pub mod Noting

@@ -5,3 +5,6 @@ pub mod Seen
 pub mod Outputs
 pub mod Following
 pub mod Laws
+pub mod Writers
+pub mod Against
+pub mod Noted

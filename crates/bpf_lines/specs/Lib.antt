@@ -6,3 +6,8 @@ pub mod Parts
 pub mod Rows
 pub mod Passed
 pub mod Objects
+pub mod Places
+pub mod TableRows
+pub mod PlaceSlots
+pub mod PlaceTexts
+pub mod Lookups

@@ -13,8 +13,8 @@ use crate::line_info::{LineEntry, line_entry, record_place};
 use crate::part_lines::PartLines;
 use crate::slots::{is_since, said_of, with_slot};
 use bpf_link::{Plan, Side, short_at, symbol_place};
+use bpfdb_replies::put_shown;
 use counted_io::{Counted, WriteFault, put, put_decimal};
-use shown_text::put_shown;
 use std::io::Write;
 
 /// What is said of a slot: its function by the number of a symbol, its line by that of a record. Or

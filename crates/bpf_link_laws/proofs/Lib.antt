@@ -6,3 +6,16 @@ pub mod Filling
 pub mod Walk
 pub mod Sections
 pub mod Setups
+pub mod Orders
+pub mod JoinNumbers
+pub mod Searches
+pub mod Pieces
+pub mod Names
+pub mod Headers
+pub mod Codes
+pub mod Inversions
+pub mod Headed
+pub mod Files
+pub mod JoinSections
+pub mod Opening
+pub mod Linking

@@ -1,1 +1,4 @@
 pub mod Setups
+pub mod Files
+pub mod Codes
+pub mod Joins

@@ -15,7 +15,7 @@ use Rattle.bpf_link.specs.declared.fault.LinkFault.{LinkFault}
 use Rattle.bpf_link.specs.declared.fault.LinkFault.TheVariants.{Memory}
 use Rattle.bpf_link.specs.declared.plan.Plan.{Plan}
 use Rattle.bpf_steps.specs.Platform.{map_base, map_stride}
-use Rattle.shown_text.specs.Shown.{shown}
+use Rattle.bpfdb_replies.specs.Shown.{shown}
 use Rattle.bpf_names.specs.Globals.{global_at}
 use Rattle.bpf_names.specs.Spots.{index_text, path_text, rest_text}
 use Rattle.bpf_names.specs.declared.globals.Global.{Global}

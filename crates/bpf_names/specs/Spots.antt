@@ -9,7 +9,7 @@ use Rattle.bpf_btf.specs.Sizes.{is_modifier, size_of}
 use Rattle.bpf_btf.specs.Types.{Types, start_of, type_of}
 use Rattle.bpf_btf.specs.declared.layout.TypeEntry.{TypeEntry}
 use Rattle.bpf_link.specs.Names.{built, short_at}
-use Rattle.shown_text.specs.Shown.{shown}
+use Rattle.bpfdb_replies.specs.Shown.{shown}
 use Rattle.bpf_names.specs.declared.spot.Spot.{Spot}
 use Rattle.bpf_names.specs.declared.spot.Part.{Part}
 use Rattle.bpf_names.specs.declared.spot.Part.TheVariants.{Same, Element, Member, Whole}

@@ -18,7 +18,7 @@ use bpf_isa::{MOST_MAPS, MapShape};
 use bpf_link::{LinkFault, Plan, data_of, planned, short_at, types_in};
 use bpf_steps::platform::{MAP_BASE, MAP_STRIDE};
 use counted_io::{Counted, Piece, WriteFault, put_all};
-use shown_text::put_shown;
+use bpfdb_replies::put_shown;
 use std::alloc::Global as Heap;
 use std::io::Write;
 

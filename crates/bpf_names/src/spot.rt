@@ -10,7 +10,7 @@ ghost use Rattle.bpf_names.specs.Spots as spec;
 use bpf_btf::{Btf, TypeEntry, is_modifier, latest};
 use bpf_link::short_at;
 use counted_io::{Counted, Piece, WriteFault, put, put_all};
-use shown_text::put_shown;
+use bpfdb_replies::put_shown;
 use std::io::Write;
 
 /// The most members of a struct among which one is looked for.

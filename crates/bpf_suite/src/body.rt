@@ -4,14 +4,14 @@ ghost use Rattle.std.specs.Char.{is_digit};
 ghost use Rattle.std.specs.List.{list_all, list_any, position_or_len};
 ghost use Rattle.std.specs.Option.{option_map};
 ghost use Rattle.bstr.specs.Utf8.{lossy_chars};
-ghost use Rattle.shown_text.specs.Shown.{steers as steers_by};
+ghost use Rattle.bpfdb_replies.specs.Shown.{steers as steers_by};
 ghost use Rattle.bpf_suite.specs.Bodies.{are_remarks, bytes_of, fits, fits_byte, fits_digit, is_line, is_pattern, is_phrase, is_remark, is_space, is_title, limit_of, number_of, solid, trim_end, trimmed};
 
 use bpfdb_limits::is_limit;
 use bstr::ByteSlice;
 use counted_io::{digit_value, is_blank, natural, trim_start};
 use hex::{FromHexError, decode};
-use shown_text::steers;
+use bpfdb_replies::steers;
 use std::alloc::{AllocError, Global};
 
 /// Whether a byte is a blank, a line feed or a form feed.

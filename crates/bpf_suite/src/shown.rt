@@ -17,7 +17,7 @@ use bpf_text::{AsmFault, assemble};
 use bstr::ByteSlice;
 use counted_io::{Counted, Piece, WriteFault, put, put_all};
 use hex::encode_to_slice;
-use shown_text::steers;
+use bpfdb_replies::steers;
 use std::alloc::{AllocError, Global};
 use std::io::Write;
 

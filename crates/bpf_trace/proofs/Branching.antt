@@ -7,7 +7,7 @@ use Rattle.bpf_isa.specs.declared.instruction.Insn.{Insn}
 use Rattle.bpf_steps.specs.Next.{next}
 use Rattle.bpf_steps.specs.State.{State}
 use Rattle.bpfdb_replies.specs.Texts.{text_at}
-use Rattle.slot_texts.specs.Texts.{SlotTexts, text_of_slot}
+use Rattle.bpfdb_replies.specs.SlotTexts.{SlotTexts, text_of_slot}
 use Rattle.bpf_trace.specs.Branches.{branch_by, branch_line, compared_by, is_branch, way_text}
 
 -- by the instruction

@@ -6,3 +6,6 @@ pub mod Branching
 pub mod Counting
 pub mod TheRuns
 pub mod Telling
+pub mod Marking
+pub mod Reading
+pub mod Runs

@@ -11,7 +11,7 @@ use Rattle.bpf_steps.specs.Next.{next}
 use Rattle.bpf_steps.specs.State.{State, register}
 use Rattle.bpf_origin.specs.Texts.{value_text}
 use Rattle.bpfdb_replies.specs.Texts.{text_at}
-use Rattle.slot_texts.specs.Texts.{SlotTexts, text_of_slot}
+use Rattle.bpfdb_replies.specs.SlotTexts.{SlotTexts, text_of_slot}
 
 -- A register that it compared, whole, and a second one, where it isn't a number.
 unfoldable pub compared_text : State → ℕ → List ℕ

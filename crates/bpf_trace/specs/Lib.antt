@@ -7,3 +7,6 @@ pub mod Texts
 pub mod Lines
 pub mod Tellings
 pub mod Taken
+pub mod Written
+pub mod UnwrittenTexts
+pub mod Marks

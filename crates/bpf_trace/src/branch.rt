@@ -12,8 +12,8 @@ use crate::parts::add_value;
 use crate::texts::Texts;
 use bpf_isa::{Insn, Reg, Source};
 use bpf_machine::{Cpu, Ended};
+use bpfdb_replies::{SlotTexts, text_of_slot};
 use counted_io::{Counted, WriteFault, put};
-use slot_texts::{SlotTexts, text_of_slot};
 use std::io::Write;
 
 /// Takes a step, and writes its line if it is a conditional jump: its number, its slot and its

@@ -1,4 +1,5 @@
-//! Runs told step by step: a line a step or a conditional jump, or how often each instruction ran.
+//! Runs told step by step: a line a step or a conditional jump, or how often each instruction ran;
+//! and strict runs, which end at a read of the stack that nothing wrote.
 #![tactic(auto)]
 
 mod branch;
@@ -6,15 +7,23 @@ mod ending;
 mod head;
 pub mod laws;
 mod line;
+mod marks;
 mod parts;
 mod profile;
+mod reads;
 mod step;
+mod strict_run;
+mod strict_trace;
 mod taken;
 mod texts;
 mod trace;
+mod unwritten;
 
 pub use ending::{put_end, put_limit};
 pub use profile::{Profile, put_profile};
+pub use strict_run::{Unwritten, find_unwritten};
+pub use strict_trace::write_trace_until;
 pub use taken::{Taken, put_taken};
 pub use texts::Texts;
 pub use trace::{Shown, TraceFault, put_lines, write_trace};
+pub use unwritten::put_unwritten;

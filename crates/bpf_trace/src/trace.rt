@@ -15,8 +15,8 @@ use crate::line::Line;
 use crate::step::put_step;
 use crate::texts::Texts;
 use bpf_machine::Cpu;
+use bpfdb_replies::SlotTexts;
 use counted_io::{Counted, WriteFault};
-use slot_texts::SlotTexts;
 use std::alloc::Global;
 use std::io::Write;
 

@@ -13,7 +13,7 @@ use Rattle.bpf_link.specs.declared.layout.SymbolEntry.{SymbolEntry}
 use Rattle.bpf_link.specs.declared.plan.Plan.{Plan}
 use Rattle.bpf_link.specs.declared.sections.Found.{Found}
 use Rattle.bpf_link.specs.declared.sections.Found.TheVariants.{Nothing, Only, Several}
-use Rattle.turn_texts.specs.Texts.{name_in, offset_in}
+use Rattle.input_texts.specs.Turns.{name_in, offset_in}
 use Rattle.bpf_turns.specs.declared.seats.Seat.{Seat}
 use Rattle.bpf_turns.specs.declared.seats.TurnFault.{TurnFault}
 

@@ -3,7 +3,7 @@ ghost use Rattle.std.specs.Prelude.{◌≡◌, IfErr, IfOk, Ok, length, map};
 ghost use Rattle.bpf_link.specs.Links.{MemoryOr};
 ghost use Rattle.bpf_link.specs.Sections.{FoundBelow, found, is_code};
 ghost use Rattle.bpf_turns.specs.Seats.{IsSeatFault, is_code_at, is_turn, seat_at, seat_in, seat_of, seats_of, slots_of, with_named};
-ghost use Rattle.turn_texts.specs.Texts.{name_in, offset_in};
+ghost use Rattle.input_texts.specs.Turns.{name_in, offset_in};
 
 use bpf_isa::MOST_SLOTS;
 use bpf_link::{
@@ -11,7 +11,7 @@ use bpf_link::{
     section_bytes, symbol_place,
 };
 use std::alloc::Global;
-use turn_texts::{name_in, offset_in};
+use input_texts::{name_in, offset_in};
 
 /// Where a program lies that is called.
 #[derive(Clone, Copy)]

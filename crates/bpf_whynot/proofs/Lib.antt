@@ -10,3 +10,7 @@ pub mod Passing
 pub mod Going
 pub mod Latest
 pub mod Surely
+pub mod Turning
+pub mod BranchGoing
+pub mod Finding
+pub mod Deciding

@@ -12,3 +12,7 @@ pub mod Aims
 pub mod Looks
 pub mod Sures
 pub mod Standings
+pub mod Branches
+pub mod Courses
+pub mod BranchLaws
+pub mod BranchTurns

@@ -14,9 +14,8 @@ use crate::standing::Standing;
 use bpf_isa::{Insn, Reg, Source};
 use bpf_machine::Cpu;
 use bpf_origin::{Part, Parts, put_part, register_part};
-use bpfdb_replies::put_at;
+use bpfdb_replies::{SlotTexts, put_at, text_of_slot};
 use counted_io::{Counted, Piece, WriteFault, put, put_all, put_decimal};
-use slot_texts::{SlotTexts, text_of_slot};
 use std::io::Write;
 
 /// The registers that a move compared, from the machine before it.

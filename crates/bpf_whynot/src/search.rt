@@ -2,7 +2,7 @@
 
 use crate::reach::Reach;
 use bpf_origin::Question;
-use slot_texts::SlotTexts;
+use bpfdb_replies::SlotTexts;
 
 /// What is asked, and how.
 #[derive(Clone, Copy)]

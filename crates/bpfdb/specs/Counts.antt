@@ -10,7 +10,7 @@ use Rattle.bpfdb_cli.specs.declared.plans.Plan.{Plan}
 use Rattle.bpfdb_faults.specs.declared.fault.JobFault.{JobFault}
 use Rattle.bpfdb_faults.specs.declared.fault.JobFault.TheVariants.{Refused}
 use Rattle.bpfdb_faults.specs.declared.refusal.JobRefusal.TheVariants.{Object}
-use Rattle.count_texts.specs.Texts.{name_in}
+use Rattle.input_texts.specs.Counts.{map_in}
 use Rattle.bpfdb.specs.Files.{texts}
 
 -- What is said of them.
@@ -23,7 +23,7 @@ HasCounts plan of_file bytes = IsCounted of_file (counts_of plan) bytes
 
 -- The name that is told of a fault: of one of a map the one that the command line has, of others those that `link` tells.
 abbrev pub told_name : LinkFault → List ℕ → List ℕ → List ℕ
-told_name (link.Map at fault) text names = name_in text
+told_name (link.Map at fault) text names = map_in text
 told_name fault text names = names
 
 -- Why there is no such object, as `link` tells faults of one.

@@ -12,10 +12,10 @@ use Rattle.bpfdb_options.specs.declared.subcommand.Subcommand.{Subcommand}
 use Rattle.bpfdb_options.specs.declared.subcommand.Subcommand.TheVariants as ask
 use Rattle.bpfdb.specs.declared.telling.Telling.{Telling}
 use Rattle.bpfdb.specs.declared.telling.Telling.TheVariants.{Json, Graph}
-use Rattle.dot_lines.specs.Graphs.{dot_of}
-use Rattle.json_lines.specs.Objects.{json_of}
-use Rattle.json_lines.specs.declared.answer.Answer.{Answer}
-use Rattle.json_lines.specs.declared.answer.Answer.TheVariants as answer
+use Rattle.answer_forms.specs.Graphs.{dot_of}
+use Rattle.answer_forms.specs.Objects.{json_of}
+use Rattle.answer_forms.specs.declared.answer.Answer.{Answer}
+use Rattle.answer_forms.specs.declared.answer.Answer.TheVariants as answer
 
 -- What is printed, by what is asked.
 abbrev pub answer_for : Subcommand → Options → Answer

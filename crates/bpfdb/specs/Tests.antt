@@ -14,7 +14,7 @@ use Rattle.suite_files.specs.Replaced.{IsReplaced}
 use Rattle.suite_files.specs.declared.fault.FilesFault.{FilesFault}
 use Rattle.suite_files.specs.declared.fault.FilesFault.TheVariants.{Section, Link, Memory}
 use Rattle.suite_files.specs.declared.place.Place.{Place}
-use Rattle.suite_texts.specs.Paths.{folder_of}
+use Rattle.input_texts.specs.Paths.{folder_of}
 
 abbrev pub is_test : Subcommand → Bool
 is_test Test = true

@@ -10,7 +10,7 @@ use Rattle.bpfdb_faults.specs.declared.fault.JobFault.{JobFault}
 use Rattle.bpfdb_faults.specs.declared.fault.JobFault.TheVariants.{Refused}
 use Rattle.bpfdb_faults.specs.declared.refusal.JobRefusal.TheVariants.{Object}
 use Rattle.bpfdb_jobs.specs.Jobs.{name_or_empty}
-use Rattle.turn_texts.specs.Texts.{has_place, name_in}
+use Rattle.input_texts.specs.Turns.{has_place, name_in}
 use Rattle.bpf_turns.specs.Turned.{IsTurnFault, IsTurned}
 use Rattle.bpf_turns.specs.declared.seats.TurnFault.{TurnFault}
 use Rattle.bpfdb.specs.Files.{texts}

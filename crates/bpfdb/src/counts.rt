@@ -11,8 +11,8 @@ use bpf_counts::{CountFault, counted};
 use bpf_link::{LinkFault, fault_names};
 use bpfdb_cli::Plan;
 use bpfdb_faults::{JobFault, JobRefusal, give_up};
-use count_texts::name_in;
 use counted_io::Counted;
+use input_texts::map_in;
 use std::alloc::Global;
 use std::io::Write;
 
@@ -47,7 +47,7 @@ fn told_name<'a>(fault: &LinkFault, text: &'a [u8], names: &'a [u8]) -> &'a [u8]
     ensures { result.now ≡ told_name fault.now text.now names.now }
 {
     match fault {
-        LinkFault::Map { .. } => name_in(text),
+        LinkFault::Map { .. } => map_in(text),
         _ => names,
     }
 }

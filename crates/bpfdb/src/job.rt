@@ -7,7 +7,7 @@ ghost use Rattle.bpfdb.specs.Turns.{is_turned};
 use bpfdb_cli::Plan;
 use bpfdb_jobs::Job;
 use bpfdb_options::Options;
-use turn_texts::has_place;
+use input_texts::has_place;
 
 /// What was read of the files of a plan.
 #[derive(Clone, Copy)]

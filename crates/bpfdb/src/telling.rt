@@ -4,13 +4,12 @@ ghost use Rattle.bpfdb.specs.Telling.{EndsRetold, Retells, answer_for, told_in, 
 ghost use Rattle.bpfdb_faults.specs.Streams.{stream};
 ghost use Rattle.bpfdb_limits.specs.Limits.{IsLimit};
 
+use answer_forms::{Answer, dot_of, json_of};
 use bpfdb_cli::Plan;
 use bpfdb_faults::{JobFault, give_up, told_as, write_out};
 use bpfdb_jobs::{Job, tool};
 use bpfdb_options::{Options, Subcommand};
 use counted_io::{Counted, WriteFault};
-use dot_lines::dot_of;
-use json_lines::{Answer, json_of};
 use std::alloc::{AllocError, Global};
 use std::io::{Read, Write};
 

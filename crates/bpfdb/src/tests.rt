@@ -10,9 +10,9 @@ use bpfdb_cli::Plan;
 use bpfdb_faults::{JobFault, flush_after, put_object, tell};
 use bpfdb_options::Subcommand;
 use counted_io::{Counted, Piece, WriteFault, put, put_all};
+use input_texts::folder_of;
 use std::io::Write;
 use suite_files::{FilesFault, NamedFault, Place};
-use suite_texts::folder_of;
 
 /// Whether a subcommand runs tests.
 pub fn is_test(subcommand: Subcommand) -> bool

@@ -14,9 +14,9 @@ use bpf_turns::{TurnFault, turned};
 use bpfdb_cli::Plan;
 use bpfdb_faults::{JobFault, JobRefusal, give_up};
 use counted_io::Counted;
+use input_texts::name_in;
 use std::alloc::Global;
 use std::io::Write;
-use turn_texts::name_in;
 
 /// The most programs in turn.
 const MOST_TURNS: usize = 16;

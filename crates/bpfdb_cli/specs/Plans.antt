@@ -14,8 +14,8 @@ use Rattle.bpfdb_cli.specs.declared.plans.PlanFault.{PlanFault}
 use Rattle.bpfdb_cli.specs.declared.plans.PlanFault.TheVariants.{Usage, Memory}
 use Rattle.bpf_packet.specs.Names.{packet_name}
 use Rattle.bpf_packet.specs.declared.packet.Packet.{Packet}
-use Rattle.count_texts.specs.Texts.{are_counts}
-use Rattle.turn_texts.specs.Texts.{offset_in}
+use Rattle.input_texts.specs.Counts.{are_counts}
+use Rattle.input_texts.specs.Turns.{offset_in}
 use Rattle.bpfdb_limits.specs.Limits.{IsLimit, default_journal, default_limit, greatest_count}
 use Rattle.bpfdb_options.specs.Lines.{default_lines, most_further}
 use Rattle.bpfdb_options.specs.Registers.{registers_name}

@@ -2,7 +2,7 @@
 ghost use Rattle.std.specs.Prelude.{◌≡◌, ◌≤◌, ◌<◌, ◌^◌, IfErr, IfNone, IfOk, IfSome, MatchOption, OnErr, OnOk, OnSome, Option, Some, List, codes, drop, false, is_some, length, map, not, option_map, true, ◌&&◌};
 ghost use Rattle.std.specs.List.{list_all};
 ghost use Rattle.std.specs.Str.Parse.{IsNumeral, digits_value, without_leading_plus};
-ghost use Rattle.count_texts.specs.Texts.{are_counts};
+ghost use Rattle.input_texts.specs.Counts.{are_counts};
 ghost use Rattle.clap.specs.Words.{Row, Text, first_of, found_of, rows_of, subcommand_rows_of};
 ghost use Rattle.bpfdb_limits.specs.Limits.{IsLimit};
 ghost use Rattle.bpfdb_options.specs.Lines.{most_further};
@@ -17,9 +17,8 @@ use bpfdb_limits::{DEFAULT_JOURNAL, DEFAULT_LIMIT, GREATEST_COUNT, is_limit};
 use bpfdb_options::{DEFAULT_LINES, MOST_FURTHER, Options, Registers, Subcommand, TestPart};
 use clap::error::ErrorKind;
 use clap::{ArgMatches, Command, Error};
-use count_texts::are_counts;
+use input_texts::{are_counts, offset_in};
 use std::alloc::Global;
-use turn_texts::offset_in;
 
 /// What is said of a name that `--registers` doesn't take. It would be said of a number, too, that
 /// `clap` lets pass out of its range: it lets none pass, which isn't drawn from its contract here.

@@ -10,8 +10,8 @@ use crate::refusal::JobRefusal;
 use bpf_link::{LinkFault, Source, helper_name};
 use bpf_suite::{Refusal, put_numbered, slot_of};
 use bpf_trace::put_limit;
+use bpfdb_replies::put_shown;
 use counted_io::{Counted, Piece, WriteFault, put, put_all};
-use shown_text::put_shown;
 use std::io::Write;
 
 /// Writes the line of a fault, after what was written so far, unless that failed.

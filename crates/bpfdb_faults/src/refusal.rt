@@ -8,7 +8,7 @@ use bpf_suite::{Refusal as ProgramRefusal, SectionFault};
 use bpf_text::AsmFault;
 use bpf_whynot::GoalFault;
 use bpfdb_commands::Refusal;
-use trace_lines::LineFault;
+use input_texts::LineFault;
 
 /// Why a job is refused, in the order in which it is looked at.
 #[derive(Clone, Copy)]

@@ -14,9 +14,9 @@ use Rattle.bpfdb_jobs.specs.Openings.{OpensAs}
 use Rattle.bpfdb_jobs.specs.Refusals.{RefusesAgainst, RefusesDiff, RefusesEither, RefusesMachine, RefusesRuns}
 use Rattle.bpfdb_jobs.specs.declared.job.Job.{Job}
 use Rattle.bpfdb_options.specs.declared.subcommand.Subcommand.TheVariants.{Diff}
-use Rattle.trace_lines.specs.Faults.{bad_line}
-use Rattle.trace_lines.specs.Forms.{form_in, told}
-use Rattle.trace_lines.specs.declared.form.Form.{Form}
+use Rattle.input_texts.specs.TraceFaults.{bad_line}
+use Rattle.input_texts.specs.TraceForms.{form_in, told}
+use Rattle.input_texts.specs.declared.trace_form.Form.{Form}
 
 -- a refusal of FILE's machine is one of `diff`
 pub machine-diff : (job : Job) (refusal : JobRefusal) → RefusesMachine job refusal → RefusesRuns job refusal

@@ -1,10 +1,10 @@
 -- Where a job of `origin` asks, what it prints there, and why it is refused.
 use Rattle.std.proofs.Common.{◌≡◌, ◌==◌, ◌∙◌, ℕ, Bool, true, false, List, [], Option, Some, None, Ok, Err, ap, ap₂, refl, subst, sym, length}
 use Rattle.std.specs.Borrow.{Bor}
-use Rattle.bpf_branches.specs.Branches.{AreBranches}
-use Rattle.bpf_branches.specs.Courses.{IsFound}
-use Rattle.bpf_branches.specs.declared.query.Query.{Query}
-use Rattle.bpf_branches.specs.declared.text.Found.{Found}
+use Rattle.bpf_whynot.specs.Branches.{AreBranches}
+use Rattle.bpf_whynot.specs.Courses.{IsFound}
+use Rattle.bpf_whynot.specs.declared.query.Query.{Query}
+use Rattle.bpf_whynot.specs.declared.branch_text.Found.{Found}
 use Rattle.bpf_journal.specs.Histories.{Record, StandsFor}
 use Rattle.bpf_journal.specs.Runs.{history_after}
 use Rattle.bpf_journal.specs.Timelines.{Moment}

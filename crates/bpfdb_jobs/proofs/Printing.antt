@@ -9,8 +9,8 @@ use Rattle.bpf_session.specs.Plain.{ending_of, plain_end}
 use Rattle.bpf_session.specs.declared.plain.Ending.{Ending}
 use Rattle.bpf_session.specs.declared.plain.Ending.TheVariants.{Exited}
 use Rattle.counted_io.specs.Writing.{Writes}
-use Rattle.bpf_strict.specs.Texts.{unwritten_line}
-use Rattle.bpf_strict.specs.declared.run.Unwritten.{Unwritten}
+use Rattle.bpf_trace.specs.UnwrittenTexts.{unwritten_line}
+use Rattle.bpf_trace.specs.declared.strict_run.Unwritten.{Unwritten}
 use Rattle.bpfdb_faults.specs.Streams.{Gets, Loses, Stream, Told}
 use Rattle.bpfdb_jobs.specs.Endings.{EndsPrinted, ErrLost, OutLost, Printed}
 use Rattle.bpfdb_faults.specs.Faults.{line_of}

@@ -4,10 +4,10 @@ use Rattle.std.specs.Borrow.{Bor}
 use Rattle.bpf_entries.specs.Keeping.{IsSize}
 use Rattle.bpf_diff.specs.Differences.{diff_text, end_alike}
 use Rattle.bpf_diff.specs.Outputs.{write_alike, writes_text}
-use Rattle.bpf_against.specs.Against.{against_text, tells_run}
-use Rattle.trace_lines.specs.Faults.{bad_line}
-use Rattle.trace_lines.specs.Forms.{form_in, told}
-use Rattle.trace_lines.specs.declared.form.Form.{Form}
+use Rattle.bpf_diff.specs.Against.{against_text, tells_run}
+use Rattle.input_texts.specs.TraceFaults.{bad_line}
+use Rattle.input_texts.specs.TraceForms.{form_in, told}
+use Rattle.input_texts.specs.declared.trace_form.Form.{Form}
 use Rattle.bpf_entries.specs.declared.status.Status.{Status}
 use Rattle.bpf_entries.specs.declared.status.Status.TheVariants as status
 use Rattle.bpf_isa.specs.Maps.{IsMapList, items_of, shape_of}
@@ -23,8 +23,8 @@ use Rattle.bpf_link.specs.declared.stubs.Stub.{Stub}
 use Rattle.bpf_lines.specs.Objects.{AreBehind, AreLinesOf, program_table}
 use Rattle.bpf_lines.specs.declared.objects.ObjectLines.{ObjectLines}
 use Rattle.bpf_names.specs.declared.names.Names.{Names}
-use Rattle.bpf_places.specs.Lookups.{AreListingSlots}
-use Rattle.bpf_places.specs.Places.{is_place}
+use Rattle.bpf_lines.specs.Lookups.{AreListingSlots}
+use Rattle.bpf_lines.specs.Places.{is_place}
 use Rattle.bpf_steps.specs.Platform.{context_limit}
 use Rattle.bpf_steps.specs.State.{State, initial}
 use Rattle.bpf_origin.specs.Answers.{Answer}
@@ -38,9 +38,9 @@ use Rattle.bpf_session.specs.declared.plain.Ending.TheVariants.{Exited, Faulted,
 use Rattle.bpf_text.specs.Canonical.{canon}
 use Rattle.bpf_text.specs.LineTable.{IsLineTable}
 use Rattle.bpf_text.specs.Listing.{IsListing}
-use Rattle.bpf_strict.specs.Texts.{trace_until, unwritten_line}
-use Rattle.bpf_strict.specs.Written.{unwritten_of}
-use Rattle.bpf_strict.specs.declared.run.Unwritten.{Unwritten}
+use Rattle.bpf_trace.specs.UnwrittenTexts.{trace_until, unwritten_line}
+use Rattle.bpf_trace.specs.Written.{unwritten_of}
+use Rattle.bpf_trace.specs.declared.strict_run.Unwritten.{Unwritten}
 use Rattle.bpf_trace.specs.Profiles.{profile_text}
 use Rattle.bpf_trace.specs.Traces.{limit_line, trace_text}
 use Rattle.bpf_trace.specs.declared.trace.Shown.{Shown}

@@ -6,15 +6,15 @@ use Rattle.bpf_link.specs.Programs.{IsLinkedAs}
 use Rattle.bpf_link.specs.declared.fault.LinkFault.{LinkFault}
 use Rattle.bpf_link.specs.declared.linker.Linked.{Linked}
 use Rattle.bpf_link.specs.declared.stubs.Stub.{Stub}
-use Rattle.bpf_places.specs.Lookups.{AreObjectSlots, ArePlaces}
-use Rattle.bpf_places.specs.Places.{is_place}
+use Rattle.bpf_lines.specs.Lookups.{AreObjectSlots, ArePlaces}
+use Rattle.bpf_lines.specs.Places.{is_place}
 use Rattle.bpfdb_jobs.specs.Jobs.{asked_of, link_of, section_of, stubs_of}
 use Rattle.bpfdb_jobs.specs.Refusals.{RefusesLink, RefusesStubs}
 use Rattle.bpfdb_jobs.specs.declared.job.Job.{Job}
 use Rattle.bpfdb_jobs.specs.declared.job.LinkedObject.{LinkedObject}
 use Rattle.bpfdb_options.specs.declared.subcommand.Subcommand.{Subcommand}
 use Rattle.bpfdb_options.specs.declared.subcommand.Subcommand.TheVariants.{Asm, Batch, Lines, Link, Test, Whynot}
-use Rattle.slot_texts.specs.Texts.{SlotTexts}
+use Rattle.bpfdb_replies.specs.SlotTexts.{SlotTexts}
 
 -- Subcommands that check FILE as a program.
 abbrev pub is_check : Subcommand → Bool

@@ -2,8 +2,8 @@
 -- or of the session of a script.
 use Rattle.std.specs.Prelude.{ℕ, ◌≡◌, ◌==◌, Bool, true, false, List, [], ◌∷◌, ◌++◌, Option, Some, None, Result, Ok, Err, if◌then◌else◌, codes, length}
 use Rattle.std.specs.Borrow.{Bor}
-use Rattle.bpf_branches.specs.Branches.{AreBranches}
-use Rattle.bpf_branches.specs.declared.query.Query.{Query}
+use Rattle.bpf_whynot.specs.Branches.{AreBranches}
+use Rattle.bpf_whynot.specs.declared.query.Query.{Query}
 use Rattle.bpf_journal.specs.Histories.{Record}
 use Rattle.bpf_journal.specs.Runs.{history_after}
 use Rattle.bpf_steps.specs.State.{State}
@@ -34,7 +34,7 @@ use Rattle.bpfdb_jobs.specs.declared.job.LinkedObject.{LinkedObject}
 use Rattle.bpfdb_options.specs.declared.options.Options.{Options}
 use Rattle.bpfdb_replies.specs.Texts.{place}
 use Rattle.counted_io.specs.Lines.{lines}
-use Rattle.slot_texts.specs.Texts.{SlotTexts}
+use Rattle.bpfdb_replies.specs.SlotTexts.{SlotTexts}
 
 -- What a text asks of a state, where there is one; why that is refused.
 abbrev pub Asks : Option (Bor (List ℕ)) → State → Option What → Type 0

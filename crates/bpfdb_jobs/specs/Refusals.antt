@@ -28,10 +28,10 @@ use Rattle.bpf_suite.specs.declared.fault.FileFault.TheVariants.{Line}
 use Rattle.bpf_origin.specs.declared.what.What.{What as Asked}
 use Rattle.bpf_steps.specs.Opening.{Refused}
 use Rattle.bpf_ring.specs.Opening.{RefusesSize}
-use Rattle.bpf_places.specs.Places.{is_place}
+use Rattle.bpf_lines.specs.Places.{is_place}
 use Rattle.bpf_whynot.specs.declared.fault.GoalFault.{GoalFault}
 use Rattle.bpf_whynot.specs.declared.fault.GoalFault.TheVariants.{NoInstruction, NoSlot}
-use Rattle.trace_lines.specs.Faults.{bad_line}
+use Rattle.input_texts.specs.TraceFaults.{bad_line}
 use Rattle.bpfdb_jobs.specs.Jobs.{AsksGoals, HasMaps, HasWords, IsObjectOf, IsProgramOf, ListsStubs, IsOtherRun, Opens, OpensSession, arrival_of, asked_of, link_of, other_bytes, others_of, section_of, stubs_of}
 use Rattle.bpfdb_jobs.specs.Origins.{Arrival, Asks, RefusesNames, RefusesWhat}
 use Rattle.bpfdb_jobs.specs.declared.job.Job.{Job}

@@ -7,12 +7,12 @@ ghost use Rattle.bpfdb_options.specs.declared.subcommand.Subcommand.TheVariants.
 use crate::diff::{bytes_of, end_of};
 use crate::job::Job;
 use crate::opening::machine_of;
-use bpf_against::put_against;
+use bpf_diff::put_against;
 use bpfdb_faults::{JobFault, JobRefusal, flush_after, give_up};
 use counted_io::Counted;
+use input_texts::form_of_trace;
 use std::alloc::Global;
 use std::io::Write;
-use trace_lines::form_of_trace;
 
 /// Runs a program along a trace, and tells the first step that it tells otherwise.
 pub fn against_job<W: Write, E: Write>(

@@ -2,7 +2,7 @@
 use bpf_isa::MapShape;
 use bpf_link::Linked;
 use bpfdb_options::{Options, Subcommand};
-use slot_texts::SlotTexts;
+use bpfdb_replies::SlotTexts;
 
 /// A subcommand, with the bytes of its files and its options.
 #[derive(Clone, Copy)]

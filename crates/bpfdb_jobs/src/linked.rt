@@ -10,11 +10,11 @@ use crate::dispatch::plain_tool;
 use crate::job::{Job, LinkedObject};
 use crate::object::{linked_from, refuse, section_of, stubs_of};
 use crate::whynot::asked;
+use bpf_lines::{is_place, object_places, object_slots};
 use bpf_link::{LinkFault, Linked};
-use bpf_places::{is_place, object_places, object_slots};
 use bpfdb_options::{Options, Subcommand};
+use bpfdb_replies::SlotTexts;
 use counted_io::Counted;
-use slot_texts::SlotTexts;
 use std::alloc::Global;
 use std::io::{Read, Write};
 

@@ -3,7 +3,7 @@
 ghost use Rattle.std.specs.Prelude.{◌≡◌, IfErr, IfOk};
 ghost use Rattle.bpf_isa.specs.Programs.{Checked};
 ghost use Rattle.bpf_steps.specs.State.{initial};
-ghost use Rattle.bpf_strict.specs.Texts.{unwritten_line};
+ghost use Rattle.bpf_trace.specs.UnwrittenTexts.{unwritten_line};
 ghost use Rattle.counted_io.specs.Writing.{Writes};
 ghost use Rattle.bpfdb_jobs.specs.Jobs.{Opens, unwritten_in};
 ghost use Rattle.bpfdb_jobs.specs.Refusals.{RefusesMachine};
@@ -11,7 +11,7 @@ ghost use Rattle.bpfdb_jobs.specs.Refusals.{RefusesMachine};
 use crate::job::Job;
 use crate::opening::machine_of;
 use bpf_machine::Cpu;
-use bpf_strict::{Unwritten, find_unwritten, put_unwritten};
+use bpf_trace::{Unwritten, find_unwritten, put_unwritten};
 use bpfdb_faults::{JobRefusal, flush_after};
 use counted_io::{Counted, WriteFault};
 use std::alloc::Global;

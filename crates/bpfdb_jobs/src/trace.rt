@@ -1,7 +1,7 @@
 //! What a job of `trace` does.
 ghost use Rattle.std.specs.Prelude.{◌≡◌, ◌≤◌, IfErr, OnErr, OnOk};
 ghost use Rattle.bpf_session.specs.Plain.{plain_end};
-ghost use Rattle.bpf_strict.specs.Texts.{trace_until};
+ghost use Rattle.bpf_trace.specs.UnwrittenTexts.{trace_until};
 ghost use Rattle.bpf_trace.specs.Profiles.{profile_text};
 ghost use Rattle.bpf_trace.specs.Tellings.{Tells};
 ghost use Rattle.bpf_trace.specs.Traces.{trace_text};
@@ -15,8 +15,9 @@ ghost use Rattle.bpfdb_options.specs.declared.subcommand.Subcommand.TheVariants.
 use crate::job::Job;
 use crate::strict::strict_machine;
 use bpf_machine::{Cpu, Status};
-use bpf_strict::{Unwritten, write_trace_until};
-use bpf_trace::{Profile, Shown, TraceFault, put_profile, write_trace};
+use bpf_trace::{
+    Profile, Shown, TraceFault, Unwritten, put_profile, write_trace, write_trace_until,
+};
 use bpfdb_faults::{JobFault, give_up};
 use counted_io::{Counted, WriteFault};
 use std::alloc::Global;

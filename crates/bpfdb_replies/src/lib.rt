@@ -1,5 +1,6 @@
 //! The texts of replies: what is printed of a machine, of breakpoints, of a history and of
-//! refusals. What they print is held by the tests of the built program.
+//! refusals, and how names and texts of others are shown. What they print is held by the tests of
+//! the built program.
 #![tactic(auto)]
 
 mod breaks;
@@ -11,6 +12,8 @@ mod moves;
 mod place;
 mod refusal;
 mod registers;
+mod shown;
+mod slot_text;
 mod trace;
 mod why;
 
@@ -23,5 +26,7 @@ pub use moves::put_move;
 pub use place::{put_place, write_place};
 pub use refusal::put_refusal;
 pub use registers::{number_in, put_state};
+pub use shown::{put_shown, put_shown_lines, shown_name, steers};
+pub use slot_text::{SlotTexts, text_of_slot};
 pub use trace::put_trace;
 pub use why::Why;

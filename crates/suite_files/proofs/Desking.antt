@@ -11,8 +11,8 @@ use Rattle.suite_files.specs.declared.file.Desk.{Desk}
 use Rattle.suite_files.specs.declared.file.Done.{Done}
 use Rattle.suite_files.specs.declared.place.Place.{Place}
 use Rattle.suite_files.specs.declared.shelf.Shelved.{Shelved}
-use Rattle.suite_texts.specs.Heads.{head_of}
-use Rattle.suite_texts.specs.declared.piece.Piece.{Piece}
+use Rattle.input_texts.specs.Heads.{head_of}
+use Rattle.input_texts.specs.declared.piece.Piece.{Piece}
 
 -- a piece that was put, behind which more files were read
 done-later : (bytes_at : List ℕ → Option (List ℕ)) (place : Place) (paths : List (List ℕ)) (piece : List ℕ) (done : Done) → IsDone bytes_at place paths done

@@ -5,7 +5,7 @@ use Rattle.suite_files.specs.Refused.{IsPieceFault, IsTooLong}
 use Rattle.suite_files.specs.Replaced.{IsPut}
 use Rattle.suite_files.specs.declared.fault.FilesFault.{FilesFault}
 use Rattle.suite_files.specs.declared.place.Place.{Place}
-use Rattle.suite_texts.specs.declared.piece.Piece.{Piece}
+use Rattle.input_texts.specs.declared.piece.Piece.{Piece}
 
 -- with what stands in its place the text is too long
 pub long-piece : (bytes_at : List ℕ → Option (List ℕ)) (place : Place) (paths : List (List ℕ)) (before : List ℕ) (piece : Piece) (put : List ℕ)

@@ -9,10 +9,10 @@ use Rattle.suite_files.specs.Desks.{AreAmong}
 use Rattle.suite_files.specs.Replaced.{capture_name, with_objects, with_piece_by}
 use Rattle.suite_files.specs.Shelves.{is_among, path_of, with_names, with_path}
 use Rattle.suite_files.specs.declared.place.Place.{Place}
-use Rattle.suite_texts.specs.Heads.{head_of}
-use Rattle.suite_texts.specs.Options.{option_lines, values_of}
-use Rattle.suite_texts.specs.declared.word.Word.{Word}
-use Rattle.suite_texts.specs.declared.word.Word.TheVariants as word
+use Rattle.input_texts.specs.Heads.{head_of}
+use Rattle.input_texts.specs.Options.{option_lines, values_of}
+use Rattle.input_texts.specs.declared.word.Word.{Word}
+use Rattle.input_texts.specs.declared.word.Word.TheVariants as word
 
 -- a text is the same as itself
 pub bytes_eq-same : (text : List ℕ) → bytes_eq text text ≡ true

@@ -13,7 +13,7 @@ use Rattle.suite_files.specs.declared.place.Place.{Place}
 use Rattle.suite_files.specs.declared.shelf.NameFault.{NameFault}
 use Rattle.suite_files.specs.declared.shelf.NameFault.TheVariants.{Memory, Named}
 use Rattle.suite_files.specs.declared.shelf.Shelved.{Shelved}
-use Rattle.suite_texts.specs.Captures.{AreStarts}
+use Rattle.input_texts.specs.Captures.{AreStarts}
 
 -- the one at a place whose path is that of a name is its file
 pub shelved-at : (bytes_at : List ℕ → Option (List ℕ)) (place : Place) (name : List ℕ) (shelf : List Shelved) (at : ℕ)

@@ -5,9 +5,9 @@ use Rattle.bpf_packet.specs.declared.packet.Packet.{Packet}
 use Rattle.bpf_packet.specs.declared.packet.Packet.TheVariants.{Xdp, Tc}
 use Rattle.suite_files.specs.declared.asked.Asked.{Asked}
 use Rattle.suite_files.specs.declared.asked.Given.{Given}
-use Rattle.suite_texts.specs.Heads.{head_of}
-use Rattle.suite_texts.specs.Options.{are_options, once_of, option_lines, values_of}
-use Rattle.suite_texts.specs.declared.word.Word.TheVariants as word
+use Rattle.input_texts.specs.Heads.{head_of}
+use Rattle.input_texts.specs.Options.{are_options, once_of, option_lines, values_of}
+use Rattle.input_texts.specs.declared.word.Word.TheVariants as word
 
 -- The most objects that are joined to one.
 abbrev pub most_with : ℕ

@@ -13,13 +13,13 @@ use Rattle.suite_files.specs.declared.put.PutFault.{PutFault}
 use Rattle.suite_files.specs.declared.put.PutFault.TheVariants.{Named, Link, Memory}
 use Rattle.suite_files.specs.declared.shelf.NameFault.{NameFault}
 use Rattle.suite_files.specs.declared.shelf.NameFault.TheVariants as name
-use Rattle.suite_texts.specs.Captures.{packet_in}
-use Rattle.suite_texts.specs.Heads.{head_of}
-use Rattle.suite_texts.specs.Options.{is_empty}
-use Rattle.suite_texts.specs.Pieces.{front, pieces}
-use Rattle.suite_texts.specs.declared.piece.Piece.{Piece}
-use Rattle.suite_texts.specs.declared.word.Word.{Word}
-use Rattle.suite_texts.specs.declared.word.Word.TheVariants as word
+use Rattle.input_texts.specs.Captures.{packet_in}
+use Rattle.input_texts.specs.Heads.{head_of}
+use Rattle.input_texts.specs.Options.{is_empty}
+use Rattle.input_texts.specs.Pieces.{front, pieces}
+use Rattle.input_texts.specs.declared.piece.Piece.{Piece}
+use Rattle.input_texts.specs.declared.word.Word.{Word}
+use Rattle.input_texts.specs.declared.word.Word.TheVariants as word
 
 -- The file of a name isn't there, behind files of some paths.
 abbrev pub put_fault : NameFault → PutFault

@@ -11,14 +11,14 @@ use Rattle.suite_files.specs.Shelves.{IsFile, most_files, path_of, with_names, w
 use Rattle.suite_files.specs.declared.asked.Asked.{Asked}
 use Rattle.suite_files.specs.declared.linked.Made.{Made}
 use Rattle.suite_files.specs.declared.place.Place.{Place}
-use Rattle.suite_texts.specs.Captures.{packet_in}
-use Rattle.suite_texts.specs.Heads.{head_of}
-use Rattle.suite_texts.specs.Options.{is_empty, option_lines, values_of}
-use Rattle.suite_texts.specs.Pieces.{front, pieces}
-use Rattle.suite_texts.specs.Puts.{feeds, memory_text, with_lines, words_text}
-use Rattle.suite_texts.specs.declared.piece.Piece.{Piece}
-use Rattle.suite_texts.specs.declared.word.Word.{Word}
-use Rattle.suite_texts.specs.declared.word.Word.TheVariants as word
+use Rattle.input_texts.specs.Captures.{packet_in}
+use Rattle.input_texts.specs.Heads.{head_of}
+use Rattle.input_texts.specs.Options.{is_empty, option_lines, values_of}
+use Rattle.input_texts.specs.Pieces.{front, pieces}
+use Rattle.input_texts.specs.Puts.{feeds, memory_text, with_lines, words_text}
+use Rattle.input_texts.specs.declared.piece.Piece.{Piece}
+use Rattle.input_texts.specs.declared.word.Word.{Word}
+use Rattle.input_texts.specs.declared.word.Word.TheVariants as word
 
 -- In place of `-- mem-file FILE` stand the file's bytes.
 pub record IsMemoryPut (bytes_at : List ℕ → Option (List ℕ)) (place : Place) (piece put : List ℕ) : Type 0 where

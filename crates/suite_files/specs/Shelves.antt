@@ -9,8 +9,8 @@ use Rattle.suite_files.specs.declared.place.Place.{Place}
 use Rattle.suite_files.specs.declared.shelf.NameFault.{NameFault}
 use Rattle.suite_files.specs.declared.shelf.NameFault.TheVariants.{Named, Memory}
 use Rattle.suite_files.specs.declared.shelf.Shelved.{Shelved}
-use Rattle.suite_texts.specs.Captures.{AreStarts}
-use Rattle.suite_texts.specs.Paths.{is_absolute, is_below}
+use Rattle.input_texts.specs.Captures.{AreStarts}
+use Rattle.input_texts.specs.Paths.{is_absolute, is_below}
 
 -- Files lie in the folder of the tests or below, unless they may lie anywhere.
 abbrev pub is_allowed : Place → List ℕ → Bool

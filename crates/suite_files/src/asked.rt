@@ -4,7 +4,7 @@ ghost use Rattle.suite_files.specs.Asks.{IsAsked, given_in, packet_in};
 
 use bpf_packet::Packet;
 use std::alloc::{AllocError, Global};
-use suite_texts::{Text, Word, are_options, head_of, once_of, option_lines, values_of};
+use input_texts::{Text, Word, are_options, head_of, once_of, option_lines, values_of};
 
 /// How many objects may be joined to one.
 const MOST_WITH: usize = 16;

@@ -5,7 +5,7 @@ ghost use Rattle.suite_files.specs.Refused.{AreFaulty, IsFilesFault, IsPieceFaul
 ghost use Rattle.suite_files.specs.Replaced.{IsPut, IsReplaced, NameFew, ReplacesFirst, with_piece};
 ghost use Rattle.suite_files.specs.Shelves.{paths_on};
 ghost use Rattle.suite_files.specs.declared.file.Done.{Done};
-ghost use Rattle.suite_texts.specs.Pieces.{front, pieces};
+ghost use Rattle.input_texts.specs.Pieces.{front, pieces};
 
 use crate::fault::{FilesFault, NamedFault};
 use crate::place::Place;
@@ -13,7 +13,7 @@ use crate::put::{PutFault, put_piece};
 use crate::shelf::Shelved;
 use bpfdb_files::Opener;
 use std::alloc::{AllocError, Global};
-use suite_texts::{Piece, Word, front, head_of, pieces};
+use input_texts::{Piece, Word, front, head_of, pieces};
 
 /// The most bytes of a file of tests, with its files in it.
 const MOST_BYTES: usize = 67_108_864;

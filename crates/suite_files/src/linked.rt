@@ -15,7 +15,7 @@ use bpf_link::{
 };
 use counted_io::{Counted, WriteFault};
 use std::alloc::{AllocError, Global};
-use suite_texts::Text;
+use input_texts::Text;
 
 /// A program, and the table of where its slots stand in its source, if that is wanted.
 #[derive(Drop)]

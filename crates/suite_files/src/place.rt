@@ -3,7 +3,7 @@ ghost use Rattle.std.specs.Prelude.{◌≡◌, IfOk};
 ghost use Rattle.suite_files.specs.Shelves.{is_allowed, path_of};
 
 use std::alloc::{AllocError, Global};
-use suite_texts::{is_absolute, is_below};
+use input_texts::{is_absolute, is_below};
 
 /// Where names of files begin, and what is wanted of objects.
 #[derive(Clone, Copy)]

@@ -5,10 +5,10 @@ ghost use Rattle.suite_files.specs.Links.{IsProgramOf, IsTableOf, contents};
 ghost use Rattle.suite_files.specs.Refused.{IsAskedFault, IsCopyFault, IsMemoryFault, IsOthersFault, IsPacketFault, IsProgramFault, IsPutFault, IsUnmade, put_fault};
 ghost use Rattle.suite_files.specs.Replaced.{IsAskedProgram, IsMemoryPut, IsPacketPut, IsProgramPut, IsPut, ReadFirst, capture_name, packet_number, program_text, with_objects, with_piece, with_piece_by};
 ghost use Rattle.suite_files.specs.Shelves.{AreRead, IsFile, IsShelf, path_of, paths_on, with_names, with_path};
-ghost use Rattle.suite_texts.specs.Heads.{head_of};
-ghost use Rattle.suite_texts.specs.Options.{is_empty};
-ghost use Rattle.suite_texts.specs.Puts.{feeds, memory_text};
-ghost use Rattle.suite_texts.specs.declared.word.Word.TheVariants as word;
+ghost use Rattle.input_texts.specs.Heads.{head_of};
+ghost use Rattle.input_texts.specs.Options.{is_empty};
+ghost use Rattle.input_texts.specs.Puts.{feeds, memory_text};
+ghost use Rattle.input_texts.specs.declared.word.Word.TheVariants as word;
 
 use crate::asked::{Asked, asked_of};
 use crate::fault::NamedFault;
@@ -20,7 +20,7 @@ use bpf_join::ChainFault;
 use bpfdb_files::Opener;
 use counted_io::{find_blank, natural, trim_start};
 use std::alloc::{AllocError, Global};
-use suite_texts::{Word, feeds, head_of, is_empty, memory_text, with_lines, words_text};
+use input_texts::{Word, feeds, head_of, is_empty, memory_text, with_lines, words_text};
 
 /// Why there is nothing in place of a piece.
 #[derive(Drop)]

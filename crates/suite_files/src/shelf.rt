@@ -4,14 +4,14 @@ ghost use Rattle.bpfdb_files.specs.Reading.{Gives};
 ghost use Rattle.bpfdb_files.specs.declared.kinds.FileKind.TheVariants.{Source};
 ghost use Rattle.suite_files.specs.Shelves.{AreRead, HoldsAt, IsNameFault, IsReadFault, IsShelf, IsShelved, IsUnread, Lacks, is_among, path_of, paths_on, with_path};
 ghost use Rattle.suite_files.specs.declared.shelf.Shelved.{Shelved};
-ghost use Rattle.suite_texts.specs.Captures.{AreStarts, packet_in};
+ghost use Rattle.input_texts.specs.Captures.{AreStarts, packet_in};
 
 use crate::fault::NamedFault;
 use crate::place::{Place, is_allowed, path_of};
 use bpfdb_files::{FileKind, FirstFault, Opener, read_kind};
 use counted_io::Counted;
 use std::alloc::Global;
-use suite_texts::{packet_at, packet_starts};
+use input_texts::{packet_at, packet_starts};
 
 /// The most files that a file of tests may name.
 const MOST_FILES: usize = 4_096;

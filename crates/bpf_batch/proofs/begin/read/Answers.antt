@@ -1,6 +1,6 @@
 use Rattle.std.specs.Prelude.{length}
 use Rattle.std.proofs.lemmas.Bool.{le-ltb}
-use Rattle.case_texts.specs.Cases.{longest_line}
+use Rattle.input_texts.specs.Cases.{longest_line}
 use Rattle.bpf_batch.proofs.begin.read.Goals as goal
 
 pub returns-in-Some : goal.returns-in-Some

@@ -1,6 +1,6 @@
 use Rattle.std.proofs.Common.{ℕ, ◌≡◌, ◌<◌, ◌++◌, List, [], ◌∷◌, append_assoc, ap, codes, length, refl, sym, ◌∙◌, arith}
 use Rattle.counted_io.proofs.Appending.{Writes-text}
-use Rattle.shown_text.specs.Shown.{shown}
+use Rattle.bpfdb_replies.specs.Shown.{shown}
 use Rattle.bpf_names.specs.Maps.{base_text}
 use Rattle.bpf_names.proofs.names.put_base.Goals as goal
 

@@ -3,8 +3,8 @@ use Rattle.std.specs.Prelude.{◌||◌}
 use Rattle.std.proofs.lemmas.List.{append-nil}
 use Rattle.counted_io.proofs.Appending.{Writes-none, Writes-text}
 use Rattle.bpfdb_faults.specs.declared.refusal.JobRefusal.TheVariants.{TraceLine}
-use Rattle.trace_lines.specs.Faults.{bad_line}
-use Rattle.trace_lines.specs.Forms.{told}
+use Rattle.input_texts.specs.TraceFaults.{bad_line}
+use Rattle.input_texts.specs.TraceForms.{told}
 use Rattle.bpfdb_jobs.specs.Endings.{Exhausted, Refused}
 use Rattle.bpfdb_jobs.specs.Jobs.{against_print}
 use Rattle.bpfdb_jobs.proofs.Diffing.{against-prints, against-refuses, machine-against, told-ends}

@@ -1,10 +1,10 @@
 use Rattle.std.proofs.Common.{◌≡◌, ◌∙◌, ℕ, Bool, List, Some, inr, refl, subst, sym, false, true}
 use Rattle.std.specs.Prelude.{◌&&◌, ◌||◌}
 use Rattle.bpfdb_jobs.specs.Done.{Unlinked}
-use Rattle.bpf_places.specs.Lookups.{AreObjectSlots}
+use Rattle.bpf_lines.specs.Lookups.{AreObjectSlots}
 use Rattle.bpfdb_jobs.specs.Jobs.{asked_of, section_of}
 use Rattle.bpfdb_jobs.specs.Objects.{HasPlace, asks_place, is_whynot, tells_branches}
-use Rattle.bpf_places.specs.Places.{is_place}
+use Rattle.bpf_lines.specs.Places.{is_place}
 use Rattle.bpfdb_jobs.proofs.linked.do_linked.Goals as goal
 
 pub do_asked-requires-in-Ok-clause-linked : goal.do_asked-requires-in-Ok-clause-linked

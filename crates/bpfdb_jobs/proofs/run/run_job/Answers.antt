@@ -1,7 +1,7 @@
 use Rattle.std.proofs.Common.{refl, sym, ◌∙◌}
 use Rattle.bpf_session.specs.declared.plain.Ending.TheVariants.{Exited, Faulted, Limit}
 use Rattle.bpfdb_jobs.specs.Endings.{OutLost, Printed, Refused}
-use Rattle.bpf_strict.specs.Texts.{unwritten_line}
+use Rattle.bpf_trace.specs.UnwrittenTexts.{unwritten_line}
 use Rattle.bpfdb_jobs.specs.Jobs.{run_print, stopped}
 use Rattle.bpfdb_jobs.proofs.Printing.{err-printed, has-exited, line-got, line-lost, not-exited, run-prints, stopped-prints}
 use Rattle.bpfdb_options.specs.declared.subcommand.Subcommand.TheVariants.{Run}

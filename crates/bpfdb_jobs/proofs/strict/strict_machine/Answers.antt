@@ -2,8 +2,8 @@ use Rattle.std.proofs.Common.{◌≡◌, ◌∙◌, Bool, None, Option, ap, fals
 use Rattle.std.specs.Prelude.{if◌then◌else◌}
 use Rattle.bpf_isa.specs.Programs.{Checked}
 use Rattle.bpf_steps.specs.State.{State, initial}
-use Rattle.bpf_strict.specs.Written.{unwritten_of}
-use Rattle.bpf_strict.specs.declared.run.Unwritten.{Unwritten}
+use Rattle.bpf_trace.specs.Written.{unwritten_of}
+use Rattle.bpf_trace.specs.declared.strict_run.Unwritten.{Unwritten}
 use Rattle.bpfdb_jobs.specs.Jobs.{unwritten_in}
 use Rattle.bpfdb_jobs.specs.declared.job.Job.{Job}
 use Rattle.bpfdb_jobs.proofs.strict.strict_machine.Goals as goal

@@ -3,7 +3,7 @@ use Rattle.suite_files.proofs.Desking.{desk-again, on-all}
 use Rattle.suite_files.specs.Desks.{IsDone}
 use Rattle.suite_files.specs.Shelves.{paths_on}
 use Rattle.suite_files.specs.declared.file.Done.{Done}
-use Rattle.suite_texts.specs.declared.piece.Piece.{Piece}
+use Rattle.input_texts.specs.declared.piece.Piece.{Piece}
 use Rattle.suite_files.proofs.file.with_piece.Goals as goal
 
 pub returns-in-Some-clause-desk : goal.returns-in-Some-clause-desk

@@ -7,7 +7,7 @@ use Rattle.suite_files.specs.Refused.{IsPieceFault}
 use Rattle.suite_files.specs.Replaced.{IsPut, ReplacesFirst, no_piece, paths_first}
 use Rattle.suite_files.specs.Shelves.{paths_on}
 use Rattle.suite_files.specs.declared.place.Place.{Place}
-use Rattle.suite_texts.specs.declared.piece.Piece.{Piece}
+use Rattle.input_texts.specs.declared.piece.Piece.{Piece}
 use Rattle.suite_files.proofs.file.with_pieces.Goals as goal
 
 -- a piece that was taken from a place

@@ -1,0 +1,11 @@
+pub mod Json
+pub mod Cuts
+pub mod Shapes
+pub mod Moves
+pub mod Objects
+pub mod Tables
+pub mod Parts
+pub mod Lines
+pub mod Edges
+pub mod Graphs
+pub mod Tellers

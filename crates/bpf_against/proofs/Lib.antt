@@ -1,4 +1,0 @@
-pub mod Telling
-pub mod Along
-pub mod Lines
-pub mod Noting

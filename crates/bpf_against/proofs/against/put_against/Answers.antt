@@ -1,4 +1,0 @@
-use Rattle.bpf_against.proofs.against.put_against.Goals as goal
-
-pub returns-in-Registers-clause-text : goal.returns-in-Registers-clause-text
-returns-in-Registers-clause-text g c = rw c.in-Registers.is (rw c.of-lines.ensures at c.put_by_registers.ensures.text)

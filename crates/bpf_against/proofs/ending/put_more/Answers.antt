@@ -1,8 +1,0 @@
-use Rattle.std.proofs.Common.{refl}
-use Rattle.counted_io.proofs.Appending.{WritesAfter-WritesAfter}
-use Rattle.bpf_against.proofs.ending.put_more.Goals as goal
-
-pub returns : goal.returns
-returns g c =
-    let two = WritesAfter-WritesAfter g.W.Write.contents _ _ _ _ _ _ _ _ _ c.put-headed.ensures c.put_end_here-half.ensures refl in
-    WritesAfter-WritesAfter g.W.Write.contents _ _ _ _ _ _ _ _ _ two c.put_there.ensures refl

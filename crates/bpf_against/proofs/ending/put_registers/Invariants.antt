@@ -1,9 +1,0 @@
-use Rattle.std.proofs.Common.{◌≡◌, ◌-◌, ◌++◌, ℕ, List}
-use Rattle.counted_io.specs.Writing.{WritesAfter}
-use Rattle.bpf_against.specs.Against.{registers_from}
-use Rattle.bpf_against.proofs.ending.put_registers.Given as goal
-
-abbrev pub invariant-loop-number : goal.invariant-loop-number
-invariant-loop-number g l =
-    (text : List ℕ) × (text ++ registers_from l.cpu l.number (11 - l.number) ≡ registers_from l.cpu 0 11)
-    × WritesAfter g.W.Write.contents l.fn.writer l.fn.so_far l.writer l.told text

@@ -1,7 +1,0 @@
-use Rattle.std.proofs.Common.{refl}
-use Rattle.counted_io.proofs.Appending.{WritesAfter-WritesAfter}
-use Rattle.bpf_against.proofs.ending.put_step_here.Goals as goal
-
-pub returns : goal.returns
-returns g c = λ x t.
-    WritesAfter-WritesAfter g.W.Write.contents _ _ _ _ _ _ _ _ _ c.put-marked.ensures (c.put_taken.ensures x t) refl

@@ -1,4 +1,0 @@
-pub mod Turning
-pub mod Going
-pub mod Finding
-pub mod Deciding

@@ -1,4 +1,0 @@
-use Rattle.bpf_branches.proofs.branches.follow.Goals as goal
-
-pub returns : goal.returns
-returns c = rw c.saturating_sub.ensures at c.chase.ensures

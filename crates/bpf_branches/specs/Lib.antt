@@ -1,4 +1,0 @@
-pub mod Branches
-pub mod Courses
-pub mod Laws
-pub mod Turns

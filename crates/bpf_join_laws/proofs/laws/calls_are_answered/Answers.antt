@@ -1,5 +1,0 @@
-use Rattle.bpf_join_laws.proofs.Linking.{calls_answered}
-use Rattle.bpf_join_laws.proofs.laws.calls_are_answered.Goals as goal
-
-pub returns : goal.returns
-returns c = calls_answered

@@ -1,5 +1,0 @@
-use Rattle.bpf_join_laws.proofs.Linking.{joined_open}
-use Rattle.bpf_join_laws.proofs.laws.joined_objects_open.Goals as goal
-
-pub returns : goal.returns
-returns c = joined_open

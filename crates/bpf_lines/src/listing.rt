@@ -1,0 +1,23 @@
+//! The slots of a label.
+ghost use Rattle.std.specs.Prelude.{IfErr, IfOk};
+ghost use Rattle.bpf_text.specs.Listing.{IsFaultOf};
+ghost use Rattle.bpf_lines.specs.Lookups.{AreListingSlots};
+
+use crate::place_slots::slots_told;
+use bpf_text::{AsmFault, line_table};
+use std::alloc::{AllocError, Global};
+
+/// The slot of a label of a listing, in decimal: no byte where no instruction has it.
+pub fn listing_slots(alloc: Global, listing: &[u8], what: &[u8]) -> Result<Vec<u8>, AsmFault>
+    ensures ok { IfOk result (λ slots. AreListingSlots listing.now what.now slots.items) }
+    ensures err { IfErr result (IsFaultOf listing.now) }
+{
+    let table = match line_table(alloc, listing) {
+        Ok(table) => table,
+        Err(fault) => return Err(fault),
+    };
+    match slots_told(alloc, false, table.as_slice(), what) {
+        Ok(slots) => Ok(slots),
+        Err(AllocError) => Err(AsmFault::Memory),
+    }
+}

@@ -1,5 +1,0 @@
-use Rattle.bpf_strict.proofs.Runs.{Follows}
-use Rattle.bpf_strict.proofs.run.find_unwritten.Given as goal
-
-abbrev pub invariant-loop-k : goal.invariant-loop-k
-invariant-loop-k l = Follows l.limit l.fn.cpu l.cpu l.k l.marks

@@ -1,0 +1,100 @@
+-- Why a value came about: the branches that decided that the moves were made which the answer about it tells, and that the program came to where it
+-- stands, the newest first (dynamic control dependence).
+use Rattle.std.specs.Prelude.{◌≡◌, ◌≢◌, ◌<◌, ◌⊎◌, ℕ, ◌+◌, ◌-◌, ◌==◌, pos, Bool, true, false, if◌then◌else◌, List, [], ◌∷◌, Some, take}
+use lib.Chars.{codes}
+use Rattle.bpf_isa.specs.Programs.{Checked, insn_at, target_of}
+use Rattle.bpf_isa.specs.declared.instruction.Insn.{Insn}
+use Rattle.bpf_isa.specs.declared.instruction.Insn.TheVariants.{JumpIf}
+use Rattle.bpf_machine.specs.declared.moves.Move.{Move}
+use Rattle.bpf_machine.specs.declared.moves.Move.TheVariants as move
+use Rattle.bpf_machine.specs.Moves.{overwritten}
+use Rattle.bpf_steps.specs.State.{State, depth}
+use Rattle.bpf_journal.specs.Histories.{Record}
+use Rattle.bpf_origin.specs.Answers.{Answer, wanted_before, with_line}
+use Rattle.bpf_origin.specs.Texts.{lines_text}
+use Rattle.bpf_origin.specs.Wanted.{are_hit, most_places, still_wanted, want_parts}
+use Rattle.bpf_origin.specs.Writes.{written}
+use Rattle.bpf_origin.specs.declared.place.Part.{Part}
+use Rattle.bpf_origin.specs.declared.place.Place.{Place}
+use Rattle.bpf_origin.specs.declared.question.Extent.TheVariants.{Lines}
+use Rattle.bpf_whynot.specs.Answers.{lost_line, only}
+use Rattle.bpf_whynot.specs.Sures.{IsSure}
+use Rattle.bpf_whynot.specs.declared.branch_aim.Aim.{Aim}
+use Rattle.bpf_whynot.specs.declared.query.Query.{Query}
+
+-- A conditional jump decides that its function comes to a slot (control dependence): by one way out of it that is sure, and by the other it isn't.
+abbrev pub JustOne : Type 0 → Type 0 → Type 0
+JustOne a b = (a × (b → ⊥)) ⊎ ((a → ⊥) × b)
+
+abbrev pub Parts : Checked → ℕ → ℕ → Insn → Type 0
+Parts program slot p i = (q : ℕ) × (target_of p i ≡ Some (pos q)) × JustOne (IsSure program slot (p + 1)) (IsSure program slot q)
+
+abbrev pub DecidesBy : Checked → ℕ → ℕ → Insn → Type 0
+DecidesBy program slot p (JumpIf condition width dst source offset) = Parts program slot p (JumpIf condition width dst source offset)
+DecidesBy program slot p _ = ⊥
+
+-- A move decided it: a step by such a jump, or an edit that led to another slot.
+abbrev pub Decided : ℕ → State → Move → State → Type 0
+Decided slot x move.Step y = (i : Insn) × (insn_at x.program x.pc ≡ Some i) × DecidesBy x.program slot x.pc i
+Decided slot x (move.Edit e) y = y.pc ≢ x.pc
+
+-- The slot that was come to, and the depth of calls of its function.
+abbrev pub aim_at : State → Aim
+aim_at x = record { depth = depth x; slot = x.pc }
+
+-- A move of that function itself decided it.
+abbrev pub DecidedIt : Aim → Record → State → Type 0
+DecidedIt a r y = (depth r.before ≡ a.depth) × Decided a.slot r.before r.move y
+
+-- The end: no other move is such a branch.
+abbrev pub end_text : Bool → List ℕ
+end_text opening = if opening then codes "no other branch; at the opening\n" else codes "no other branch; before the kept history\n"
+
+-- What is looked for: where the values at some places came from, in so many more lines of the answer about them; and how a function came to its slot,
+-- in so many lines.
+pub record Quest : Type 0 where
+  pub wanted : List Place
+  pub values : ℕ
+  pub aim : Aim
+  pub lines : ℕ
+
+-- A move made a value: the answer about the value tells it.
+abbrev pub made : Quest → Record → State → Bool
+made s r y = if s.values == 0 then false else are_hit (written y (overwritten r.before r.move)) s.wanted
+
+-- Behind such a move it is looked for what that read, and how the program came to it; behind a branch that is told for how it came to that; behind
+-- a call that began the function for how it came to the call.
+abbrev pub behind_value : Query → Quest → Record → State → Quest
+behind_value q s r y = record s { wanted = take most_places (wanted_before q.question r y s.wanted); values = s.values - 1; aim = aim_at r.before }
+
+abbrev pub behind : Quest → Record → State → Quest
+behind s r y = record s { wanted = still_wanted y (overwritten r.before r.move) s.wanted }
+
+abbrev pub behind_call : Quest → Record → State → Quest
+behind_call s r y = record (behind s r y) { aim = aim_at r.before }
+
+abbrev pub behind_branch : Quest → Record → State → Quest
+behind_branch s r y = record (behind_call s r y) { lines = s.lines - 1 }
+
+-- The answer after k moves. The latest move is told that decided that the function came to the slot which is looked for: the oldest one, in that call,
+-- that is to be explained. (What decided about a younger one decided about that, too: `OlderIsDecided` of Laws.)
+pub data Branches (q : Query) : ℕ → Quest → List Record → State → Answer → Type 0 where
+  ended : {k : ℕ} {s : Quest} {y : State} → Branches q k s [] y (only (end_text q.question.opening))
+  valued : {k : ℕ} {s : Quest} {r : Record} {h : List Record} {y : State} {rest : Answer} → made s r y ≡ true
+      → Branches q (k + 1) (behind_value q s r y) h r.before rest → Branches q k s (r ∷ h) y rest
+  called : {k : ℕ} {s : Quest} {r : Record} {h : List Record} {y : State} {rest : Answer} → made s r y ≡ false → depth r.before < s.aim.depth
+      → Branches q (k + 1) (behind_call s r y) h r.before rest → Branches q k s (r ∷ h) y rest
+  passed : {k : ℕ} {s : Quest} {r : Record} {h : List Record} {y : State} {rest : Answer} → made s r y ≡ false → (depth r.before < s.aim.depth → ⊥)
+      → (DecidedIt s.aim r y → ⊥) → Branches q (k + 1) (behind s r y) h r.before rest → Branches q k s (r ∷ h) y rest
+  told : {k : ℕ} {s : Quest} {r : Record} {h : List Record} {y : State} {rest : Answer} → made s r y ≡ false → DecidedIt s.aim r y → 0 < s.lines
+      → Branches q (k + 1) (behind_branch s r y) h r.before rest
+      → Branches q k s (r ∷ h) y (with_line (lost_line q.places (k + 1) r.before r.move y) rest)
+  cut : {k : ℕ} {s : Quest} {r : Record} {h : List Record} {y : State} → made s r y ≡ false → DecidedIt s.aim r y → s.lines ≡ 0
+      → Branches q k s (r ∷ h) y (record { text = lines_text; extent = Lines })
+
+-- The answer about some parts, where a machine stands.
+abbrev pub quest_about : Query → List Part → State → Quest
+quest_about q parts y = record { wanted = take most_places (want_parts [] parts); values = q.question.lines; aim = aim_at y; lines = q.question.lines }
+
+abbrev pub AreBranches : Query → List Part → List Record → State → Answer → Type 0
+AreBranches q parts h y answer = Branches q 0 (quest_about q parts y) h y answer

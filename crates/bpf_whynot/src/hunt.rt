@@ -1,0 +1,29 @@
+//! A pass over a history, as far as it has come.
+
+use crate::Sure;
+use crate::branch_aim::Aim;
+use counted_io::WriteFault;
+
+/// What is looked for, and what was told so far.
+#[derive(Drop)]
+pub struct Hunt {
+    /// The slot that was come to.
+    pub aim: Aim,
+    /// From where its function comes to it surely.
+    pub sure: Sure,
+    /// How many more lines the answer about values has.
+    pub values: u64,
+    /// How many more lines there may be.
+    pub lines: u64,
+    /// Whether what was told could be written.
+    pub told: Result<(), WriteFault>,
+}
+
+/// What became of one move of the pass.
+#[derive(Drop)]
+pub enum Turn {
+    /// The pass goes on.
+    On(Hunt),
+    /// The answer is cut.
+    Cut(Result<(), WriteFault>),
+}

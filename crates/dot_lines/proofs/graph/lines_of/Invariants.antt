@@ -1,9 +1,0 @@
-use Rattle.std.proofs.Common.{◌≡◌, ◌++◌, length, map}
-use Rattle.json_lines.specs.Cuts.{pieces}
-use Rattle.dot_lines.proofs.graph.lines_of.Given as goal
-
-abbrev pub invariant-rest : goal.invariant-rest
-invariant-rest l = map (λ s. s.now) l.lines.items ++ l.rest ≡ pieces 10 l.text
-
-abbrev pub decreases-rest : goal.decreases-rest
-decreases-rest l = length l.rest

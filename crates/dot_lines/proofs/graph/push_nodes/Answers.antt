@@ -1,6 +1,0 @@
-use Rattle.std.proofs.Common.{arith}
-use Rattle.dot_lines.proofs.Edging.{next-node}
-use Rattle.dot_lines.proofs.graph.push_nodes.Goals as goal
-
-pub loop-k-preserved : goal.loop-k-preserved
-loop-k-preserved c = next-node c.args.lines.now c.loop-k.k _ _ _ _ (omega arith) c.in_ok-push_node.ensures c.loop-k.invariant

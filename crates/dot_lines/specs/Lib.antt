@@ -1,5 +1,0 @@
-pub mod Parts
-pub mod Lines
-pub mod Edges
-pub mod Graphs
-pub mod Tellers

@@ -1,0 +1,13 @@
+pub mod Captures
+pub mod Heads
+pub mod Options
+pub mod Paths
+pub mod Pieces
+pub mod Puts
+pub mod Words
+pub mod TraceForms
+pub mod TraceFaults
+pub mod Cases
+pub mod ReadLines
+pub mod Turns
+pub mod Counts

@@ -1,4 +1,0 @@
-pub mod Cuts
-pub mod FirstPieces
-pub mod Steps
-pub mod Turns

@@ -1,8 +1,0 @@
-use Rattle.std.proofs.Common.{◌≡◌, drop, map}
-use Rattle.std.specs.Option.{option_map}
-use Rattle.json_lines.specs.Shapes.{members, spot_of}
-use Rattle.json_lines.proofs.Steps.{onto}
-use Rattle.json_lines.proofs.member.members.Given as goal
-
-abbrev pub invariant-loop-field : goal.invariant-loop-field
-invariant-loop-field l = members (map spot_of l.fields) l.text ≡ option_map (onto l.out.items) (members (map spot_of (drop l.field-index l.fields)) l.rest)

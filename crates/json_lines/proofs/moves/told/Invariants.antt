@@ -1,8 +1,0 @@
-use Rattle.std.proofs.Common.{◌≡◌, drop, map}
-use Rattle.json_lines.specs.Objects.{told_by}
-use Rattle.json_lines.specs.Shapes.{pattern_of}
-use Rattle.json_lines.specs.Tables.{piece_shapes}
-use Rattle.json_lines.proofs.moves.told.Given as goal
-
-abbrev pub invariant-loop-shape : goal.invariant-loop-shape
-invariant-loop-shape l = told_by piece_shapes l.text ≡ told_by (map pattern_of (drop l.shape-index l.shape-items)) l.text

@@ -1,7 +1,0 @@
-use Rattle.std.proofs.Common.{◌≡◌, drop, map}
-use Rattle.json_lines.specs.Objects.{object_of}
-use Rattle.json_lines.specs.Shapes.{pattern_of}
-use Rattle.json_lines.proofs.object.object_of.Given as goal
-
-abbrev pub invariant-loop-shape : goal.invariant-loop-shape
-invariant-loop-shape l = object_of l.side (map pattern_of l.shapes) l.line ≡ object_of l.side (map pattern_of (drop l.shape-index l.shapes)) l.line

@@ -1,6 +1,0 @@
-pub mod Json
-pub mod Cuts
-pub mod Shapes
-pub mod Moves
-pub mod Objects
-pub mod Tables
