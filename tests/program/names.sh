@@ -61,7 +61,7 @@ for compiler in $compilers; do
     grep -q '^-[0-9]* 0x300000104:4 = 0xf; .*; from r[0-9]; in classes\[3\]\.limits\[1\]\.rate$' found/out || complain "a store: $(cat found/out found/err)"
     grep -q '^-[0-9]* r[0-9] = 0x7; .*; from 0x[0-9a-f]*:8; in seed$' found/out || complain "a load: $(cat found/out)"
     grep -q '^-[0-9]* r[0-9] = 0x5; .*; from 0x[0-9a-f]*:4; in level$' found/out || complain "a load: $(cat found/out)"
-    grep -q '^-[0-9]* 0x[0-9a-f]*:8 = 0x3; .*; from r4; in slow\.rate$' found/out || complain "what the setup stores: $(cat found/out)"
+    grep -q '^-[0-9]* 0x[0-9a-f]*:8 = 0x3; .*; from r4; initial value of slow\.rate$' found/out || complain "what the setup stores: $(cat found/out)"
     # As JSON a name is a member.
     "$program" origin --json --script empty --object places.o "$(printf '0x%x' $((0x300000000 + 260)))" > found/out 2> found/err
     count=$((count + 1))

@@ -65,6 +65,7 @@ piece_shapes =
     ∷ shape [] (codes "then at ") (count (codes "to") [] ∷ []) Nothing
     ∷ shape [] (codes "in ") (text (codes "function") (codes " (") ∷ text (codes "file") (codes ":") ∷ count (codes "line") (codes ")") ∷ []) Nothing
     ∷ shape [] (codes "in ") (text (codes "name") [] ∷ []) Nothing
+    ∷ shape [] (codes "initial value of ") (text (codes "initial") [] ∷ []) Nothing
     ∷ shape [] [] (text (codes "way") (codes " to ") ∷ count (codes "to") [] ∷ []) Nothing
     ∷ shape [] (codes "byte ") (count (codes "byte") (codes " of the context") ∷ []) Nothing
     ∷ shape [] (codes "at the ") (text (codes "since") [] ∷ []) Nothing

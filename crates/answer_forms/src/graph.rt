@@ -1,5 +1,5 @@
 //! The text of a graph.
-ghost use Rattle.std.specs.Prelude.{◌≡◌, ◌++◌, ◌||◌, ◌==◌, IfOk, OnOk, codes, decimal, flat_map, map};
+ghost use Rattle.std.specs.Prelude.{◌≡◌, ◌++◌, ◌||◌, ◌==◌, IfOk, OnOk, flat_map, map};
 ghost use Rattle.answer_forms.specs.Cuts.{pieces};
 ghost use Rattle.answer_forms.specs.Graphs as spec;
 

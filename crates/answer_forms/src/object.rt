@@ -1,10 +1,8 @@
 //! Lines as objects.
-ghost use Rattle.std.specs.Prelude.{◌≡◌, ◌++◌, IfOk, map, flat_map, OnOk};
+ghost use Rattle.std.specs.Prelude.{◌≡◌, ◌++◌, IfOk, map, OnOk};
 ghost use Rattle.std.specs.Option.{option_map};
-ghost use Rattle.answer_forms.specs.Cuts.{pieces};
 ghost use Rattle.answer_forms.specs.Objects.{ended_object, json_of, line_object, object, object_by, object_of, rest_text, side_object};
 ghost use Rattle.answer_forms.specs.Shapes.{pattern_of};
-ghost use Rattle.answer_forms.specs.Tables.{patterns_of};
 
 use crate::answer::Answer;
 use crate::cut::{Pieces, behind};

@@ -7,7 +7,7 @@ use crate::answer::Answer;
 use crate::shape::{Field, Rest, Shape};
 
 /// What is told of a move besides its parts.
-const PIECES: [Shape; 9] = [
+const PIECES: [Shape; 10] = [
     Shape {
         kind: b"",
         begin: b"",
@@ -34,6 +34,12 @@ const PIECES: [Shape; 9] = [
         kind: b"",
         begin: b"in ",
         fields: &[Field::Text(b"name", b"")],
+        rest: Rest::Nothing,
+    },
+    Shape {
+        kind: b"",
+        begin: b"initial value of ",
+        fields: &[Field::Text(b"initial", b"")],
         rest: Rest::Nothing,
     },
     Shape {

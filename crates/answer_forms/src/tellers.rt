@@ -2,7 +2,7 @@
 ghost use Rattle.std.specs.Prelude.{◌≡◌, ℕ, OnOk, Some, if◌then◌else◌};
 ghost use Rattle.std.specs.BTreeMap.{get};
 ghost use Rattle.std.specs.Ordering.{nat_cmp};
-ghost use Rattle.answer_forms.specs.Lines.{body as body_of, tells, told_by};
+ghost use Rattle.answer_forms.specs.Lines.{tells};
 ghost use Rattle.answer_forms.specs.Parts.{places};
 ghost use Rattle.answer_forms.specs.Tellers.{told_or};
 ghost use Rattle.answer_forms.specs.Cuts.{pieces};

@@ -1,5 +1,5 @@
 //! Expressions: bytecode, and what it comes to in a state of a machine.
-ghost use Rattle.std.specs.Prelude.{◌≡◌, ◌≤◌, option_map};
+ghost use Rattle.std.specs.Prelude.{◌≡◌, ◌≤◌};
 ghost use Rattle.bpf_agent.specs.Expressions.{and_push, branched, done, ended, left, memory_read, on_address, on_one, on_two, operand, operand_len, ordered, popped, register_read, rotated, stacked, step, swapped, value, went, width_of};
 
 use crate::arithmetic::{binary, unary};

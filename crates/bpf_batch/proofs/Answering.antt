@@ -1,7 +1,6 @@
 -- The loop of a batch: the lines behind us and their answers, and what is left to read.
-use Rattle.std.proofs.Common.{◌≡◌, ◌+◌, ℕ, Bool, true, false, List, [], ◌∷◌, ◌++◌, Option, Some, None, Result, Ok, Err, refl, sym, ap, subst, ◌∙◌, append_assoc}
+use Rattle.std.proofs.Common.{◌≡◌, ◌+◌, ℕ, true, false, List, [], ◌∷◌, ◌++◌, Option, Some, None, Result, Ok, Err, refl, sym, ap, subst, ◌∙◌, append_assoc}
 use Rattle.std.proofs.lemmas.List.{append-nil}
-use Rattle.std.specs.Prelude.{IfOk}
 use Rattle.counted_io.specs.Counted.{Tally}
 use Rattle.counted_io.specs.Lines.{lines}
 use Rattle.bpf_session.specs.Runs.{Exchange}

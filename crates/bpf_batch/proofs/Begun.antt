@@ -1,5 +1,5 @@
 -- What a line that was looked at is answered.
-use Rattle.std.proofs.Common.{◌≡◌, ℕ, Bool, List, ◌++◌, Option, Some, None, Result, Ok, Err, codes, refl, sym, ap, subst, ◌∙◌}
+use Rattle.std.proofs.Common.{◌≡◌, ℕ, List, ◌++◌, Option, Some, Ok, Err, codes, refl, ap, ◌∙◌}
 use Rattle.bpf_isa.specs.Programs.{Checked}
 use Rattle.bpf_session.specs.Plain.{plain_end}
 use Rattle.bpf_steps.specs.State.{State}
@@ -8,11 +8,10 @@ use Rattle.input_texts.specs.Cases.{read_case}
 use Rattle.counted_io.specs.Counted.{Tally}
 use Rattle.counted_io.specs.Writing.{Writes}
 use Rattle.bpf_batch.specs.Answers.{AnswersLine, Refuses, RefusesLine, Runs, run_text, text_of_fault}
-use Rattle.bpf_batch.specs.Batches.{CountsAnswer, Suits, WritesAnswer}
-use Rattle.bpf_batch.specs.Begins.{Begins, SuitsMachine}
+use Rattle.bpf_batch.specs.Batches.{Suits, WritesAnswer}
+use Rattle.bpf_batch.specs.Begins.{Begins}
 use Rattle.bpf_batch.specs.declared.batch.Batch.{Batch}
-use Rattle.bpf_batch.specs.declared.fault.BatchFault.{BatchFault}
-use Rattle.bpf_batch.specs.declared.fault.BatchFault.TheVariants.{Read, Write, Memory}
+use Rattle.bpf_batch.specs.declared.fault.BatchFault.TheVariants.{Write}
 use Rattle.bpf_batch.specs.declared.fault.Refusal.{Refusal}
 use Rattle.bpf_batch.proofs.Writings.{with-fault, with-value}
 

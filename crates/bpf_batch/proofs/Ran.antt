@@ -1,5 +1,5 @@
 -- What is written of a run, by how it ended.
-use Rattle.std.proofs.Common.{◌≡◌, ◌≢◌, ℕ, List, ◌++◌, Option, Result, Ok, Err, codes, refl, sym, ap, subst, ◌∙◌}
+use Rattle.std.proofs.Common.{◌≡◌, ℕ, List, ◌++◌, Option, Result, Ok, Err, codes, refl, sym, ap, subst, ◌∙◌}
 use Rattle.bpf_entries.specs.declared.status.Status.{Status}
 use Rattle.bpf_entries.specs.declared.status.Status.TheVariants as status
 use Rattle.bpf_session.specs.Plain.{RunsPlain, ending_of, text_of_ending}

@@ -2,7 +2,7 @@
 ghost use Rattle.std.specs.Prelude.{◌≡◌, IfErr, IfOk, List, true, ℕ};
 ghost use Rattle.bpf_isa.specs.Programs.{Checked};
 ghost use Rattle.bpf_steps.specs.State.{initial};
-ghost use Rattle.input_texts.specs.Cases.{CaseValue, read_case};
+ghost use Rattle.input_texts.specs.Cases.{read_case};
 ghost use Rattle.input_texts.specs.ReadLines.{Holds};
 ghost use Rattle.bpf_batch.specs.Answers.{Opens, RefusesCase, is_memory, words_of};
 ghost use Rattle.bpf_batch.specs.Batches.{Suits};

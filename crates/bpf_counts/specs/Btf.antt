@@ -1,6 +1,6 @@
 -- The BTF in which a map has so many entries: that of the object, with types and strings behind its own that define the map once more. What is defined last
 -- counts: the last section of maps, and of its variables of one name the last.
-use Rattle.std.specs.Prelude.{ℕ, zero, suc, ◌+◌, ◌*◌, ◌/◌, ◌%◌, min, List, [], ◌∷◌, ◌++◌, codes, get_or, length}
+use Rattle.std.specs.Prelude.{ℕ, zero, suc, ◌+◌, ◌/◌, min, List, [], ◌∷◌, ◌++◌, codes, get_or, length}
 use Rattle.byteorder.specs.Endian.{little_bytes}
 use Rattle.bpf_btf.specs.declared.maps.MapDescription.{MapDescription}
 use Rattle.bpf_counts.specs.Walks.{listed_at}

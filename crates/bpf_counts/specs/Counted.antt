@@ -1,5 +1,5 @@
 -- The object in which maps have as many entries as they are told: when there is one, and why there is none.
-use Rattle.std.specs.Prelude.{◌≡◌, ◌⊎◌, ◌<◌, ◌≤◌, ℕ, zero, suc, Bool, false, List, [], Option, Some, None, Result, Ok, Err, get_or, length}
+use Rattle.std.specs.Prelude.{◌≡◌, ◌⊎◌, ℕ, zero, suc, List, [], Option, Some, None, Ok, Err, get_or, length}
 use Rattle.bpf_isa.specs.declared.fault.MapFault.TheVariants.{Entries}
 use Rattle.bpf_btf.specs.Layout.{btf_header}
 use Rattle.bpf_btf.specs.Maps.{map_description}
@@ -18,8 +18,8 @@ use Rattle.bpf_link.specs.declared.plan.Plan.{Plan}
 use Rattle.bpf_link.specs.declared.sections.Found.TheVariants.{Only}
 use Rattle.input_texts.specs.Counts.{count_in, map_in}
 use Rattle.bpf_counts.specs.Btf.{btf_with}
-use Rattle.bpf_counts.specs.Files.{has_header, is_types, replaced}
-use Rattle.bpf_counts.specs.Walks.{IsCut, IsWalk, listed_at}
+use Rattle.bpf_counts.specs.Files.{is_types, replaced}
+use Rattle.bpf_counts.specs.Walks.{IsWalk}
 use Rattle.bpf_counts.specs.declared.told.CountFault.{CountFault}
 use Rattle.bpf_counts.specs.declared.walk.Walk.{Walk}
 

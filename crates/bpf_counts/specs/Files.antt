@@ -1,5 +1,5 @@
 -- The object's file with another section `.BTF`.
-use Rattle.std.specs.Prelude.{ℕ, ◌+◌, ◌*◌, ◌==◌, nat_le, Bool, ◌&&◌, List, ◌++◌, Result, Ok, codes, length}
+use Rattle.std.specs.Prelude.{ℕ, ◌+◌, ◌*◌, nat_le, Bool, ◌&&◌, List, ◌++◌, Result, Ok, codes, length}
 use Rattle.bpf_link.specs.Images.{with_u64}
 use Rattle.bpf_link.specs.Layout.{u64_at}
 use Rattle.bpf_link.specs.Objects.{Elf, provided}

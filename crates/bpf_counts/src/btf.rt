@@ -1,10 +1,7 @@
 //! The BTF in which a map has so many entries.
 ghost use Rattle.std.specs.Prelude.{◌≡◌, ◌≤◌, ◌<◌, ◌+◌, ◌*◌, IfErr, IfOk, IfSome, ◌⊎◌, length};
-ghost use Rattle.bpf_btf.specs.Layout.{btf_header};
-ghost use Rattle.bpf_btf.specs.Sections.{strings_in, types_in};
 ghost use Rattle.bpf_link.specs.declared.fault.LinkFault.TheVariants.{Memory, ManyRecords};
 ghost use Rattle.bpf_counts.specs.Btf.{btf_of, btf_with, entry_words, header_words, number_words, section_words, struct_words, types_with, variable_words, with_definition, with_names, with_numbers, with_own_names, with_section};
-ghost use Rattle.bpf_counts.specs.Walks.{IsWalk};
 
 use crate::walk::{Walk, listed_at};
 use crate::words::{narrow, with, with_name, with_words};

@@ -1,9 +1,9 @@
 //! Bytes that are put together of numbers and names.
-ghost use Rattle.std.specs.Prelude.{◌≡◌, ◌≤◌, ◌+◌, ◌++◌, IfErr, IfOk, codes, length};
+ghost use Rattle.std.specs.Prelude.{◌≡◌, ◌≤◌, ◌+◌, ◌++◌, IfErr, IfOk, length};
 ghost use Rattle.byteorder.specs.Endian.{little_bytes};
 ghost use Rattle.bpf_link.specs.Images.{with_u64};
 ghost use Rattle.bpf_link.specs.declared.fault.LinkFault.TheVariants.{Memory};
-ghost use Rattle.bpf_counts.specs.Btf.{first_bytes, narrow, with_name, with_words};
+ghost use Rattle.bpf_counts.specs.Btf.{narrow, with_name, with_words};
 
 use bpf_link::LinkFault;
 use byteorder::{ByteOrder, LittleEndian};

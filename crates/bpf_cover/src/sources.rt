@@ -3,7 +3,6 @@ ghost use Rattle.std.specs.Prelude.{◌≡◌, ◌≤◌, ◌<◌, ◌&&◌, ◌
 ghost use Rattle.std.specs.Str.{bytes_eq};
 ghost use Rattle.counted_io.specs.Writing.{WritesAfter};
 ghost use Rattle.bpf_cover.specs.Sources.{AreRecords, alike, file_text, forks_of, group_text, groups, jump_text, line_ran, mark_of, record_of, records_text, taken_of};
-ghost use Rattle.bpf_cover.specs.Tracefiles.{totals_text};
 
 use crate::coverage::{Mark, has_run};
 use crate::places::{Spot, in_order, spots_of};

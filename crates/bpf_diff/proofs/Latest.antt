@@ -1,5 +1,5 @@
 -- The last step that wrote a place.
-use Rattle.std.proofs.Common.{◌≡◌, ◌≤◌, ◌<◌, ℕ, zero, suc, Bool, true, false, List, [], ◌∷◌, get_or, length, refl, ap, arith}
+use Rattle.std.proofs.Common.{◌≡◌, ◌≤◌, ◌<◌, ℕ, zero, suc, Bool, true, false, List, [], ◌∷◌, get_or, length, refl, arith}
 use Rattle.bpf_steps.specs.State.{State}
 use Rattle.bpf_origin.specs.declared.place.Place.{Place}
 use Rattle.bpf_diff.specs.Laws.{IsLastWrite, WritesAreLast, is_write}

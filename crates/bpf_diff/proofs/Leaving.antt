@@ -1,7 +1,6 @@
 -- The places that are seen of two runs, and the last step that wrote one.
-use Rattle.std.proofs.Common.{◌≡◌, ◌+◌, ◌-◌, ◌<◌, ◌≤◌, ℕ, zero, suc, Bool, true, false, cond, List, [], ◌∷◌, ◌++◌, codes, drop, get_or, length, Option, Some, None, refl, sym, ap, ap₂, ◌∙◌, ◌≢◌, arith, inl, inr}
+use Rattle.std.proofs.Common.{◌≡◌, ◌+◌, ◌-◌, ◌<◌, ◌≤◌, ℕ, zero, suc, Bool, true, false, cond, List, [], ◌∷◌, ◌++◌, codes, drop, length, Option, Some, None, refl, sym, ap, ap₂, ◌∙◌, ◌≢◌, arith, inl, inr}
 use Rattle.std.specs.Prelude.{◌%◌, ◌^◌, ◌==◌, find, if◌then◌else◌, max, slice_get}
-use Rattle.std.specs.List.{list_any}
 use Rattle.std.specs.Option.{option_or}
 use Rattle.std.proofs.lemmas.Bool.{cases_lt}
 use Rattle.std.proofs.lemmas.Bool.Decides.{nat_tests}

@@ -1,13 +1,12 @@
 //! A run held against the trace of another machine.
-ghost use Rattle.std.specs.Prelude.{◌≡◌, ◌<◌, ◌+◌, ◌^◌, ◌++◌, ◌==◌, ◌||◌, IfErr, IfOk, List, Option, [], ◌∷◌, ◌&&◌, ℕ, Bool, false, codes};
-ghost use Rattle.std.specs.Borrow.{Bor};
+ghost use Rattle.std.specs.Prelude.{◌≡◌, ◌<◌, ◌+◌, ◌^◌, ◌++◌, ◌==◌, ◌||◌, IfErr, IfOk, List, [], ◌&&◌, ℕ, false, codes};
 ghost use Rattle.bpf_entries.specs.Status.{has_ended};
 ghost use Rattle.bpf_isa.specs.Programs.{IsStart};
 ghost use Rattle.bpf_steps.specs.State.{State};
 ghost use Rattle.bpf_trace.specs.Taken.{Took};
 ghost use Rattle.bpf_trace.specs.Traces.{end_line};
 ghost use Rattle.counted_io.specs.Writing.{WritesAfter};
-ghost use Rattle.bpf_diff.specs.Against.{against_text, at_end, behind_end, differences, heading, here, is_end_told, tells_run, there};
+ghost use Rattle.bpf_diff.specs.Against.{against_text, at_end, behind_end, is_end_told, tells_run, there};
 ghost use Rattle.input_texts.specs.TraceForms.{told};
 ghost use Rattle.bpf_diff.specs.Noted.{AreNotes, Leaves, next_lines, otherwise_text};
 ghost use Rattle.input_texts.specs.declared.trace_form.Form.TheVariants as form;

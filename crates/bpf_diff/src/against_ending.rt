@@ -4,7 +4,6 @@ ghost use Rattle.std.specs.Option.{option_map_or};
 ghost use Rattle.bpf_isa.specs.Programs.{IsStart};
 ghost use Rattle.bpf_steps.specs.State.{State, register};
 ghost use Rattle.bpf_trace.specs.Taken.{Took};
-ghost use Rattle.bpf_trace.specs.Traces.{end_line, step_line};
 ghost use Rattle.input_texts.specs.TraceForms.{is_told as is_told_of, number as number_told};
 ghost use Rattle.counted_io.specs.Writing.{WritesAfter, hexadecimal};
 ghost use Rattle.bpf_diff.specs.Against.{difference, differences, end_here, entries_of, entry as entry_of, entry_text, goes_on, heading, here, other_text, registers_from, same_text, there};

@@ -1,5 +1,5 @@
 //! A run that goes forward along a trace, as long as that tells its steps.
-ghost use Rattle.std.specs.Prelude.{◌≡◌, ◌++◌, ◌≤◌, ◌∷◌, IfErr, IfOk, List, [], ◌&&◌, ◌+◌, codes, false, not, reverse, suc, take, true};
+ghost use Rattle.std.specs.Prelude.{◌≡◌, ◌≤◌, IfOk, [], ◌&&◌, ◌+◌, false, not, reverse, take, true};
 ghost use Rattle.std.specs.Option.{option_map_or};
 ghost use Rattle.bpf_entries.specs.Status.{has_ended};
 ghost use Rattle.bpf_isa.specs.Programs.{IsStart};
@@ -7,9 +7,9 @@ ghost use Rattle.bpf_steps.specs.State.{State};
 ghost use Rattle.bpf_trace.specs.Runs.{steps_of};
 ghost use Rattle.bpf_trace.specs.Taken.{Took};
 ghost use Rattle.bpf_trace.specs.Traces.{step_line};
-ghost use Rattle.bpf_diff.specs.Against.{are_told, entries_of, entry as entry_of, is_line, says};
+ghost use Rattle.bpf_diff.specs.Against.{are_told, entries_of, entry as entry_of, is_line};
 ghost use Rattle.bpf_diff.specs.Noted.{AreNotes, Halts, HaltsBehind, Stops};
-ghost use Rattle.input_texts.specs.declared.trace_form.Form.TheVariants.{Registers, Steps};
+ghost use Rattle.input_texts.specs.declared.trace_form.Form.TheVariants.{Registers};
 
 use crate::told_writers::Notes;
 use bpf_machine::Cpu;

@@ -1,5 +1,5 @@
 //! Two machines that go forward in step.
-ghost use Rattle.std.specs.Prelude.{◌≡◌, false, true};
+ghost use Rattle.std.specs.Prelude.{◌≡◌, false};
 ghost use Rattle.bpf_entries.specs.Status.{has_ended};
 ghost use Rattle.bpf_steps.specs.Next.{next};
 ghost use Rattle.bpf_steps.specs.State.{State};

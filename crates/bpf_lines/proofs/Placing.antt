@@ -1,5 +1,5 @@
 -- One row more of the texts of slots.
-use Rattle.std.proofs.Common.{ℕ, ◌≡◌, ◌<◌, List, [], ◌∷◌, length, refl}
+use Rattle.std.proofs.Common.{ℕ, ◌≡◌, ◌<◌, List, length, refl}
 use Rattle.counted_io.specs.Cuts.{after, before}
 use Rattle.counted_io.specs.Lines.{lines}
 use Rattle.counted_io.proofs.Cutting.{lines-cut}

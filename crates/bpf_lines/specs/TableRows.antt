@@ -1,6 +1,6 @@
 -- What a row of a table of `bpfdb lines` tells of its slot, behind the slot and a blank (32): `LINE LABEL..` of a listing, `FILE:LINE FUNCTION` of
 -- an object.
-use Rattle.std.specs.Prelude.{ℕ, ◌+◌, ◌-◌, ◌==◌, ◌&&◌, ◌||◌, not, nat_lt, Bool, true, false, if◌then◌else◌, List, [], ◌∷◌, drop, take, length, slice_index}
+use Rattle.std.specs.Prelude.{ℕ, ◌-◌, ◌==◌, ◌&&◌, ◌||◌, not, nat_lt, Bool, true, false, if◌then◌else◌, List, [], ◌∷◌, drop, take, length, slice_index}
 use Rattle.std.specs.List.{list_any, slice_split}
 use Rattle.std.specs.Str.{bytes_eq}
 use Rattle.bpf_lines.specs.Places.{is_line}

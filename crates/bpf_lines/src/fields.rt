@@ -1,5 +1,5 @@
 //! Numbers in the bytes of a section, the low byte first; absent bytes read as 0.
-ghost use Rattle.std.specs.Prelude.{◌≡◌, ◌≤◌, ◌<◌, ◌+◌, length, nat_lt, ◌&&◌, ◌==◌, slice_index, slice_range};
+ghost use Rattle.std.specs.Prelude.{◌≡◌, ◌<◌, ◌+◌, ◌&&◌, ◌==◌, slice_index};
 ghost use Rattle.bpf_isa.specs.Words.{u16_at, u32_at};
 ghost use Rattle.bpf_btf.specs.Layout.{is_called};
 

@@ -1,5 +1,5 @@
 //! The lines that a section `.BTF.ext` lists.
-ghost use Rattle.std.specs.Prelude.{◌≡◌, ◌≤◌, ◌<◌, ◌+◌, ℕ, IfOk, IfErr, IfSome, IfNone, Ok, Err, Some, length, min, ◌*◌};
+ghost use Rattle.std.specs.Prelude.{◌≡◌, ◌≤◌, ◌<◌, ◌+◌, IfOk, IfErr, IfSome, IfNone, Ok, Err, Some, length, min};
 ghost use Rattle.bpf_btf.specs.CoreRelocations.{AreBroken, block_end, has_entries};
 ghost use Rattle.bpf_btf.specs.declared.fault.BtfFault.TheVariants.{Ext};
 ghost use Rattle.bpf_link.specs.declared.fault.LinkFault.TheVariants.{Memory};

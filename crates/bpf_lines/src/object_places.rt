@@ -1,5 +1,5 @@
 //! The slots of a function, and of a line of C; and the line of C of each slot.
-ghost use Rattle.std.specs.Prelude.{IfErr, IfOk, All, ◌≡◌, List, [], ◌∷◌, map};
+ghost use Rattle.std.specs.Prelude.{IfErr, IfOk, All, ◌≡◌, map};
 ghost use Rattle.bpf_lines.specs.Objects.{HasPartLines, IsLinesRefusal, program_table};
 ghost use Rattle.bpf_lines.specs.Lookups.{AreObjectSlots, ArePlaces, IsObjectTable};
 

@@ -1,8 +1,7 @@
 //! What is told of the slots of a part of a program.
-ghost use Rattle.std.specs.Prelude.{◌≡◌, ◌≤◌, ◌<◌, IfOk, IfErr, IfSome, length};
-ghost use Rattle.bpf_btf.specs.declared.fault.BtfFault.TheVariants.{Ext};
+ghost use Rattle.std.specs.Prelude.{◌≡◌, ◌<◌, IfOk, IfErr, IfSome, length};
 ghost use Rattle.bpf_link.specs.FieldRelocations.{ext_found};
-ghost use Rattle.bpf_link.specs.MapTypes.{is_something, types_bytes, types_found};
+ghost use Rattle.bpf_link.specs.MapTypes.{is_something};
 ghost use Rattle.bpf_link.specs.Parts.{part_of};
 ghost use Rattle.bpf_lines.specs.LineInfo.{strings_of};
 ghost use Rattle.bpf_lines.specs.Parts.{ArePartLines, HasBadList, HasBlock, IsLinesFault};

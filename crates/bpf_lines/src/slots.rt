@@ -1,5 +1,5 @@
 //! The last slots up to one of which something is said, by their marks.
-ghost use Rattle.std.specs.Prelude.{◌≡◌, ◌≤◌, ◌<◌, ◌+◌, ℕ, IfSome, Option, length};
+ghost use Rattle.std.specs.Prelude.{◌≡◌, ◌<◌, ◌+◌, ℕ, IfSome, Option, length};
 ghost use Rattle.bpf_lines.specs.Marks.{AreMarks};
 ghost use Rattle.bpf_lines.specs.Slots.{is_since, last_said, said_of};
 

@@ -1,6 +1,6 @@
 -- The name of a byte of a value, by the value's type: the fields and elements that it lies in, from outside in. The order of types is BTF's; the
 -- names are bpfdb's own choice, as C writes them.
-use Rattle.std.specs.Prelude.{ℕ, zero, suc, ◌+◌, ◌-◌, ◌*◌, ◌/◌, ◌%◌, ◌==◌, nat_le, nat_lt, Bool, ◌&&◌, ◌||◌, if◌then◌else◌, List, [], ◌∷◌, ◌++◌, Option, Some, None, codes, decimal}
+use Rattle.std.specs.Prelude.{ℕ, zero, suc, ◌+◌, ◌-◌, ◌*◌, ◌/◌, ◌%◌, ◌==◌, nat_le, nat_lt, Bool, ◌||◌, if◌then◌else◌, List, [], ◌∷◌, ◌++◌, Option, Some, None, codes, decimal}
 use Rattle.bpf_isa.specs.Words.{u32_at}
 use Rattle.bpf_btf.specs.Layout.{array_entry}
 use Rattle.bpf_btf.specs.Maps.{last_below}

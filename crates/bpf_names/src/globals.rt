@@ -1,6 +1,5 @@
 //! The variables of a section of data, by the symbols of an object.
-ghost use Rattle.std.specs.Prelude.{◌≡◌, ◌≤◌, ◌<◌, ◌-◌, length, IfSome, min};
-ghost use Rattle.bpf_link.specs.Tables.{symbol_at};
+ghost use Rattle.std.specs.Prelude.{◌≡◌, ◌<◌, ◌-◌, length, IfSome, min};
 ghost use Rattle.bpf_names.specs.Globals as spec;
 
 use bpf_btf::{Btf, latest};

@@ -1,5 +1,5 @@
 //! A map as it is named.
-ghost use Rattle.std.specs.Prelude.{◌≡◌, ◌≤◌, ◌<◌, ◌+◌, ◌-◌, ◌*◌, length, slice_get, slice_index, IfSome, Some, None};
+ghost use Rattle.std.specs.Prelude.{◌≡◌, ◌≤◌, ◌<◌, ◌+◌, ◌-◌, length, IfSome, Some, None};
 ghost use Rattle.bpf_names.specs.Maps as spec;
 ghost use Rattle.bpf_isa.specs.Maps.{most_maps};
 

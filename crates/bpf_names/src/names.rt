@@ -1,5 +1,5 @@
 //! The names of what lies in the maps of a program.
-ghost use Rattle.std.specs.Prelude.{◌≡◌, ◌≤◌, ◌<◌, ◌/◌, ◌%◌, ◌⊎◌, IfOk, IfErr, IfSome, length, Ok, Err, Some, None, List, ℕ};
+ghost use Rattle.std.specs.Prelude.{◌≡◌, ◌≤◌, ◌<◌, ◌/◌, ◌%◌, IfOk, IfErr, IfSome, length, Ok, Err, Some, None};
 ghost use Rattle.bpf_btf.specs.declared.fault.BtfFault.TheVariants as btf;
 ghost use Rattle.bpf_isa.specs.Maps.{most_maps};
 ghost use Rattle.bpf_link.specs.Data.{data_of};

@@ -1,8 +1,7 @@
 //! What of a value a byte lies in, by the value's type.
-ghost use Rattle.std.specs.Prelude.{◌≡◌, ◌≤◌, ◌<◌, ◌+◌, ◌/◌, ◌%◌, IfSome, Some, None};
-ghost use Rattle.bpf_btf.specs.Layout.{array_entry};
+ghost use Rattle.std.specs.Prelude.{◌≡◌, ◌<◌, ◌+◌, ◌/◌, ◌%◌, IfSome, Some, None};
 ghost use Rattle.bpf_btf.specs.Sizes.{is_modifier};
-ghost use Rattle.bpf_btf.specs.Types.{start_of, type_of};
+ghost use Rattle.bpf_btf.specs.Types.{type_of};
 ghost use Rattle.bpf_link.specs.Names.{short_at};
 ghost use Rattle.counted_io.specs.Writing.{WritesAfter};
 ghost use Rattle.bpf_names.specs.Spots as spec;

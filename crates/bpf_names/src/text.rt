@@ -1,11 +1,12 @@
 //! Lines of an answer with the names of the places that they tell.
-ghost use Rattle.std.specs.Prelude.{◌≡◌, ◌≤◌, ◌<◌, ◌++◌, flat_map, length, IfSome, Some, None};
-ghost use Rattle.std.specs.Str.{bytes_eq};
+ghost use Rattle.std.specs.Prelude.{◌≡◌, ◌<◌, length, IfSome, Some, None};
 ghost use Rattle.counted_io.specs.Lines.{lines};
 ghost use Rattle.counted_io.specs.Writing.{WritesAfter};
 ghost use Rattle.bpf_names.specs.Texts as spec;
 
 use crate::names::{Located, Names, put_name};
+use bpf_isa::MOST_SLOTS;
+use bpf_link::Plan;
 use counted_io::{Counted, WriteFault, cut, natural, put, sides};
 use std::io::Write;
 
@@ -69,20 +70,56 @@ fn told_in(names: &Names<'_>, line: &[u8]) -> Option<Located>
     first_in(names, others)
 }
 
+/// The slot whose instruction a line tells behind its only part.
+fn slot_in(line: &[u8]) -> Option<u64>
+    ensures { result ≡ spec.told_slot line.now }
+{
+    let (_, told) = sides(line, b';');
+    let (_, told) = sides(told, b' ');
+    let (slot, _) = sides(told, b':');
+    number_in(slot)
+}
+
+/// Whether a slot is of the stores that give variables their bytes at the start.
+fn is_setup(plan: &Plan<'_>, slot: Option<u64>) -> bool
+    ensures { result ≡ spec.is_setup plan.now slot }
+{
+    match slot {
+        Some(slot) => slot > plan.parts.len() as u64 && slot < MOST_SLOTS as u64,
+        None => false,
+    }
+}
+
+/// Writes what the name of a byte is to a line.
+fn put_way<W: Write>(
+    writer: &mut Counted<W>,
+    so_far: Result<(), WriteFault>,
+    is_setup: bool,
+) -> Result<(), WriteFault>
+    ensures { WritesAfter W.contents writer.old so_far writer.new result (spec.way_text is_setup) }
+{
+    if is_setup {
+        put(writer, so_far, b"; initial value of ")
+    } else {
+        put(writer, so_far, b"; in ")
+    }
+}
+
 /// Writes the name of a byte that a line tells, behind it.
 fn put_told<W: Write>(
     writer: &mut Counted<W>,
     so_far: Result<(), WriteFault>,
     names: &Names<'_>,
+    line: &[u8],
     told: Option<Located>,
 ) -> Result<(), WriteFault>
     requires { IfSome told (λ at. 0 < at.map.shape.value_size) }
     ensures { WritesAfter W.contents writer.old so_far writer.new result
-        (spec.told_text names.now told) }
+        (spec.told_text names.now line.now told) }
 {
     match told {
         Some(at) => {
-            let parted = put(writer, so_far, b"; in ");
+            let parted = put_way(writer, so_far, is_setup(&names.plan, slot_in(line)));
             put_name(writer, parted, names, at)
         }
         None => so_far,
@@ -100,12 +137,12 @@ fn put_line<W: Write>(
         (spec.named_line names.now line.now) }
 {
     let begun = put(writer, so_far, line);
-    let told = put_told(writer, begun, names, told_in(names, line));
+    let told = put_told(writer, begun, names, line, told_in(names, line));
     put(writer, told, b"\n")
 }
 
 /// Writes the lines of an answer. Behind each that tells bytes of a map stands the name of the first
-/// one.
+/// one, and whether it gets its initial value there.
 ///
 /// A line takes time in proportion to its length, and no more than a bounded time for a name,
 /// whatever the object.

@@ -1,5 +1,5 @@
 //! The text of an answer's lines.
-ghost use Rattle.std.specs.Prelude.{◌≡◌, ◌≤◌, ◌<◌, ◌++◌, [], flat_map, codes, if◌then◌else◌, nat_lt, length, slice_index};
+ghost use Rattle.std.specs.Prelude.{◌≡◌, ◌<◌, [], flat_map, slice_index};
 ghost use Rattle.std.specs.Option.{option_map_or};
 ghost use Rattle.counted_io.specs.Writing.{WritesAfter};
 ghost use Rattle.bpf_journal.specs.Histories.{is_step as is_step_of};

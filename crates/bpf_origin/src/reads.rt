@@ -1,15 +1,14 @@
 //! What a step reads: the table of the definitions, row by row.
-ghost use Rattle.std.specs.Prelude.{false, ◌≡◌, ◌≤◌, ◌<◌, ◌+◌, ◌++◌, ◌∷◌, [], length, nat_lt, if◌then◌else◌};
+ghost use Rattle.std.specs.Prelude.{false, ◌≡◌, ◌≤◌, ◌<◌, ◌+◌, ◌++◌, ◌∷◌, [], length};
 ghost use Rattle.std.specs.Option.{option_map_or};
-ghost use Rattle.arrayvec.specs.ArrayVec.{array_vec_len};
 ghost use Rattle.bpf_isa.specs.Helpers.{helper_of};
-ghost use Rattle.bpf_isa.specs.Sizes.{size_len, signed_len};
+ghost use Rattle.bpf_isa.specs.Sizes.{size_len};
 ghost use Rattle.bpf_machine.specs.declared.moves.Move.TheVariants as move_of;
 ghost use Rattle.bpf_steps.specs.Access.{address as address_in};
 ghost use Rattle.bpf_steps.specs.Atomics.{size_of};
 ghost use Rattle.bpf_steps.specs.Next.{change as change_in};
 ghost use Rattle.bpf_entries.specs.Status.{has_ended};
-ghost use Rattle.bpf_steps.specs.State.{depth, register as register_of};
+ghost use Rattle.bpf_steps.specs.State.{depth};
 ghost use Rattle.bpf_origin.specs.Places.{depth_for};
 ghost use Rattle.bpf_origin.specs.Reads as spec;
 

@@ -1,6 +1,5 @@
 //! What a move wrote, as its entry tells it.
-ghost use Rattle.std.specs.Prelude.{◌≡◌, ◌≤◌, ◌<◌, ◌++◌, ◌∷◌, [], ℕ, length, option_map};
-ghost use Rattle.std.specs.List.{list_any};
+ghost use Rattle.std.specs.Prelude.{◌≡◌, ◌≤◌, ◌<◌, ◌++◌, [], ℕ, length, option_map};
 ghost use Rattle.bpf_entries.specs.Past.{past};
 ghost use Rattle.bpf_steps.specs.State.{depth};
 ghost use Rattle.bpf_origin.specs.Places.{has as has_place, same};

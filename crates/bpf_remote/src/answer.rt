@@ -1,5 +1,5 @@
 //! Answers: what the bodies of packets tell gdb.
-ghost use Rattle.std.specs.Prelude.{◌≡◌, ◌==◌, ◌≤◌, ◌<◌, ◌+◌, ◌^◌, ◌++◌, List, drop, true, ℕ};
+ghost use Rattle.std.specs.Prelude.{◌≡◌, ◌==◌, ◌<◌, ◌+◌, ◌^◌, ◌++◌, List, drop, true, ℕ};
 ghost use Rattle.bpf_remote.specs.Answers.{answer_of_move, answer_of_set, answer_of_why, byte_at, description_text, error_text, halt_of, halt_of_end, halt_of_status, has_memory, memory_text, moves_text, other_text, part_of, present, register_text, registers_text, stop_text, supported_text, text_of, text_of_halt, watched_text};
 ghost use Rattle.bpf_remote.specs.Numbers.{hex_text};
 ghost use Rattle.bpf_remote.specs.Packets.{Holds};

@@ -1,5 +1,5 @@
 //! Numbers and bytes, as bodies write them.
-ghost use Rattle.std.specs.Prelude.{◌≡◌, ◌∷◌, position, ◌==◌};
+ghost use Rattle.std.specs.Prelude.{◌≡◌, position, ◌==◌};
 ghost use Rattle.std.specs.Option.{option_map};
 ghost use Rattle.std.specs.List.{list_all};
 ghost use Rattle.std.specs.Char.{digit_value, is_digit};

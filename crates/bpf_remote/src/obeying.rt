@@ -1,5 +1,5 @@
 //! Requests and lines, obeyed by a session.
-ghost use Rattle.std.specs.Prelude.{◌≡◌, ◌≤◌, ◌⊎◌, ◌++◌, [], List, IfOk, MatchResult, codes, length, true, ℕ};
+ghost use Rattle.std.specs.Prelude.{◌≡◌, ◌≤◌, ◌++◌, [], List, IfOk, MatchResult, codes, length, true, ℕ};
 ghost use Rattle.bpf_journal.specs.Tracks.{Track};
 ghost use Rattle.bpfdb_commands.specs.Refusals.{refusal_text};
 ghost use Rattle.bpf_session.specs.Output.{is_quit};

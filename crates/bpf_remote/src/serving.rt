@@ -1,5 +1,5 @@
 //! Connections: the items of a stream, answered one after another.
-ghost use Rattle.std.specs.Prelude.{◌≡◌, ◌≤◌, ◌⊎◌, Bool, IfErr, IfOk, List, None, OnOk, Some, length, ℕ};
+ghost use Rattle.std.specs.Prelude.{◌≡◌, ◌≤◌, Bool, IfErr, IfOk, List, None, OnOk, Some, length, ℕ};
 ghost use Rattle.counted_io.specs.Counted.{Tally};
 ghost use Rattle.counted_io.specs.Writing.{Writes, WritesAfter};
 ghost use Rattle.bpf_remote.specs.Answers.{sent};

@@ -13,7 +13,7 @@ use Rattle.bpf_steps.specs.declared.fault.OpenFault.TheVariants as unopened
 use Rattle.bpf_session.specs.Plain.{plain_end}
 use Rattle.bpf_suite.specs.Cells.{cell_of}
 use Rattle.bpf_suite.specs.Images.{IsImageOf, Makes, with_runs}
-use Rattle.bpf_suite.specs.Outcomes.{Ends, GivesCells, IsProgramOf, Refuses, RefusesCells, edit_of, is_there, missing, with_cells}
+use Rattle.bpf_suite.specs.Outcomes.{Ends, IsProgramOf, Refuses, RefusesCells, edit_of, is_there, missing, with_cells}
 use Rattle.bpf_suite.specs.Regs.{reg_lines, with_regs}
 use Rattle.bpf_suite.specs.declared.cells.Cell.{Cell}
 use Rattle.bpf_suite.specs.declared.cells.CellLine.{CellLine}

@@ -1,5 +1,5 @@
 -- The first of the lines that don't hold, and how many more there are.
-use Rattle.std.proofs.Common.{ℕ, codes, decimal, ◌==◌, ◌≡◌, ◌≢◌, ◌≤◌, ◌<◌, ◌+◌, ◌-◌, ◌^◌, Bool, true, false, not, List, [], ◌∷◌, ◌++◌, append_assoc, take, length, length-append, length-take, get_or, min, refl, sym, ap, ◌∙◌, arith}
+use Rattle.std.proofs.Common.{ℕ, codes, decimal, ◌==◌, ◌≡◌, ◌≤◌, ◌<◌, ◌+◌, ◌-◌, Bool, true, false, not, List, [], ◌∷◌, ◌++◌, take, length, length-append, length-take, get_or, refl, sym, ap, ◌∙◌, arith}
 use Rattle.std.specs.List.{filter}
 use Rattle.std.proofs.lemmas.List.{append-nil, take-append-le, take_all, take_more}
 use Rattle.bpf_steps.specs.State.{State}

@@ -1,5 +1,5 @@
 //! The program that tests of a file share, and the machine that they run on, one after another.
-ghost use Rattle.std.specs.Prelude.{◌≡◌, ◌++◌, IfOk, List, None, Ok, OnErr, Option, OnOk, filter_map, false, if◌then◌else◌, true, unwrap_or};
+ghost use Rattle.std.specs.Prelude.{◌≡◌, ◌++◌, IfOk, List, None, Ok, Option, OnOk, filter_map, false, if◌then◌else◌, true, unwrap_or};
 ghost use Rattle.bpf_isa.specs.Programs.{Checked};
 ghost use Rattle.bpf_steps.specs.State.{State};
 ghost use Rattle.bpf_cover.specs.Coverage.{covered};

@@ -3,8 +3,6 @@ ghost use Rattle.std.specs.Prelude.{◌≡◌, ◌≤◌, ◌==◌, ◌&&◌, �
 ghost use Rattle.std.specs.Char.{is_digit};
 ghost use Rattle.std.specs.List.{list_all, list_any, position_or_len};
 ghost use Rattle.std.specs.Option.{option_map};
-ghost use Rattle.bstr.specs.Utf8.{lossy_chars};
-ghost use Rattle.bpfdb_replies.specs.Shown.{steers as steers_by};
 ghost use Rattle.bpf_suite.specs.Bodies.{are_remarks, bytes_of, fits, fits_byte, fits_digit, is_line, is_pattern, is_phrase, is_remark, is_space, is_title, limit_of, number_of, solid, trim_end, trimmed};
 
 use bpfdb_limits::is_limit;

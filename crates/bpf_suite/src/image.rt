@@ -1,7 +1,6 @@
 //! What cells make of maps: the bytes that aren't zero, so that the next test begins with them.
 ghost use Rattle.std.specs.Prelude.{◌≡◌, ◌≤◌, ◌<◌, ◌+◌, ◌*◌, ◌==◌, ◌++◌, ℕ, IfOk, OnOk, Some, filter_map, length, slice_get, take};
 ghost use Rattle.std.specs.List.{list_all};
-ghost use Rattle.bpf_isa.specs.Maps.{AreMaps};
 ghost use Rattle.bpf_machine.specs.Edits.{edited};
 ghost use Rattle.bpf_steps.specs.Platform.{map_base};
 ghost use Rattle.bpf_steps.specs.Regions.{index_in, map_len, maps_from, maps_len};

@@ -10,7 +10,7 @@ ghost use Rattle.bpf_suite.specs.Images.{IsImageFor};
 ghost use Rattle.bpf_suite.specs.Regs.{reg_lines, with_regs};
 ghost use Rattle.bpf_suite.specs.declared.refusal.Refusal.TheVariants.{Open};
 ghost use Rattle.bpf_steps.specs.declared.fault.OpenFault.TheVariants as unopened;
-ghost use Rattle.bpf_suite.specs.Outcomes.{Ends, GivesCell, GivesCells, HasMaps, HasWords, IsProgramOf, Reads, Refuses, RefusesCells, limit_word, missing, outcome_text, with_cells};
+ghost use Rattle.bpf_suite.specs.Outcomes.{Ends, GivesCell, GivesCells, HasMaps, HasWords, IsProgramOf, Reads, Refuses, limit_word, outcome_text};
 
 use crate::cells::{Cell, CellLine, cell_of};
 use crate::image::{Image, put_runs};

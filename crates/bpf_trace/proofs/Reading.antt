@@ -26,7 +26,7 @@ use Rattle.bpf_origin.specs.Places.{depth_for}
 use Rattle.bpf_origin.specs.Reads.{load_len, of_compared, of_first, of_helper, of_key, of_register, of_source, of_value, reads, reads_by}
 use Rattle.bpf_origin.specs.declared.place.Part.{Part}
 use Rattle.bpf_origin.specs.declared.place.Part.TheVariants as part
-use Rattle.bpf_trace.specs.Marks.{first_by, first_of_call, first_of_helper, first_of_value, first_with, is_quiet, next_touches, touches}
+use Rattle.bpf_trace.specs.Marks.{first_by, first_of_helper, first_of_value, first_with, is_quiet, next_touches, touches}
 use Rattle.bpf_trace.specs.Written.{first_among, first_in, first_of, is_stop, read_unwritten}
 
 -- the first of several

@@ -1,5 +1,5 @@
 -- Scaffolding: no public contract cites this. The bytes of the stack that were written, as marks; and what an instruction reads of them.
-use Rattle.std.specs.Prelude.{◌≡◌, ◌<◌, ◌+◌, ℕ, Bool, true, false, List, get_or, length, Option, None}
+use Rattle.std.specs.Prelude.{◌≡◌, ◌<◌, ◌+◌, ℕ, Bool, true, false, List, get_or, Option, None}
 use Rattle.std.specs.Option.{option_map_or, option_or}
 use Rattle.bpf_isa.specs.Helpers.{helper_of}
 use Rattle.bpf_isa.specs.Programs.{insn_at}

@@ -1,5 +1,5 @@
 //! How the line of a step begins: its number, and the instruction with its slot.
-ghost use Rattle.std.specs.Prelude.{◌≡◌, ◌≤◌, ◌++◌, codes, decimal, length};
+ghost use Rattle.std.specs.Prelude.{◌≤◌, ◌++◌, codes, decimal, length};
 ghost use Rattle.bpf_trace.specs.Lines.{Held};
 
 use crate::line::Line;

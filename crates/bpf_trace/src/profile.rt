@@ -1,5 +1,5 @@
 //! How often each instruction of a program runs.
-ghost use Rattle.std.specs.Prelude.{◌≡◌, All, IfOk, OnErr, OnOk, length, map};
+ghost use Rattle.std.specs.Prelude.{◌≡◌, All, IfOk, OnErr, OnOk, length};
 ghost use Rattle.bpf_session.specs.Plain.{plain_end};
 ghost use Rattle.bpf_trace.specs.Profiles.{count_line, count_lines, counts_text, profile_of};
 ghost use Rattle.counted_io.specs.Writing.{WritesAfter};

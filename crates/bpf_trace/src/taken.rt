@@ -1,5 +1,5 @@
 //! The line of a step that was taken.
-ghost use Rattle.std.specs.Prelude.{◌++◌, flat_map};
+ghost use Rattle.std.specs.Prelude.{flat_map};
 ghost use Rattle.bpf_isa.specs.Programs.{IsStart};
 ghost use Rattle.bpf_steps.specs.State.{State};
 ghost use Rattle.bpf_trace.specs.Taken.{Took, parts_by};

@@ -1,6 +1,5 @@
 //! The texts of a program's instructions, each made once.
 ghost use Rattle.std.specs.Prelude.{◌≡◌, ◌<◌, ◌++◌, IfOk, length, slice_index_or, []};
-ghost use Rattle.bpf_isa.specs.Programs.{IsStart};
 ghost use Rattle.bpf_trace.specs.Texts.{slot_text, texts_of};
 
 use bpf_isa::Program;

@@ -1,5 +1,5 @@
 //! The code of a turned object: the calls, and behind them the sections that are called.
-ghost use Rattle.std.specs.Prelude.{◌≡◌, ◌≤◌, ◌<◌, ◌++◌, IfErr, IfOk, IfSome, length};
+ghost use Rattle.std.specs.Prelude.{◌≡◌, ◌<◌, ◌++◌, IfErr, IfOk, IfSome, length};
 ghost use Rattle.bpf_join.specs.Gathered.{gathered};
 ghost use Rattle.bpf_link.specs.declared.fault.LinkFault.TheVariants.{Memory};
 ghost use Rattle.bpf_turns.specs.Objects.{call_index, into, taken_at, turned_code};

@@ -5,7 +5,7 @@ ghost use Rattle.bpf_btf.specs.Layout.{ext_header};
 ghost use Rattle.bpf_btf.specs.declared.fault.BtfFault.TheVariants.{Ext};
 ghost use Rattle.bpf_link.specs.FieldRelocations.{ext_bytes};
 ghost use Rattle.bpf_link.specs.declared.fault.LinkFault.TheVariants.{Memory, Types};
-ghost use Rattle.bpf_turns.specs.Ext.{HasMovedExt, IsListsFault, IsMovedExt, IsMovedPart, IsPartFault, IsUnmoved, ext_of, head_of, list_in, numbers, place_of, strings_in, strings_of};
+ghost use Rattle.bpf_turns.specs.Ext.{HasMovedExt, IsListsFault, IsMovedExt, IsMovedPart, IsPartFault, IsUnmoved, ext_of, head_of, list_in, numbers, place_of, strings_in};
 ghost use Rattle.bpf_turns.specs.Objects.{into};
 
 use crate::blocks::moved_list;

@@ -1,5 +1,5 @@
 //! Sections and strings by their names.
-ghost use Rattle.std.specs.Prelude.{◌≡◌, ◌≤◌, ◌<◌, IfSome, length};
+ghost use Rattle.std.specs.Prelude.{◌≡◌, ◌≤◌, ◌<◌, length};
 ghost use Rattle.bpf_btf.specs.Layout.{is_called};
 ghost use Rattle.bpf_link.specs.MapTypes.{found_named, is_something, types_bytes};
 ghost use Rattle.bpf_link.specs.Sections.{FoundBelow, is_named, section_place};

@@ -1,5 +1,5 @@
 -- The pass over a course, as far as it has come.
-use Rattle.std.proofs.Common.{◌≡◌, ◌<◌, ◌≤◌, ℕ, ◌+◌, Bool, List, [], ◌∷◌, ◌++◌, length, Option, Some, None, refl, sym, ap, subst, ◌∙◌, arith, append_assoc}
+use Rattle.std.proofs.Common.{◌≡◌, ◌<◌, ◌≤◌, ℕ, ◌+◌, List, [], ◌∷◌, ◌++◌, length, Option, refl, sym, ap, subst, ◌∙◌, arith, append_assoc}
 use Rattle.std.specs.Prelude.{Result, take}
 use Rattle.counted_io.specs.Counted.{Tally}
 use Rattle.counted_io.specs.Writing.{WritesAfter}
@@ -7,9 +7,9 @@ use Rattle.counted_io.proofs.Appending.{WritesAfter-WritesAfter}
 use Rattle.bpfdb_replies.proofs.Telling.{WritesAfter-nothing}
 use Rattle.counted_io.specs.declared.fault.WriteFault.{WriteFault}
 use Rattle.bpf_entries.specs.Keeping.{Kept}
-use Rattle.bpf_journal.specs.Histories.{IsRun, Record}
+use Rattle.bpf_journal.specs.Histories.{Record}
 use Rattle.bpf_journal.specs.Tracks.{CourseValue, Follows, Track}
-use Rattle.bpf_machine.specs.Moves.{Leads, moved}
+use Rattle.bpf_machine.specs.Moves.{Leads}
 use Rattle.bpf_machine.proofs.StepLaws.{law_rest}
 use Rattle.bpf_machine.specs.Edits.{edited}
 use Rattle.bpf_machine.specs.declared.edit.Edit.{Edit}
@@ -17,7 +17,7 @@ use Rattle.bpf_machine.specs.declared.edit.Edit.TheVariants as edit
 use Rattle.bpf_machine.specs.declared.moves.Move.{Move}
 use Rattle.bpf_machine.specs.declared.moves.Move.TheVariants as move
 use Rattle.bpf_origin.specs.Answers.{Answer, with_line}
-use Rattle.bpf_origin.specs.Pasts.{CourseStands, Stand, gone_from, stand, state_of}
+use Rattle.bpf_origin.specs.Pasts.{CourseStands, Stand, gone_from, stand}
 use Rattle.bpf_origin.specs.Texts.{lines_text}
 use Rattle.bpf_origin.specs.Wanted.{most_places, want_parts}
 use Rattle.bpf_origin.specs.declared.place.Part.{Part}
@@ -35,7 +35,6 @@ use Rattle.bpf_whynot.specs.Courses.{IsSameCourse, TellsBranches}
 use Rattle.bpf_whynot.specs.BranchTurns.{Begins, GoesOn, Knows, Takes, quest_of}
 use Rattle.bpf_whynot.specs.declared.branch_aim.Aim.{Aim}
 use Rattle.bpf_whynot.specs.declared.hunt.Hunt.{Hunt}
-use Rattle.bpf_whynot.specs.declared.hunt.Turn.{Turn}
 use Rattle.bpf_whynot.specs.declared.hunt.Turn.TheVariants.{On, Cut}
 
 with_more : (a b : List ℕ) (rest : Answer) → with_line a (with_line b rest) ≡ with_line (a ++ b) rest

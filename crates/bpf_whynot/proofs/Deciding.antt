@@ -1,14 +1,14 @@
 -- What is sure goes on, and so what decided about a younger slot decided about an older one.
-use Rattle.std.proofs.Common.{◌≡◌, ◌<◌, ◌⊎◌, inl, inr, ℕ, ◌+◌, Bool, true, false, length, Some, refl, sym, subst, ◌∙◌, arith}
+use Rattle.std.proofs.Common.{◌≡◌, ◌<◌, inl, inr, ℕ, ◌+◌, Bool, true, false, length, Some, refl, sym, subst, ◌∙◌, arith}
 use Rattle.std.specs.Prelude.{pos, ◌==◌, ◌&&◌, not}
 use Rattle.std.proofs.lemmas.Bool.Decides.{nat_tests}
-use Rattle.bpf_isa.specs.Programs.{Checked, insn_at, slots_of, target_of}
+use Rattle.bpf_isa.specs.Programs.{Checked, slots_of, target_of}
 use Rattle.bpf_isa.specs.declared.instruction.Insn.{Insn}
 use Rattle.bpf_isa.specs.declared.instruction.Insn.TheVariants.{JumpIf}
 use Rattle.bpf_whynot.specs.Sures.{IsSure, Way, is_end_but, is_target}
 use Rattle.bpf_whynot.specs.Sures.Way.{there as way_there, on as way_on, jumped as way_jumped}
 use Rattle.bpf_whynot.proofs.Flowing.{stands_within}
-use Rattle.bpf_whynot.specs.Branches.{DecidesBy, JustOne}
+use Rattle.bpf_whynot.specs.Branches.{JustOne}
 use Rattle.bpf_whynot.specs.BranchLaws.{IsWayOut, OlderIsDecided, SureGoesOn}
 
 one_slot : (a b : ℕ) → (a == b) ≡ true → a ≡ b

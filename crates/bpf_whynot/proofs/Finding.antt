@@ -1,15 +1,10 @@
 -- The branches as a text of their own: the course is made anew as it was.
-use Rattle.std.proofs.Common.{◌≡◌, ℕ, List, [], Option, refl, sym, ap, subst, ◌∙◌}
-use Rattle.bpf_journal.specs.Histories.{IsRun, Record, StandsFor}
-use Rattle.bpf_journal.specs.Tracks.{CourseValue, Follows, RingHolds, Track, track_of}
-use Rattle.bpf_origin.specs.Answers.{Answer}
+use Rattle.std.proofs.Common.{◌≡◌, ℕ, List, [], subst}
+use Rattle.bpf_journal.specs.Histories.{Record}
+use Rattle.bpf_journal.specs.Tracks.{CourseValue, RingHolds, track_of}
 use Rattle.bpf_origin.specs.Pasts.{CourseStands, gone_from, stand}
-use Rattle.bpf_origin.specs.declared.question.Question.{Question}
 use Rattle.bpf_ring.specs.declared.keeper.RingKeeper.{RingKeeper}
 use Rattle.bpf_steps.specs.State.{State}
-use Rattle.bpf_whynot.specs.Branches.{AreBranches}
-use Rattle.bpf_whynot.specs.Courses.{IsFound, TellsBranches}
-use Rattle.bpf_whynot.specs.declared.branch_text.Found.{Found}
 
 -- where nothing is left the course stands where it stood
 pub all_again : (left : ℕ) (h : List Record) (y : State) (new : CourseValue RingKeeper) → left ≡ 0

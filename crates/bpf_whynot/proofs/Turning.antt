@@ -1,12 +1,12 @@
 -- One move of the pass: what the answer is by it.
-use Rattle.std.proofs.Common.{◌≡◌, ◌≢◌, ◌<◌, ◌⊎◌, inl, inr, ℕ, ◌+◌, ◌-◌, Bool, true, false, List, [], ◌∷◌, Option, Some, None, refl, sym, ap, subst, ◌∙◌, arith}
-use Rattle.std.specs.Prelude.{Result, ◌↔◌, ◌==◌, not, if◌then◌else◌, ℤ, pos, take}
+use Rattle.std.proofs.Common.{◌≡◌, ◌≢◌, ◌<◌, inl, inr, ℕ, ◌+◌, ◌-◌, Bool, true, false, List, [], Option, Some, None, refl, sym, ap, subst, ◌∙◌, arith}
+use Rattle.std.specs.Prelude.{Result, ◌↔◌, ◌==◌, not, if◌then◌else◌, ℤ, take}
 use Rattle.std.proofs.lemmas.Bool.Decides.{nat_tests}
 use Rattle.counted_io.specs.Counted.{Tally}
 use Rattle.counted_io.specs.Writing.{WritesAfter}
 use Rattle.bpfdb_replies.proofs.Telling.{WritesAfter-nothing}
 use Rattle.counted_io.specs.declared.fault.WriteFault.{WriteFault}
-use Rattle.bpf_isa.specs.Programs.{Checked, insn_at, target_of}
+use Rattle.bpf_isa.specs.Programs.{Checked, insn_at}
 use Rattle.bpf_isa.specs.declared.instruction.Insn.{Insn}
 use Rattle.bpf_isa.specs.declared.instruction.Insn.TheVariants.{JumpIf}
 use Rattle.bpf_isa.specs.declared.instruction.Condition.{Condition}
@@ -16,13 +16,12 @@ use Rattle.bpf_journal.specs.Histories.{Record, is_step}
 use Rattle.bpf_machine.specs.declared.moves.Move.{Move}
 use Rattle.bpf_machine.specs.declared.moves.Move.TheVariants as move
 use Rattle.bpf_machine.specs.Moves.{overwritten}
-use Rattle.bpf_origin.specs.Answers.{Answer, wanted_before, with_line}
+use Rattle.bpf_origin.specs.Answers.{Answer, wanted_before}
 use Rattle.bpf_origin.specs.Reads.{followed}
 use Rattle.bpf_origin.specs.Wanted.{most_places, still_wanted}
 use Rattle.bpf_origin.specs.declared.place.Place.{Place}
 use Rattle.bpf_whynot.specs.declared.query.Query.{Query}
 use Rattle.bpf_origin.specs.Texts.{lines_text}
-use Rattle.bpf_origin.specs.declared.question.Extent.TheVariants.{Lines}
 use Rattle.bpf_steps.specs.State.{State, depth}
 use Rattle.bpf_whynot.specs.Answers.{lost_line}
 use Rattle.bpf_whynot.specs.Flows.{target_slot}
@@ -31,7 +30,7 @@ use Rattle.bpf_whynot.specs.declared.sure.Sure.{Sure}
 use Rattle.bpf_whynot.proofs.Flowing.{target_back, target_there}
 use Rattle.bpf_whynot.specs.Branches.{Branches, Decided, DecidedIt, DecidesBy, JustOne, Parts, Quest, aim_at, made}
 use Rattle.bpf_whynot.specs.Branches.Branches.{called as is_called, passed as is_passed, valued as is_valued, told as is_told, cut as is_cut}
-use Rattle.bpf_whynot.specs.BranchTurns.{Chases, GoesOn, Knows, Takes, quest_of}
+use Rattle.bpf_whynot.specs.BranchTurns.{Chases, Knows, Takes, quest_of}
 use Rattle.bpf_whynot.specs.declared.branch_aim.Aim.{Aim}
 use Rattle.bpf_whynot.specs.declared.hunt.Hunt.{Hunt}
 use Rattle.bpf_whynot.specs.declared.hunt.Turn.{Turn}

@@ -3,7 +3,7 @@ use Rattle.std.specs.Prelude.{◌≡◌, ◌≤◌, ℕ, List, Result, length}
 use Rattle.counted_io.specs.declared.fault.WriteFault.{WriteFault}
 use Rattle.bpf_entries.specs.Keeping.{Kept}
 use Rattle.bpf_journal.specs.Histories.{Record, StandsFor}
-use Rattle.bpf_journal.specs.Tracks.{CourseValue, Follows, RingHolds, Track}
+use Rattle.bpf_journal.specs.Tracks.{CourseValue, RingHolds, Track}
 use Rattle.bpf_origin.specs.Answers.{Answer}
 use Rattle.bpf_origin.specs.Pasts.{CourseStands, gone_from}
 use Rattle.bpf_origin.specs.declared.place.Part.{Part}

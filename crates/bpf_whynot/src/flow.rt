@@ -1,5 +1,5 @@
 //! How control flows within one function of a program.
-ghost use Rattle.std.specs.Prelude.{◌≡◌, ◌≤◌, ◌<◌, length};
+ghost use Rattle.std.specs.Prelude.{◌≡◌, ◌≤◌, ◌<◌};
 ghost use Rattle.bpf_isa.specs.Checker.{most_slots};
 ghost use Rattle.bpf_whynot.specs.Reach as reach;
 ghost use Rattle.bpf_whynot.specs.Flows as spec;

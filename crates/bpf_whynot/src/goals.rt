@@ -1,5 +1,5 @@
 //! The slots that are asked about, by their text.
-ghost use Rattle.std.specs.Prelude.{◌≡◌, ℕ, List, [], Some, Ok, Err, IfOk, IfErr, length};
+ghost use Rattle.std.specs.Prelude.{◌≡◌, ℕ, List, [], Some, Ok, Err, IfOk, IfErr};
 ghost use Rattle.bpf_whynot.specs.Asked as spec;
 ghost use Rattle.bpf_whynot.specs.Tables.{AreGoals};
 

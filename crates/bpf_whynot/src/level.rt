@@ -1,6 +1,5 @@
 //! From where a program can come to some slots, at one depth of calls.
-ghost use Rattle.std.specs.Prelude.{◌≡◌, ◌≤◌, ◌<◌, IfOk, length};
-ghost use Rattle.bpf_isa.specs.Checker.{most_slots};
+ghost use Rattle.std.specs.Prelude.{◌≡◌, ◌<◌, IfOk, length};
 ghost use Rattle.bpf_whynot.specs.Flows as flows;
 ghost use Rattle.bpf_whynot.specs.Levels as spec;
 ghost use Rattle.bpf_whynot.specs.Tables.{no_table};

@@ -1,5 +1,5 @@
 //! From where a program can come to some slots.
-ghost use Rattle.std.specs.Prelude.{◌≡◌, ◌≤◌, ◌<◌, ℕ, List, IfOk, length, reverse, map};
+ghost use Rattle.std.specs.Prelude.{◌≡◌, ◌≤◌, ◌<◌, ℕ, List, IfOk, length, map};
 ghost use Rattle.bpf_steps.specs.State.{depth};
 ghost use Rattle.bpf_whynot.specs.Levels as levels;
 ghost use Rattle.bpf_whynot.specs.Reach as spec;

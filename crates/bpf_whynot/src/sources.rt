@@ -1,5 +1,5 @@
 //! The jumps that lead to each slot.
-ghost use Rattle.std.specs.Prelude.{◌≡◌, ◌≤◌, ◌<◌, ◌+◌, IfOk, length};
+ghost use Rattle.std.specs.Prelude.{◌≡◌, ◌<◌, ◌+◌, IfOk, length};
 ghost use Rattle.bpf_isa.specs.Programs.{Checked};
 ghost use Rattle.bpf_whynot.specs.Flows as spec;
 

@@ -12,7 +12,6 @@ ghost use Rattle.bpf_whynot.specs.BranchTurns.{Chases, Knows, Takes, quest_of};
 ghost use Rattle.bpf_machine.specs.Moves.{overwritten};
 ghost use Rattle.bpf_origin.specs.Wanted.{still_wanted};
 ghost use Rattle.bpf_origin.specs.declared.place.Place.{Place};
-ghost use Rattle.counted_io.specs.Writing.{WritesAfter};
 
 use crate::branch_aim::Aim;
 use crate::hunt::{Hunt, Turn};

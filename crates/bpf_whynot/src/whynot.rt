@@ -1,5 +1,5 @@
 //! Why a program did not come to some slots: one pass over its history, each move taken back once.
-ghost use Rattle.std.specs.Prelude.{◌≡◌, ◌<◌, ◌≤◌, ◌+◌, ℕ, List, if◌then◌else◌};
+ghost use Rattle.std.specs.Prelude.{◌≡◌, ◌<◌, ◌+◌, ℕ, List};
 ghost use Rattle.bpf_isa.specs.Programs.{Checked};
 ghost use Rattle.bpf_journal.specs.Histories.{Record, is_step as is_step_of};
 ghost use Rattle.bpf_journal.specs.Tracks.{Track};

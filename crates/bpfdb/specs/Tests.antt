@@ -1,5 +1,5 @@
 -- The file of tests of a plan, whose sections may name files.
-use Rattle.std.specs.Prelude.{ℕ, ◌≡◌, ◌+◌, ◌⊎◌, Bool, true, false, List, [], ◌++◌, codes, decimal, min, Option, Some}
+use Rattle.std.specs.Prelude.{ℕ, ◌≡◌, ◌+◌, Bool, true, false, List, ◌++◌, codes, decimal, min, Option, Some}
 use Rattle.bpf_join.specs.declared.fault.JoinFault.{JoinFault}
 use Rattle.bpf_join.specs.declared.fault.JoinFault.TheVariants.{First, Second}
 use Rattle.bpf_suite.specs.Refusals.{text_of_refusal}

@@ -1,5 +1,5 @@
 //! The object of a plan in which maps have as many entries as they are told.
-ghost use Rattle.std.specs.Prelude.{◌≡◌, ◌<◌, [], IfErr, IfOk, List, get_or, length, ℕ};
+ghost use Rattle.std.specs.Prelude.{◌≡◌, ◌<◌, [], IfErr, IfOk, List, get_or, ℕ};
 ghost use Rattle.bpf_counts.specs.Counted.{IsCountFault};
 ghost use Rattle.bpf_link.specs.Names.{fault_names};
 ghost use Rattle.bpfdb.specs.Counts.{HasCounts, counts_of, told_name};

@@ -1,5 +1,5 @@
 //! The file of tests of a plan, whose sections may name files.
-ghost use Rattle.std.specs.Prelude.{◌≡◌, ◌++◌};
+ghost use Rattle.std.specs.Prelude.{◌≡◌};
 ghost use Rattle.bpfdb.specs.Tests.{IsPlaceOf, files_line, is_test, join_text, object_end};
 ghost use Rattle.bpfdb_faults.specs.Streams.{Told, stream};
 ghost use Rattle.counted_io.specs.Writing.{Writes, WritesAfter};

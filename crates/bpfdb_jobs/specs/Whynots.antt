@@ -1,5 +1,5 @@
 -- Scaffolding: why a job of `whynot` has nothing to ask about. No public contract cites this.
-use Rattle.std.specs.Prelude.{◌≡◌, ℕ, List, Err, false, true}
+use Rattle.std.specs.Prelude.{◌≡◌, Err, false, true}
 use Rattle.bpf_isa.specs.Programs.{Checked}
 use Rattle.bpf_ring.specs.declared.fault.JournalFault.TheVariants.{OutOfMemory}
 use Rattle.bpf_text.specs.Listing.{IsFaultOf}

@@ -1,5 +1,5 @@
 //! What a job of `test` does that tells what ran.
-ghost use Rattle.std.specs.Prelude.{◌≡◌, ◌≤◌, IfOk};
+ghost use Rattle.std.specs.Prelude.{◌≤◌, IfOk};
 ghost use Rattle.bpfdb_faults.specs.Streams.{stream};
 ghost use Rattle.bpfdb_jobs.specs.Suites.{CoversTests, EndsCovered, EndsTold, EndsTraced};
 

@@ -1,6 +1,5 @@
 //! What a job of `test` does that shows a part of a test.
 ghost use Rattle.std.specs.Prelude.{◌≡◌, ◌≢◌, ◌≤◌, ◌∷◌, [], IfErr, IfNone, IfOk, IfSome, length};
-ghost use Rattle.bpf_suite.specs.Shown.{IsWordsFault};
 ghost use Rattle.bpfdb_jobs.specs.Shown.{EndsShown, HidesPart, Shows};
 ghost use Rattle.bpfdb_jobs.specs.Suites.{AreTestsOf};
 ghost use Rattle.bpfdb_options.specs.declared.test_part.TestPart.TheVariants.{Program};

@@ -1,5 +1,5 @@
 //! What a job of `trace` does.
-ghost use Rattle.std.specs.Prelude.{◌≡◌, ◌≤◌, IfErr, OnErr, OnOk};
+ghost use Rattle.std.specs.Prelude.{◌≡◌, ◌≤◌, IfErr, OnOk};
 ghost use Rattle.bpf_session.specs.Plain.{plain_end};
 ghost use Rattle.bpf_trace.specs.UnwrittenTexts.{trace_until};
 ghost use Rattle.bpf_trace.specs.Profiles.{profile_text};

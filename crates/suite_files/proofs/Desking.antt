@@ -1,11 +1,10 @@
 -- What was read and linked, as further pieces are put.
-use Rattle.std.proofs.Common.{◌≡◌, ◌∙◌, ◌≤◌, ◌+◌, [], ℕ, List, add-one, ap, arith, length, refl, subst, sym}
-use Rattle.std.proofs.lemmas.List.{length-map}
+use Rattle.std.proofs.Common.{◌≡◌, ◌∙◌, ◌+◌, ℕ, List, add-one, ap, subst, sym}
 use Rattle.std.specs.Prelude.{OnOk, Option, Result, Ok, Err, get_or}
 use Rattle.std.specs.List.{All}
 use Rattle.suite_files.proofs.Naming.{piece-known, piece-others}
 use Rattle.suite_files.specs.Desks.{HasPaths, IsDesk, IsDone}
-use Rattle.suite_files.specs.Replaced.{IsPut, NameFew, no_piece, paths_first, with_piece}
+use Rattle.suite_files.specs.Replaced.{IsPut, no_piece, paths_first, with_piece}
 use Rattle.suite_files.specs.Shelves.{IsShelf, paths_on}
 use Rattle.suite_files.specs.declared.file.Desk.{Desk}
 use Rattle.suite_files.specs.declared.file.Done.{Done}
@@ -58,8 +57,3 @@ pub paths-more : (bytes_at : List ℕ → Option (List ℕ)) (place : Place) (al
 paths-more bytes_at place all k one paths desk is same has =
     rw add-one (subst (λ (ps : List (List ℕ)). HasPaths bytes_at place (with_piece place ps (get_or all k no_piece).text) desk) same
     (subst (λ (p : Piece). HasPaths bytes_at place (with_piece place paths p.text) desk) is has))
-
--- so many files at most
-pub few-named : (bytes_at : List ℕ → Option (List ℕ)) (place : Place) (all : List Piece) (desk : Desk)
-    → HasPaths bytes_at place (paths_first place all (length all)) desk → NameFew place all
-few-named bytes_at place all desk has = rw (← has.are, length-map) has.is_desk.read.few

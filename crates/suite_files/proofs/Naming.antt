@@ -1,5 +1,5 @@
 -- The paths of files that were read, as further ones are named.
-use Rattle.std.proofs.Common.{◌≡◌, ◌∙◌, ◌<◌, ◌≤◌, ◌++◌, ⊎_elim, [], ◌∷◌, ℕ, suc, zero, Bool, true, false, cond, List, ap, arith, get_or, length, refl, subst}
+use Rattle.std.proofs.Common.{◌≡◌, ◌∙◌, ◌<◌, ◌++◌, ⊎_elim, [], ◌∷◌, ℕ, suc, zero, Bool, true, false, cond, List, ap, arith, get_or, length, refl, subst}
 use Rattle.std.proofs.lemmas.Bool.{cases_lt}
 use Rattle.std.proofs.lemmas.List.Folds.{list_any-append}
 use Rattle.std.proofs.lemmas.Slice.Eq.{bytes_eq-Decides}

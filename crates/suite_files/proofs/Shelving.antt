@@ -7,11 +7,8 @@ use Rattle.std.specs.Str.{bytes_eq}
 use Rattle.bpfdb_files.specs.Reading.{Gives}
 use Rattle.bpfdb_files.specs.declared.kinds.FileKind.TheVariants.{Source}
 use Rattle.suite_files.proofs.Naming.{bytes_eq-same, or-true, with-among, with-new}
-use Rattle.suite_files.specs.Shelves.{AreRead, IsFile, IsNameFault, IsRead, IsReadFault, IsShelf, IsShelved, Lacks, is_allowed, is_among, most_files, path_of, paths_on, with_path}
-use Rattle.suite_files.specs.declared.fault.NamedFault.TheVariants.{Malformed, NoPacket, Outside, TooMuch, Unread}
+use Rattle.suite_files.specs.Shelves.{AreRead, IsFile, IsRead, IsShelf, IsShelved, Lacks, is_allowed, is_among, most_files, path_of, paths_on, with_path}
 use Rattle.suite_files.specs.declared.place.Place.{Place}
-use Rattle.suite_files.specs.declared.shelf.NameFault.{NameFault}
-use Rattle.suite_files.specs.declared.shelf.NameFault.TheVariants.{Memory, Named}
 use Rattle.suite_files.specs.declared.shelf.Shelved.{Shelved}
 use Rattle.input_texts.specs.Captures.{AreStarts}
 
@@ -72,13 +69,3 @@ shelf-and-one bytes_at shelf all one path lacks few is same behind =
       };
       are = map-append (λ (file : Shelved). file.path.items) shelf (one ∷ []) ∙ ap (λ (p : List ℕ). paths_on shelf ++ p ∷ []) same;
     })
-
--- why a file isn't there that may be read
-pub read-fault : (place : Place) (paths : List (List ℕ)) (name : List ℕ) (fault : NameFault) → is_allowed place name ≡ true
-    → IsReadFault paths (path_of place name) fault → IsNameFault place paths name fault
-read-fault place paths name (Named Malformed) allowed why = absurd why
-read-fault place paths name (Named Outside) allowed why = absurd why
-read-fault place paths name (Named Unread) allowed why = (why, allowed)
-read-fault place paths name (Named NoPacket) allowed why = absurd why
-read-fault place paths name (Named TooMuch) allowed why = (why, allowed)
-read-fault place paths name Memory allowed why = tt

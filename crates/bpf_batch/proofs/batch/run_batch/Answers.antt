@@ -1,4 +1,4 @@
-use Rattle.std.proofs.Common.{Ok, Option, sym, ◌∙◌}
+use Rattle.std.proofs.Common.{Option, sym, ◌∙◌}
 use Rattle.bpf_steps.specs.State.{State}
 use Rattle.bpf_batch.proofs.Answering.{Answering-last, Answering-missing, Answering-start, Answering-step, Answering-unanswered, Answering-unread, fails-unanswered, fails-unread}
 use Rattle.bpf_batch.proofs.batch.run_batch.Goals as goal

@@ -1,5 +1,5 @@
 use Rattle.std.proofs.Common.{◌≡◌, ◌<◌, ◌⊎◌, ◌∙◌, ℕ, List, [], length, map, subst, sym, add-one}
-use Rattle.std.proofs.lemmas.List.{get_or-map, length-map}
+use Rattle.std.proofs.lemmas.List.{get_or-map}
 use Rattle.std.specs.Borrow.{Bor}
 use Rattle.std.specs.Prelude.{get_or}
 use Rattle.bpf_link.specs.declared.fault.LinkFault.TheVariants.{Memory}

@@ -1,4 +1,4 @@
-use Rattle.std.proofs.Common.{◌≡◌, ◌⊎◌, inl, inr, ◌∙◌, sym}
+use Rattle.std.proofs.Common.{◌⊎◌, inl, inr, ◌∙◌, sym}
 use Rattle.bpf_counts.proofs.told.counted_of.Goals as goal
 
 -- of two the second

@@ -1,4 +1,4 @@
-use Rattle.std.proofs.Common.{◌≡◌, ◌<◌, ◌+◌, ◌∙◌, ℕ, suc, Bool, true, false, List, Option, Some, length, add-one, ap, arith, sym, subst}
+use Rattle.std.proofs.Common.{◌≡◌, ◌<◌, ◌+◌, ◌∙◌, ℕ, suc, Bool, false, List, Option, Some, length, add-one, ap, arith, sym, subst}
 use Rattle.std.specs.Prelude.{if◌then◌else◌}
 use Rattle.bpf_btf.specs.Types.{behind, place}
 use Rattle.bpf_counts.specs.Walks.{is_maps, maps_place}

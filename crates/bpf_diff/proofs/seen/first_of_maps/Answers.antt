@@ -1,6 +1,6 @@
-use Rattle.std.proofs.Common.{◌≡◌, ◌∙◌, ap, arith, refl, sym}
+use Rattle.std.proofs.Common.{◌∙◌, ap, arith, refl, sym}
 use Rattle.bpf_isa.specs.Programs.{Checked}
-use Rattle.bpf_diff.proofs.Leaving.{maps-first, maps-more, maps-none, maps-past, maps-whole, test_of}
+use Rattle.bpf_diff.proofs.Leaving.{maps-first, maps-none, maps-past, maps-whole, test_of}
 use Rattle.bpf_diff.proofs.seen.first_of_maps.Goals as goal
 
 pub loop-i-init : goal.loop-i-init

@@ -1,4 +1,4 @@
-use Rattle.std.proofs.Common.{◌≡◌, ◌∙◌, ℕ, List, Some, ap₂, arith, false, length, sym, true}
+use Rattle.std.proofs.Common.{◌≡◌, ◌∙◌, ℕ, List, ap₂, arith, false, length, sym, true}
 use Rattle.std.specs.Prelude.{max}
 use Rattle.bpf_origin.specs.declared.place.Place.TheVariants.{Word}
 use Rattle.bpf_diff.proofs.Leaving.{is-here, isnt-here, test_of, words-more, words-none, words-start, words-whole}

@@ -1,4 +1,4 @@
-use Rattle.std.proofs.Common.{◌≡◌, ◌≤◌, ◌∙◌, ap, arith, false, sym, true}
+use Rattle.std.proofs.Common.{◌≡◌, ◌∙◌, ap, arith, false, sym, true}
 use Rattle.bpf_entries.specs.Status.{has_ended}
 use Rattle.bpf_diff.proofs.Leaving.{Sought-all, Sought-ended, Sought-start, Sought-wrote}
 use Rattle.bpf_diff.proofs.writer.last_write.Goals as goal

@@ -1,4 +1,4 @@
-use Rattle.std.proofs.Common.{◌≡◌, ◌-◌, ap, ap₂, arith, refl, sym, ◌∙◌}
+use Rattle.std.proofs.Common.{◌-◌, ap, arith, ◌∙◌}
 use Rattle.counted_io.proofs.Appending.{WritesAfter-WritesAfter, WritesAfter-text}
 use Rattle.bpf_diff.specs.Differences.{side}
 use Rattle.bpf_diff.proofs.Leaving.{line-none, line-of, steps-behind, taken-up}

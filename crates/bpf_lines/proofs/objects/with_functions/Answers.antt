@@ -1,4 +1,4 @@
-use Rattle.std.proofs.Common.{◌≡◌, ◌<◌, ◌≤◌, ◌+◌, ap, arith, length, refl, sym, ◌∙◌}
+use Rattle.std.proofs.Common.{◌<◌, ◌≤◌, ◌+◌, ap, arith, length, refl, sym, ◌∙◌}
 use Rattle.bpf_join.specs.Chains.{others}
 use Rattle.bpf_lines.proofs.Chains.{behind_all, behind_more, behind_none, count_is, other_is, refused_at, told_more}
 use Rattle.bpf_lines.proofs.objects.with_functions.Goals as goal

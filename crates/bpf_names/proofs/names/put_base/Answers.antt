@@ -1,4 +1,4 @@
-use Rattle.std.proofs.Common.{ℕ, ◌≡◌, ◌<◌, ◌++◌, List, [], ◌∷◌, append_assoc, ap, codes, length, refl, sym, ◌∙◌, arith}
+use Rattle.std.proofs.Common.{ℕ, ◌≡◌, ◌<◌, ◌++◌, List, [], ◌∷◌, ap, length, refl, sym, arith}
 use Rattle.counted_io.proofs.Appending.{Writes-text}
 use Rattle.bpfdb_replies.specs.Shown.{shown}
 use Rattle.bpf_names.specs.Maps.{base_text}

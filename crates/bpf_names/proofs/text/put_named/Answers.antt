@@ -1,8 +1,7 @@
-use Rattle.std.proofs.Common.{◌≡◌, ◌<◌, ◌++◌, ap, arith, flat_map, length, refl}
+use Rattle.std.proofs.Common.{◌<◌, arith, length, refl}
 use Rattle.std.proofs.lemmas.Grind.{common_steps}
-use Rattle.bpfdb_replies.proofs.Telling.{Telling-start, Telling-step, Telling-end}
+use Rattle.bpfdb_replies.proofs.Telling.{Telling-start, Telling-step}
 use Rattle.counted_io.proofs.Cutting.{lines-cut}
-use Rattle.bpf_names.specs.Texts.{named_line}
 use Rattle.bpf_names.proofs.text.put_named.Goals as goal
 
 pub loop-rest-init : goal.loop-rest-init

@@ -1,4 +1,4 @@
-use Rattle.std.proofs.Common.{◌∙◌, ap, arith, sym}
+use Rattle.std.proofs.Common.{◌∙◌, ap, sym}
 use Rattle.bpf_trace.specs.Texts.{texts_of}
 use Rattle.bpf_trace.proofs.Lines.{shown_are}
 use Rattle.bpf_trace.proofs.Stepping.{Steps-program}

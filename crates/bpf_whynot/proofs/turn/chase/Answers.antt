@@ -1,4 +1,3 @@
-use Rattle.std.proofs.Common.{◌∙◌}
 use Rattle.bpf_whynot.proofs.Turning.{chase_new, chase_same}
 use Rattle.bpf_whynot.proofs.turn.chase.Goals as goal
 

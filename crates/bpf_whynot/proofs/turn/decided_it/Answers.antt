@@ -1,4 +1,4 @@
-use Rattle.std.proofs.Common.{◌≡◌, ◌∙◌, ap, sym}
+use Rattle.std.proofs.Common.{◌∙◌, ap, sym}
 use Rattle.bpf_steps.specs.State.{State, depth}
 use Rattle.bpf_whynot.specs.declared.standing.Standing.{Standing}
 use Rattle.bpf_whynot.proofs.Turning.{edit_here, not_here, slots_differ, step_here}

@@ -1,4 +1,4 @@
-use Rattle.std.proofs.Common.{◌-◌, ◌∙◌, ap, sym, arith, refl}
+use Rattle.std.proofs.Common.{◌-◌, ◌∙◌, ap, arith}
 use Rattle.std.proofs.lemmas.Result.{IfOk-weaker}
 use Rattle.bpf_steps.specs.State.{depth}
 use Rattle.bpf_whynot.proofs.Turning.{turn_calls, turn_cuts, turn_passes, turn_tells}

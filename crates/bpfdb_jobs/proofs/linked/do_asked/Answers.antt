@@ -1,4 +1,4 @@
-use Rattle.std.proofs.Common.{◌≡◌, ◌∙◌, Bool, None, Some, inr, refl, subst, sym}
+use Rattle.std.proofs.Common.{◌∙◌, Bool, None, Some, inr, refl, subst, sym}
 use Rattle.bpfdb_jobs.specs.Done.{Over, Unlinked}
 use Rattle.bpfdb_jobs.specs.Objects.{HasPlaces}
 use Rattle.bpfdb_jobs.proofs.linked.do_asked.Goals as goal

@@ -1,10 +1,9 @@
 use Rattle.std.proofs.Common.{◌≡◌, ◌<◌, ◌+◌, ◌++◌, ◌∙◌, ℕ, List, add-one, length, subst, sym}
 use Rattle.std.proofs.lemmas.List.{get_or_default}
 use Rattle.std.specs.Prelude.{Option, get_or}
-use Rattle.suite_files.proofs.Desking.{few-named, paths-more}
-use Rattle.suite_files.specs.Desks.{HasPaths}
+use Rattle.suite_files.proofs.Desking.{paths-more}
 use Rattle.suite_files.specs.Refused.{IsPieceFault}
-use Rattle.suite_files.specs.Replaced.{IsPut, ReplacesFirst, no_piece, paths_first}
+use Rattle.suite_files.specs.Replaced.{IsPut, ReplacesFirst, no_piece}
 use Rattle.suite_files.specs.Shelves.{paths_on}
 use Rattle.suite_files.specs.declared.place.Place.{Place}
 use Rattle.input_texts.specs.declared.piece.Piece.{Piece}

@@ -1,6 +1,5 @@
-use Rattle.std.proofs.Common.{◌∙◌, ap, sym}
-use Rattle.suite_files.proofs.Shelving.{read-fault, shelf-known, shelved-at}
-use Rattle.suite_files.specs.Shelves.{IsReadFault, IsShelf, paths_on, with_path}
+use Rattle.std.proofs.Common.{◌∙◌, sym}
+use Rattle.suite_files.proofs.Shelving.{shelf-known, shelved-at}
 use Rattle.suite_files.proofs.shelf.shelve.Goals as goal
 
 pub returns-in-Some-clause-at : goal.returns-in-Some-clause-at
