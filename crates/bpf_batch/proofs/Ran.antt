@@ -7,7 +7,7 @@ use Rattle.bpf_session.specs.declared.fault.RunFault.{RunFault}
 use Rattle.bpf_session.specs.declared.plain.Ending.TheVariants.{Exited, Faulted, Limit}
 use Rattle.bpf_steps.specs.State.{State}
 use Rattle.bpf_trace.specs.Traces.{limit_line}
-use Rattle.bpfdb_replies.specs.Texts.{place}
+use Rattle.bpfdb_script.specs.Texts.{place}
 use Rattle.counted_io.specs.Counted.{Tally}
 use Rattle.counted_io.specs.Writing.{Writes}
 use Rattle.counted_io.proofs.Appending.{Writes-text}

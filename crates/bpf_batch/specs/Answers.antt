@@ -14,7 +14,7 @@ use Rattle.bpf_session.specs.Plain.{plain_end}
 use Rattle.bpf_suite.specs.Refusals.{refusal_text, text_of_refusal}
 use Rattle.bpf_suite.specs.declared.refusal.Refusal.TheVariants as program
 use Rattle.bpf_trace.specs.Traces.{limit_line}
-use Rattle.bpfdb_replies.specs.Texts.{place}
+use Rattle.bpfdb_script.specs.Texts.{place}
 use Rattle.input_texts.specs.Cases.{CaseValue, case_fault, read_case}
 use Rattle.input_texts.specs.declared.case_fault.CaseFault.{CaseFault}
 use Rattle.counted_io.specs.Writing.{hexadecimal}

@@ -1,7 +1,7 @@
 //! The answer to a line.
 ghost use Rattle.std.specs.Prelude.{◌≡◌, ◌++◌, [], codes};
 ghost use Rattle.bpf_session.specs.Plain.{plain_end};
-ghost use Rattle.bpfdb_replies.specs.Texts.{place};
+ghost use Rattle.bpfdb_script.specs.Texts.{place};
 ghost use Rattle.bpf_batch.specs.Answers.{run_text, text_of_fault};
 ghost use Rattle.counted_io.specs.Writing.{Writes, WritesAfter};
 
@@ -10,7 +10,7 @@ use bpf_machine::Cpu;
 use bpf_session::{Ending, run_plain};
 use bpf_suite::put_numbered;
 use bpf_trace::put_limit;
-use bpfdb_replies::put_place;
+use bpfdb_script::put_place;
 use counted_io::{Counted, WriteFault, put};
 use std::io::Write;
 

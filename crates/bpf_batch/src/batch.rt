@@ -8,8 +8,8 @@ use crate::begin::begin;
 use crate::fault::BatchFault;
 use bpf_isa::MapTable;
 use bpf_machine::Cpu;
-use input_texts::{LineBuffer, ReadFault, next_line};
 use counted_io::{Counted, WriteFault};
+use input_texts::{LineBuffer, ReadFault, next_line};
 use std::alloc::Global;
 use std::io::{Read, Write};
 

@@ -3,7 +3,7 @@
 use Rattle.std.specs.Prelude.{ℕ, ◌+◌, ◌==◌, ◌&&◌, ◌||◌, ◌≡◌, not, Bool, true, false, List, [], ◌∷◌, ◌++◌, codes, count_by, flat_map, length, slice_get, unwrap_or}
 use Rattle.std.specs.List.{list_any}
 use Rattle.std.specs.Str.{bytes_eq}
-use Rattle.bpfdb_replies.specs.Shown.{shown}
+use Rattle.bpfdb_script.specs.Shown.{shown}
 use Rattle.bpf_cover.specs.Coverage.{has_run}
 use Rattle.bpf_cover.specs.Places.{AreInOrder, spots_of}
 use Rattle.bpf_cover.specs.Tracefiles.{branches_text, line_text, totals_text}

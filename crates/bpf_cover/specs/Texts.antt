@@ -3,7 +3,7 @@ use Rattle.std.specs.Prelude.{◌≤◌, ℕ, List, [], length, map, slice_range
 use Rattle.std.specs.List.{range_with_len}
 use Rattle.std.specs.Option.{option_map_or}
 use Rattle.bpf_isa.specs.Programs.{Checked, insn_at}
-use Rattle.bpfdb_replies.specs.Texts.{text_at}
+use Rattle.bpfdb_script.specs.Texts.{text_at}
 use Rattle.bpf_cover.specs.declared.texts.Span.{Span}
 
 -- The text of the instruction that starts at a slot, with the slot; nothing where none does.

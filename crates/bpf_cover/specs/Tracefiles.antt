@@ -4,7 +4,7 @@ use Rattle.std.specs.Prelude.{ℕ, ◌+◌, ◌*◌, ◌&&◌, Bool, true, false
 use Rattle.std.specs.Option.{option_and_then}
 use Rattle.counted_io.specs.Cuts.{after, before}
 use Rattle.counted_io.specs.Numerals.{as_u64, natural}
-use Rattle.bpfdb_replies.specs.Shown.{shown}
+use Rattle.bpfdb_script.specs.Shown.{shown}
 use Rattle.bpf_cover.specs.Coverage.{has_run}
 use Rattle.bpf_cover.specs.declared.coverage.Mark.{Mark}
 

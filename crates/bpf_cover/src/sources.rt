@@ -7,8 +7,8 @@ ghost use Rattle.bpf_cover.specs.Sources.{AreRecords, alike, file_text, forks_of
 use crate::coverage::{Mark, has_run};
 use crate::places::{Spot, in_order, spots_of};
 use crate::tracefile::{put_branches, put_line, put_totals};
+use bpfdb_script::put_shown;
 use counted_io::{Counted, WriteFault, put};
-use bpfdb_replies::put_shown;
 use std::alloc::{AllocError, Global};
 use std::io::Write;
 

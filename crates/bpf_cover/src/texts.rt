@@ -3,7 +3,7 @@ ghost use Rattle.std.specs.Prelude.{◌≡◌, ◌<◌, ◌++◌, IfOk, length, 
 ghost use Rattle.bpf_cover.specs.Texts.{slot_text, texts_of};
 
 use bpf_isa::Program;
-use bpfdb_replies::put_at;
+use bpfdb_script::put_at;
 use counted_io::Counted;
 use std::alloc::{AllocError, Global};
 use std::marker::Model;

@@ -5,8 +5,8 @@ ghost use Rattle.counted_io.specs.Writing.{WritesAfter};
 ghost use Rattle.bpf_cover.specs.Tracefiles.{branches_text, line_in, line_text, mark_in, number_of, once, place_text, record_text, row_text, rows_text, taken, totals_of, totals_text, ways_taken, ways_text};
 
 use crate::coverage::{Mark, count_forks, count_run, count_starts, has_run};
+use bpfdb_script::put_shown;
 use counted_io::{Counted, Piece, WriteFault, natural, put, put_all, sides};
-use bpfdb_replies::put_shown;
 use std::io::Write;
 
 /// Writes the record of a program that stands in a file, behind so many lines of it, by the table of

@@ -9,7 +9,7 @@ use Rattle.bpf_steps.specs.State.{State, register}
 use Rattle.bpf_session.specs.Plain.{plain_end}
 use Rattle.bpf_trace.specs.Runs.{steps_of}
 use Rattle.bpf_trace.specs.Traces.{end_line, step_line}
-use Rattle.bpfdb_replies.specs.Shown.{shown}
+use Rattle.bpfdb_script.specs.Shown.{shown}
 use Rattle.input_texts.specs.TraceForms.{is_told, number, words_of}
 use Rattle.bpf_diff.specs.Writers.{behind}
 use Rattle.input_texts.specs.declared.trace_form.Form.{Form}

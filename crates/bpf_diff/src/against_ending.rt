@@ -15,7 +15,7 @@ use crate::along::entry_in;
 use crate::told_writers::{Notes, Writer, put_writer};
 use bpf_machine::Cpu;
 use bpf_trace::{Taken, put_end, put_taken};
-use bpfdb_replies::{number_in, put_shown};
+use bpfdb_script::{number_in, put_shown};
 use counted_io::{Counted, WriteFault, put, put_decimal, put_hexadecimal};
 use input_texts::{Words, is_told, number_of};
 use std::io::Write;

@@ -14,7 +14,7 @@ ghost use Rattle.input_texts.specs.declared.trace_form.Form.TheVariants.{Registe
 use crate::told_writers::Notes;
 use bpf_machine::Cpu;
 use bpf_trace::{Taken, put_taken};
-use bpfdb_replies::number_in;
+use bpfdb_script::number_in;
 use counted_io::{Counted, WriteFault};
 use input_texts::{Told, Words, is_told};
 use std::alloc::{AllocError, Global};

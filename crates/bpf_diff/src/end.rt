@@ -3,7 +3,7 @@ ghost use Rattle.std.specs.Prelude.{◌≡◌};
 ghost use Rattle.bpf_diff.specs.Ends.{same_end as same_end_of, same_fault as same_fault_of, same_status as same_status_of};
 
 use bpf_machine::{Cpu, Fault, Status};
-use bpfdb_replies::number_in;
+use bpfdb_script::number_in;
 
 /// Whether two machines stand at one slot, for one reason, with the same r0.
 pub fn same_end(first: &Cpu, second: &Cpu) -> bool

@@ -11,7 +11,7 @@ use bpf_isa::{MapShape, MapTable};
 use bpf_machine::{Cpu, Status};
 use bpf_origin::Place;
 use bpf_steps::platform::{CONTEXT_BASE, MAP_BASE, MAP_STRIDE};
-use bpfdb_replies::number_in;
+use bpfdb_script::number_in;
 
 /// Two machines that ran, and the contexts on which each began.
 #[derive(Clone, Copy)]

@@ -11,7 +11,7 @@ ghost use Rattle.counted_io.specs.Writing.{WritesAfter};
 use bpf_isa::Program;
 use bpf_machine::{Change, Cpu};
 use bpf_trace::Taken;
-use bpfdb_replies::put_at;
+use bpfdb_script::put_at;
 use counted_io::{Counted, WriteFault, put, put_decimal};
 use std::io::Write;
 

@@ -10,7 +10,7 @@ ghost use Rattle.bpf_diff.specs.Following.{part_of, parts_of};
 
 use bpf_entries::{FRAME_LEN, frame_base};
 use bpf_machine::{Change, Cpu};
-use bpfdb_replies::number_in;
+use bpfdb_script::number_in;
 
 /// A part that a step wrote.
 #[derive(Clone, Copy)]

@@ -5,3 +5,4 @@ pub mod Texts
 pub mod Fronts
 pub mod Pushing
 pub mod Placing
+pub mod Words

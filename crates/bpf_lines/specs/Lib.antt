@@ -11,3 +11,7 @@ pub mod TableRows
 pub mod PlaceSlots
 pub mod PlaceTexts
 pub mod Lookups
+pub mod Spots
+pub mod Globals
+pub mod NamedMaps
+pub mod NamedTexts

@@ -4,7 +4,7 @@ use Rattle.bpf_link.specs.Names.{built, short_at}
 use Rattle.bpf_link.specs.Plans.{symbol_place}
 use Rattle.bpf_link.specs.Tables.{symbol_at}
 use Rattle.bpf_link.specs.declared.plan.Plan.{Plan}
-use Rattle.bpfdb_replies.specs.Shown.{shown}
+use Rattle.bpfdb_script.specs.Shown.{shown}
 use Rattle.bpf_lines.specs.Functions.{function_at}
 use Rattle.bpf_lines.specs.LineInfo.{line_at, line_entry, record_place}
 use Rattle.bpf_link.specs.declared.parts.Part.{Part}

@@ -1,29 +1,38 @@
-//! The functions and lines of a linked program's slots, from the symbols and the BTF of its objects,
-//! and the slots of such places.
+//! What an object tells of a linked program: the functions and lines of its slots, the slots of such
+//! places, and the names of what lies in its maps, from its symbols and BTF.
 #![tactic(auto)]
 
 mod fields;
 mod functions;
+mod globals;
 mod line_info;
 mod listing;
 mod marks;
+mod named_maps;
+mod named_text;
 mod names;
 mod object_places;
 mod objects;
 mod part_lines;
 mod place;
+mod place_names;
 mod place_slots;
 mod place_texts;
 mod rows;
 mod slots;
+mod spot;
 mod table_row;
 
 pub use line_info::LineEntry;
 pub use listing::listing_slots;
+pub use named_maps::NamedMap;
+pub use named_text::put_named;
 pub use object_places::{object_places, object_slots};
 pub use objects::{
     LinesFault, ObjectLines, first_lines, object_lines, with_functions, write_table,
 };
 pub use part_lines::PartLines;
 pub use place::is_place;
+pub use place_names::{Names, map_names};
 pub use rows::Said;
+pub use spot::{Part, Spot};

@@ -13,7 +13,7 @@ use crate::line_info::{LineEntry, line_entry, record_place};
 use crate::part_lines::PartLines;
 use crate::slots::{is_since, said_of, with_slot};
 use bpf_link::{Plan, Side, short_at, symbol_place};
-use bpfdb_replies::put_shown;
+use bpfdb_script::put_shown;
 use counted_io::{Counted, WriteFault, put, put_decimal};
 use std::io::Write;
 

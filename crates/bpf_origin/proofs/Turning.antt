@@ -6,7 +6,7 @@ use Rattle.std.proofs.lemmas.Bool.Decides.{nat_tests}
 use Rattle.counted_io.specs.Counted.{Tally}
 use Rattle.counted_io.specs.Writing.{WritesAfter}
 use Rattle.counted_io.proofs.Appending.{WritesAfter-WritesAfter}
-use Rattle.bpfdb_replies.proofs.Telling.{WritesAfter-nothing}
+use Rattle.bpfdb_script.proofs.Telling.{WritesAfter-nothing}
 use Rattle.bpf_entries.specs.declared.entry.Entry.{Entry}
 use Rattle.bpf_entries.specs.declared.entry.Entry.TheVariants as entry
 use Rattle.bpf_machine.specs.Moves.{overwritten}

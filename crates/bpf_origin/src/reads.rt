@@ -16,7 +16,7 @@ use crate::place::Part;
 use arrayvec::ArrayVec;
 use bpf_isa::{Address, AtomicOp, BinaryOp, Helper, Insn, LoadSize, Reg, Source, Width};
 use bpf_machine::{Change, Cpu, Fault, Status};
-use bpfdb_replies::number_in;
+use bpfdb_script::number_in;
 
 /// As many parts as a step reads at most, an update with its addresses.
 pub const MOST_PARTS: usize = 8;

@@ -4,8 +4,8 @@ use Rattle.std.specs.Prelude.{max, is_none, ◌&&◌}
 use Rattle.bpf_entries.specs.Keeping.{Kept}
 use Rattle.bpf_entries.specs.declared.status.Status.{Status}
 use Rattle.bpf_steps.specs.State.{State}
-use Rattle.bpfdb_commands.specs.declared.command.Command.{Command}
-use Rattle.bpfdb_commands.specs.declared.refusal.Refusal.{Refusal}
+use Rattle.bpfdb_script.specs.declared.command.Command.{Command}
+use Rattle.bpfdb_script.specs.declared.refusal.Refusal.{Refusal}
 use Rattle.bpf_session.specs.declared.reply.Reply.{Reply}
 use Rattle.bpf_session.specs.Sessions.{SessionValue}
 use Rattle.bpf_session.specs.WatchRuns.{first_changed, seen_at}

@@ -7,11 +7,11 @@ use Rattle.bpf_entries.specs.declared.status.Status.TheVariants.{Running, Exited
 use Rattle.bpf_steps.specs.Regions.{run_at}
 use Rattle.bpf_steps.specs.State.{State}
 use Rattle.bpf_agent.specs.Registers.{value_of}
-use Rattle.bpfdb_commands.specs.Refusals.{number_of}
-use Rattle.bpfdb_commands.specs.declared.refusal.Refusal.{Refusal}
-use Rattle.bpfdb_commands.specs.declared.refusal.Refusal.TheVariants.{MachineEnded, NoKeptStep}
-use Rattle.bpfdb_replies.specs.declared.why.Why.{Why}
-use Rattle.bpfdb_replies.specs.declared.why.Why.TheVariants as why
+use Rattle.bpfdb_script.specs.Refusals.{number_of}
+use Rattle.bpfdb_script.specs.declared.refusal.Refusal.{Refusal}
+use Rattle.bpfdb_script.specs.declared.refusal.Refusal.TheVariants.{MachineEnded, NoKeptStep}
+use Rattle.bpfdb_script.specs.declared.why.Why.{Why}
+use Rattle.bpfdb_script.specs.declared.why.Why.TheVariants as why
 use Rattle.bpf_session.specs.declared.reply.Reply.{Reply}
 use Rattle.bpf_session.specs.declared.reply.Reply.TheVariants as reply
 use Rattle.bpf_remote.specs.Frames.{frame_byte, frames_base}

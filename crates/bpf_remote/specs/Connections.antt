@@ -8,13 +8,13 @@ use Rattle.bpf_agent.specs.Conditions.{ConditionList, with_code, without}
 use Rattle.bpf_entries.specs.Keeping.{Kept}
 use Rattle.bpf_steps.specs.State.{depth}
 use Rattle.bpf_journal.specs.Tracks.{Track}
-use Rattle.bpfdb_commands.specs.Commands.{command_of}
-use Rattle.bpfdb_commands.specs.Refusals.{refusal_text}
-use Rattle.bpfdb_commands.specs.declared.command.Command.{Command}
-use Rattle.bpfdb_commands.specs.declared.command.Command.TheVariants as command
-use Rattle.bpfdb_commands.specs.declared.command.Goal.TheVariants as goal
-use Rattle.bpfdb_commands.specs.declared.command.Stop.TheVariants as stop
-use Rattle.bpfdb_commands.specs.declared.refusal.Refusal.{Refusal}
+use Rattle.bpfdb_script.specs.Commands.{command_of}
+use Rattle.bpfdb_script.specs.Refusals.{refusal_text}
+use Rattle.bpfdb_script.specs.declared.command.Command.{Command}
+use Rattle.bpfdb_script.specs.declared.command.Command.TheVariants as command
+use Rattle.bpfdb_script.specs.declared.command.Goal.TheVariants as goal
+use Rattle.bpfdb_script.specs.declared.command.Stop.TheVariants as stop
+use Rattle.bpfdb_script.specs.declared.refusal.Refusal.{Refusal}
 use Rattle.bpf_session.specs.declared.reply.Reply.{Reply}
 use Rattle.bpf_session.specs.Output.{is_quit}
 use Rattle.bpf_session.specs.Replies.{text_of_answer}

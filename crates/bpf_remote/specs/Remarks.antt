@@ -3,7 +3,7 @@ use Rattle.std.specs.Prelude.{ℕ, nat_lt, decimal, if◌then◌else◌, Bool, t
 use lib.Chars.{codes}
 use Rattle.bpf_entries.specs.Status.{has_ended}
 use Rattle.bpf_steps.specs.State.{State}
-use Rattle.bpfdb_replies.specs.Texts.{place}
+use Rattle.bpfdb_script.specs.Texts.{place}
 use Rattle.bpf_remote.specs.Numbers.{hex_text}
 use Rattle.bpf_remote.specs.declared.answer.Answer.{Answer}
 use Rattle.bpf_remote.specs.declared.answer.Answer.TheVariants as answer

@@ -4,13 +4,13 @@ use lib.Chars.{codes}
 use Rattle.std.specs.Option.{option_map, option_and_then, unwrap_or}
 use Rattle.std.specs.Str.{bytes_eq}
 use Rattle.bpf_machine.specs.declared.edit.Edit.TheVariants as edit
-use Rattle.bpfdb_commands.specs.Commands.{bytes_of}
-use Rattle.bpfdb_commands.specs.declared.command.Command.{Command}
-use Rattle.bpfdb_commands.specs.declared.command.Command.TheVariants as command
-use Rattle.bpfdb_commands.specs.declared.command.Goal.{Goal}
-use Rattle.bpfdb_commands.specs.declared.command.Goal.TheVariants as goal
-use Rattle.bpfdb_commands.specs.declared.command.Stop.TheVariants as stop
-use Rattle.bpfdb_commands.specs.declared.command.Target.TheVariants as target
+use Rattle.bpfdb_script.specs.Commands.{bytes_of}
+use Rattle.bpfdb_script.specs.declared.command.Command.{Command}
+use Rattle.bpfdb_script.specs.declared.command.Command.TheVariants as command
+use Rattle.bpfdb_script.specs.declared.command.Goal.{Goal}
+use Rattle.bpfdb_script.specs.declared.command.Goal.TheVariants as goal
+use Rattle.bpfdb_script.specs.declared.command.Stop.TheVariants as stop
+use Rattle.bpfdb_script.specs.declared.command.Target.TheVariants as target
 use Rattle.bpf_session.specs.WatchRuns.{run_of}
 use Rattle.bpf_remote.specs.Numbers.{before, behind, cut, number, pair, word}
 use Rattle.bpf_remote.specs.declared.request.Request.{Request}

@@ -17,8 +17,8 @@ use Rattle.bpf_whynot.specs.declared.aim.Aim.{Aim}
 use Rattle.bpf_whynot.specs.declared.fault.AimFault.{AimFault}
 use Rattle.bpf_whynot.specs.declared.fault.AimFault.TheVariants.{Goal, OutOfMemory}
 use Rattle.bpf_whynot.specs.declared.fault.GoalFault.{GoalFault}
-use Rattle.bpfdb_commands.specs.Refusals.{refusal_text}
-use Rattle.bpfdb_commands.specs.declared.refusal.Refusal.TheVariants as refusal
+use Rattle.bpfdb_script.specs.Refusals.{refusal_text}
+use Rattle.bpfdb_script.specs.declared.refusal.Refusal.TheVariants as refusal
 use Rattle.bpf_remote.specs.Numbers.{behind}
 use Rattle.bpf_remote.specs.Origins.{ComesBack, Fits, question_of, refused_line}
 

@@ -1,7 +1,7 @@
 //! Requests and lines, obeyed by a session.
 ghost use Rattle.std.specs.Prelude.{◌≡◌, ◌≤◌, ◌++◌, [], List, IfOk, MatchResult, codes, length, true, ℕ};
 ghost use Rattle.bpf_journal.specs.Tracks.{Track};
-ghost use Rattle.bpfdb_commands.specs.Refusals.{refusal_text};
+ghost use Rattle.bpfdb_script.specs.Refusals.{refusal_text};
 ghost use Rattle.bpf_session.specs.Output.{is_quit};
 ghost use Rattle.bpf_session.specs.Replies.{IsThere, text_of_answer};
 ghost use Rattle.bpf_session.specs.Sessions.{HasPast, bounds_of, point_of};
@@ -26,7 +26,7 @@ use bpf_agent::Conditions;
 use bpf_journal::Keeper;
 use bpf_machine::Cpu;
 use bpf_session::{Command, Count, Goal, Refusal, Reply, Session, Stop, parse_command};
-use bpfdb_replies::put_refusal;
+use bpfdb_script::put_refusal;
 use counted_io::{Counted, WriteFault, put};
 
 /// The longest text of a reply that fits a packet, in bytes, and the longest line that a packet

@@ -4,7 +4,7 @@ ghost use Rattle.std.specs.Option.{option_and_then, unwrap_or};
 ghost use Rattle.bpf_session.specs.WatchRuns.{run_of};
 ghost use Rattle.bpf_remote.specs.Numbers.{behind, pair};
 ghost use Rattle.std.specs.Str.{bytes_eq};
-ghost use Rattle.bpfdb_commands.specs.Commands.{bytes_of};
+ghost use Rattle.bpfdb_script.specs.Commands.{bytes_of};
 ghost use Rattle.bpf_remote.specs.Requests.{action, actions, begun_request, condition_behind, condition_of, contains, delete, description, edit_of, memory, question, range, register, request_of, set_break, set_memory, set_register, slot_of, stop_request, supported, watch, with_signal, word_request};
 
 use crate::number::{before, behind, cut, number, pair, word};
@@ -212,7 +212,7 @@ fn set_memory(rest: &[u8]) -> Request
 }
 
 /// Bytes as hexadecimal digits of either case, two a byte: 1 to 256 bytes.
-#[tactic(auto, using(bpfdb_commands::proofs::Bytes::too_many_bytes))]
+#[tactic(auto, using(bpfdb_script::proofs::Bytes::too_many_bytes))]
 fn bytes_of(digits: &[u8]) -> Option<ByteString>
     ensures { result ≡ bytes_of digits.now }
 {

@@ -6,7 +6,7 @@ ghost use Rattle.bpf_remote.specs.Remarks.{dropped_text, is_told, limit_text, re
 use crate::answer::{Answer, Halt};
 use crate::request::Request;
 use bpf_machine::Cpu;
-use bpfdb_replies::write_place;
+use bpfdb_script::write_place;
 use counted_io::{Counted, WriteFault, put, put_decimal, write_text};
 use std::io::Write;
 

@@ -20,17 +20,17 @@ use Rattle.bpf_session.specs.Refused.{when, present, starts, fault_refusals, ref
 use Rattle.bpf_session.specs.Replies.{IsInSight}
 use Rattle.bpf_session.specs.Sessions.{SessionValue, HasPast, StandsAt, Obeys, gap_of, point_of}
 use Rattle.bpf_session.specs.Stops.{has}
-use Rattle.bpfdb_commands.specs.declared.command.Command.{Command}
-use Rattle.bpfdb_commands.specs.declared.command.Command.TheVariants as command
-use Rattle.bpfdb_commands.specs.declared.command.Goal.{Goal}
-use Rattle.bpfdb_commands.specs.declared.command.Goal.TheVariants as goals
-use Rattle.bpfdb_commands.specs.declared.command.Stop.TheVariants as stops
-use Rattle.bpfdb_commands.specs.declared.command.Target.TheVariants as targets
-use Rattle.bpfdb_commands.specs.declared.command.View.{View}
-use Rattle.bpfdb_commands.specs.declared.command.View.TheVariants as views
-use Rattle.bpfdb_commands.specs.Refusals.{number_of}
-use Rattle.bpfdb_commands.specs.declared.refusal.Refusal.{Refusal}
-use Rattle.bpfdb_commands.specs.declared.refusal.Refusal.TheVariants.{MachineEnded, NoKeptStep, FewerCommands, AddressNotPresent, NoStart, OutermostFrame, TableFull, ThereOrNot, NothingToRedo}
+use Rattle.bpfdb_script.specs.declared.command.Command.{Command}
+use Rattle.bpfdb_script.specs.declared.command.Command.TheVariants as command
+use Rattle.bpfdb_script.specs.declared.command.Goal.{Goal}
+use Rattle.bpfdb_script.specs.declared.command.Goal.TheVariants as goals
+use Rattle.bpfdb_script.specs.declared.command.Stop.TheVariants as stops
+use Rattle.bpfdb_script.specs.declared.command.Target.TheVariants as targets
+use Rattle.bpfdb_script.specs.declared.command.View.{View}
+use Rattle.bpfdb_script.specs.declared.command.View.TheVariants as views
+use Rattle.bpfdb_script.specs.Refusals.{number_of}
+use Rattle.bpfdb_script.specs.declared.refusal.Refusal.{Refusal}
+use Rattle.bpfdb_script.specs.declared.refusal.Refusal.TheVariants.{MachineEnded, NoKeptStep, FewerCommands, AddressNotPresent, NoStart, OutermostFrame, TableFull, ThereOrNot, NothingToRedo}
 
 -- ---- the refusals of a command
 

@@ -6,7 +6,7 @@ use Rattle.bpf_session.specs.Outcomes.{Outcome, unless_refused}
 use Rattle.bpf_session.specs.Points.{Point}
 use Rattle.bpf_session.specs.Sessions.{SessionValue, HasPast, StandsAt, Obeys, gap_of, bounds_of, point_of}
 use Rattle.bpf_session.specs.declared.reply.Reply.{Reply}
-use Rattle.bpfdb_commands.specs.declared.refusal.Refusal.{Refusal}
+use Rattle.bpfdb_script.specs.declared.refusal.Refusal.{Refusal}
 
 -- What a session was opened with stays where its limit and its keeper's room do.
 pub same-bounds : {K : Type 0} (room : K → ℕ) (old new : SessionValue K) → new.limit ≡ old.limit → room new.moment.keeper ≡ room old.moment.keeper → bounds_of room new ≡ bounds_of room old

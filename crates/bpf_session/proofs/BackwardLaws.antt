@@ -13,15 +13,15 @@ use Rattle.bpf_session.specs.Backward.{back, back_by, before_last, found, gone_b
 use Rattle.bpf_session.specs.Refused.{refusals_of, when}
 use Rattle.bpf_session.specs.Meaning.{accepted, does}
 use Rattle.bpf_session.specs.Laws.{HasCount, TakesBackItsMoves, CountsBack, CountsAreGoneBack, IsAt, FindsLatest, IsSought, TheLatestIsFound, UndoGoesToTheMark}
-use Rattle.bpfdb_commands.specs.declared.command.Command.TheVariants as command
-use Rattle.bpfdb_commands.specs.declared.command.Target.{Target}
-use Rattle.bpfdb_commands.specs.declared.command.Target.TheVariants as target
+use Rattle.bpfdb_script.specs.declared.command.Command.TheVariants as command
+use Rattle.bpfdb_script.specs.declared.command.Target.{Target}
+use Rattle.bpfdb_script.specs.declared.command.Target.TheVariants as target
 use Rattle.bpf_session.specs.declared.reply.Reply.{Reply}
 use Rattle.bpf_session.specs.declared.reply.Reply.TheVariants.{Back}
-use Rattle.bpfdb_replies.specs.declared.why.Why.{Why}
-use Rattle.bpfdb_replies.specs.declared.why.Why.TheVariants.{Break, Watch, Done, Start}
-use Rattle.bpfdb_commands.specs.declared.refusal.Refusal.{Refusal}
-use Rattle.bpfdb_commands.specs.declared.refusal.Refusal.TheVariants.{NoKeptStep, FewerCommands, OutermostFrame}
+use Rattle.bpfdb_script.specs.declared.why.Why.{Why}
+use Rattle.bpfdb_script.specs.declared.why.Why.TheVariants.{Break, Watch, Done, Start}
+use Rattle.bpfdb_script.specs.declared.refusal.Refusal.{Refusal}
+use Rattle.bpfdb_script.specs.declared.refusal.Refusal.TheVariants.{NoKeptStep, FewerCommands, OutermostFrame}
 
 -- ---- what is looked up in a history
 

@@ -17,15 +17,15 @@ use Rattle.bpf_journal.specs.declared.taken.Taken.{Taken}
 use Rattle.bpf_session.specs.Points.{Point}
 use Rattle.bpf_session.specs.Outcomes.{Outcome}
 use Rattle.bpf_session.specs.Backward.{before_last, back, back_by, found, gone_back, passes, kept_steps, to_stop}
-use Rattle.bpfdb_replies.specs.declared.why.Why.{Why}
+use Rattle.bpfdb_script.specs.declared.why.Why.{Why}
 use Rattle.bpf_session.specs.declared.reply.Reply.TheVariants.{Back}
 use Rattle.bpf_session.specs.Searches.{GoesBackTo, count_in, why_found}
 use Rattle.bpf_session.specs.Sessions.{SessionValue, HasPast, StandsAt, Obeys, bounds_of, point_of, track_at}
 use Rattle.bpf_session.specs.Stops.{has, breaks_at, some_differs}
 use Rattle.bpf_session.specs.Watched.{Compares, bytes_at}
 use Rattle.bpf_session.specs.declared.session.backward.Found.{Found}
-use Rattle.bpfdb_commands.specs.declared.command.Target.{Target}
-use Rattle.bpfdb_commands.specs.declared.command.Target.TheVariants.{Commands, Steps, Next, Continue, Finish}
+use Rattle.bpfdb_script.specs.declared.command.Target.{Target}
+use Rattle.bpfdb_script.specs.declared.command.Target.TheVariants.{Commands, Steps, Next, Continue, Finish}
 use Rattle.bpf_session.proofs.Forwards.{OnlyMoment}
 
 -- a record of the history

@@ -17,23 +17,23 @@ use Rattle.bpf_session.specs.Backward.{back, before_last, back_by, found, to_sto
 use Rattle.bpf_session.specs.Refused.{refusals_of}
 use Rattle.bpf_session.specs.Meaning.{accepted, does}
 use Rattle.bpf_session.specs.Sessions.{refusals_after_all}
-use Rattle.bpfdb_commands.specs.Commands.{command_of}
+use Rattle.bpfdb_script.specs.Commands.{command_of}
 use Rattle.bpf_session.specs.Output.{effect, after_effect}
 use Rattle.bpf_session.specs.Laws.{RefusedChangesNothing, ShowsChangeNothing, RefusalsAreInOrder, ReplayIsTheSame, GoingBackGivesBack, NothingRefusedNothingMissing}
 use Rattle.bpf_session.proofs.Accepting.{orderly}
 use Rattle.bpf_session.proofs.BackwardLaws.{count-more}
 use Rattle.bpf_session.proofs.ForwardLaws.{does-forward, goal-told, least-from}
-use Rattle.bpfdb_commands.specs.declared.command.Command.{Command}
-use Rattle.bpfdb_commands.specs.declared.command.Command.TheVariants as command
-use Rattle.bpfdb_commands.specs.declared.command.Goal.TheVariants as goals
-use Rattle.bpfdb_commands.specs.declared.command.Goal.{Goal}
-use Rattle.bpfdb_commands.specs.declared.command.Target.{Target}
-use Rattle.bpfdb_commands.specs.declared.command.Target.TheVariants as targets
+use Rattle.bpfdb_script.specs.declared.command.Command.{Command}
+use Rattle.bpfdb_script.specs.declared.command.Command.TheVariants as command
+use Rattle.bpfdb_script.specs.declared.command.Goal.TheVariants as goals
+use Rattle.bpfdb_script.specs.declared.command.Goal.{Goal}
+use Rattle.bpfdb_script.specs.declared.command.Target.{Target}
+use Rattle.bpfdb_script.specs.declared.command.Target.TheVariants as targets
 use Rattle.bpf_session.specs.declared.reply.Reply.TheVariants.{Forward}
-use Rattle.bpfdb_replies.specs.declared.why.Why.{Why}
-use Rattle.bpfdb_replies.specs.declared.why.Why.TheVariants.{Limit, Memory}
-use Rattle.bpfdb_commands.specs.declared.refusal.Refusal.{Refusal}
-use Rattle.bpfdb_commands.specs.declared.refusal.Refusal.TheVariants.{OutOfMemory}
+use Rattle.bpfdb_script.specs.declared.why.Why.{Why}
+use Rattle.bpfdb_script.specs.declared.why.Why.TheVariants.{Limit, Memory}
+use Rattle.bpfdb_script.specs.declared.refusal.Refusal.{Refusal}
+use Rattle.bpfdb_script.specs.declared.refusal.Refusal.TheVariants.{OutOfMemory}
 
 -- ---- a refused command
 

@@ -13,19 +13,19 @@ use Rattle.bpf_session.specs.Redo.{again, cut_again, redone, why_again}
 use Rattle.bpf_session.specs.Refused.{refusals_of}
 use Rattle.bpf_session.specs.Meaning.{accepted, does}
 use Rattle.bpf_session.specs.Laws.{IsDone, IsReason, rank, StopsFirst, TheFirstReasonStops, BreakpointsStop, WatchesStop, CallsRunAsOne}
-use Rattle.bpfdb_commands.specs.declared.command.Command.{Command}
-use Rattle.bpfdb_commands.specs.declared.command.Command.TheVariants as command
-use Rattle.bpfdb_commands.specs.declared.command.Target.{Target}
-use Rattle.bpfdb_commands.specs.declared.command.Target.TheVariants as target
+use Rattle.bpfdb_script.specs.declared.command.Command.{Command}
+use Rattle.bpfdb_script.specs.declared.command.Command.TheVariants as command
+use Rattle.bpfdb_script.specs.declared.command.Target.{Target}
+use Rattle.bpfdb_script.specs.declared.command.Target.TheVariants as target
 use Rattle.bpf_session.specs.Backward.{back, found, to_stop}
-use Rattle.bpfdb_commands.specs.declared.command.Goal.{Goal}
-use Rattle.bpfdb_commands.specs.declared.command.Goal.TheVariants as goal
+use Rattle.bpfdb_script.specs.declared.command.Goal.{Goal}
+use Rattle.bpfdb_script.specs.declared.command.Goal.TheVariants as goal
 use Rattle.bpf_session.specs.declared.reply.Reply.{Reply}
 use Rattle.bpf_session.specs.declared.reply.Reply.TheVariants.{Forward}
-use Rattle.bpfdb_replies.specs.declared.why.Why.{Why}
-use Rattle.bpfdb_replies.specs.declared.why.Why.TheVariants.{End, Break, Watch, Done, Limit, Memory, Start, All}
-use Rattle.bpfdb_commands.specs.declared.refusal.Refusal.{Refusal}
-use Rattle.bpfdb_commands.specs.declared.refusal.Refusal.TheVariants.{OutOfMemory}
+use Rattle.bpfdb_script.specs.declared.why.Why.{Why}
+use Rattle.bpfdb_script.specs.declared.why.Why.TheVariants.{End, Break, Watch, Done, Limit, Memory, Start, All}
+use Rattle.bpfdb_script.specs.declared.refusal.Refusal.{Refusal}
+use Rattle.bpfdb_script.specs.declared.refusal.Refusal.TheVariants.{OutOfMemory}
 
 -- ---- the first reason of several
 

@@ -26,12 +26,12 @@ use Rattle.bpf_session.proofs.Watching.{compares, compares_none}
 use Rattle.bpf_session.specs.Replies.{IsThere}
 use Rattle.bpf_session.specs.Sessions.{SessionValue, HasPast, StandsAt, Obeys, gap_of, point_of, bounds_of, track_at}
 use Rattle.bpf_session.proofs.Answering.{Comes, comes_as, same-bounds}
-use Rattle.bpfdb_commands.specs.declared.command.Goal.{Goal}
-use Rattle.bpfdb_commands.specs.declared.command.Goal.TheVariants.{Steps, Next, Continue, Finish}
-use Rattle.bpfdb_replies.specs.declared.why.Why.{Why}
-use Rattle.bpfdb_replies.specs.declared.why.Why.TheVariants.{End, Break, Watch, Done, Limit, Memory}
+use Rattle.bpfdb_script.specs.declared.command.Goal.{Goal}
+use Rattle.bpfdb_script.specs.declared.command.Goal.TheVariants.{Steps, Next, Continue, Finish}
+use Rattle.bpfdb_script.specs.declared.why.Why.{Why}
+use Rattle.bpfdb_script.specs.declared.why.Why.TheVariants.{End, Break, Watch, Done, Limit, Memory}
 use Rattle.bpf_session.specs.declared.reply.Reply.TheVariants as replies
-use Rattle.bpfdb_commands.specs.declared.refusal.Refusal.TheVariants.{OutOfMemory}
+use Rattle.bpfdb_script.specs.declared.refusal.Refusal.TheVariants.{OutOfMemory}
 
 -- the least number is not below the first one that is tried
 pub least_from : (test : ℕ → Bool) (k n : ℕ) → k ≤ least test k n

@@ -36,8 +36,8 @@ use Rattle.bpf_session.proofs.Backwards.{Seeking, latest_miss, latest_next, pass
 use Rattle.bpf_session.proofs.Breaks.{not_there}
 use Rattle.bpf_session.proofs.Forwards.{OnlyMoment}
 use Rattle.bpf_session.proofs.Watching.{compares_none}
-use Rattle.bpfdb_commands.specs.declared.command.Target.{Target}
-use Rattle.bpfdb_commands.specs.declared.command.Target.TheVariants.{Commands, Steps, Next, Continue, Finish}
+use Rattle.bpfdb_script.specs.declared.command.Target.{Target}
+use Rattle.bpfdb_script.specs.declared.command.Target.TheVariants.{Commands, Steps, Next, Continue, Finish}
 
 -- The slot that the entry of a step keeps is that of its state.
 slot_by : (f : ℕ → Bool) (b : Bool) (x : State) (d : Change) → option_map f (past 0 (entry_of x d)).pc ≡ Some b → f x.pc ≡ b

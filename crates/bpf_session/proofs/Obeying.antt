@@ -9,12 +9,12 @@ use Rattle.bpf_session.specs.Points.{Point, Bounds}
 use Rattle.bpf_session.specs.Meaning.{does}
 use Rattle.bpf_session.specs.Replies.{text_of_answer}
 use Rattle.bpf_session.specs.Sessions.{SessionValue, HasPast, StandsAt, Obeys, bounds_of, gap_of, point_of, refusals_with, track_at}
-use Rattle.bpfdb_commands.specs.Commands.{command_of}
+use Rattle.bpfdb_script.specs.Commands.{command_of}
 use Rattle.bpf_session.specs.Output.{Effect, effect, effect_of, is_quit}
 use Rattle.bpf_session.specs.LineSteps.{FailsOnce, ObeysLine}
-use Rattle.bpfdb_commands.specs.declared.command.Command.{Command}
+use Rattle.bpfdb_script.specs.declared.command.Command.{Command}
 use Rattle.bpf_session.specs.declared.reply.Reply.{Reply}
-use Rattle.bpfdb_commands.specs.declared.refusal.Refusal.{Refusal}
+use Rattle.bpfdb_script.specs.declared.refusal.Refusal.{Refusal}
 
 module _ {K W : Type 0} (holds : K → List Kept → Type 0) (refusals room : K → ℕ) (contents : W → Option (List ℕ)) where
   -- by an effect

@@ -17,7 +17,7 @@ use Rattle.bpf_session.specs.Backward.{back, back_by, found, to_stop}
 use Rattle.bpf_session.specs.Forward.{kept, steps, stop, reason, taken, cut, forward}
 use Rattle.bpf_session.specs.Laws.{all_moves, last_state, LeadsTo, LeadsOn, IsPlaced, Given, LosesNothing, outcome_of, after, commands_of, given_by, is_new, after_new, NothingIsLost, ScriptsLoseNothing, SessionsArePlaced}
 use Rattle.bpf_session.specs.Output.{Walk, after_effect, effect, effect_of, first_gap, is_quit, later_gaps, walk}
-use Rattle.bpfdb_commands.specs.Commands.{Answer, command_of}
+use Rattle.bpfdb_script.specs.Commands.{Answer, command_of}
 use Rattle.bpf_session.specs.Meaning.{accepted, does}
 use Rattle.bpf_session.specs.Outcomes.{Outcome, refused, replied, unless_refused}
 use Rattle.bpf_session.specs.Points.{Point, Bounds}
@@ -26,16 +26,16 @@ use Rattle.bpf_session.specs.Refused.{refusals_of, when}
 use Rattle.bpf_session.specs.Tables.{edit, with_stop, without_stop}
 use Rattle.bpf_session.proofs.ForwardLaws.{least-from}
 use Rattle.bpf_session.specs.declared.reply.Reply.TheVariants as Reply
-use Rattle.bpfdb_commands.specs.declared.command.Command.{Command}
-use Rattle.bpfdb_commands.specs.declared.command.Command.TheVariants as command
-use Rattle.bpfdb_commands.specs.declared.command.Stop.{Stop}
-use Rattle.bpfdb_commands.specs.declared.command.Stop.TheVariants as stops
-use Rattle.bpfdb_commands.specs.declared.command.Target.{Target}
-use Rattle.bpfdb_commands.specs.declared.command.Target.TheVariants as target
-use Rattle.bpfdb_commands.specs.declared.refusal.Refusal.{Refusal}
-use Rattle.bpfdb_commands.specs.declared.refusal.Refusal.TheVariants.{NothingToRedo, OutOfMemory}
-use Rattle.bpfdb_replies.specs.declared.why.Why.{Why}
-use Rattle.bpfdb_replies.specs.declared.why.Why.TheVariants.{Memory}
+use Rattle.bpfdb_script.specs.declared.command.Command.{Command}
+use Rattle.bpfdb_script.specs.declared.command.Command.TheVariants as command
+use Rattle.bpfdb_script.specs.declared.command.Stop.{Stop}
+use Rattle.bpfdb_script.specs.declared.command.Stop.TheVariants as stops
+use Rattle.bpfdb_script.specs.declared.command.Target.{Target}
+use Rattle.bpfdb_script.specs.declared.command.Target.TheVariants as target
+use Rattle.bpfdb_script.specs.declared.refusal.Refusal.{Refusal}
+use Rattle.bpfdb_script.specs.declared.refusal.Refusal.TheVariants.{NothingToRedo, OutOfMemory}
+use Rattle.bpfdb_script.specs.declared.why.Why.{Why}
+use Rattle.bpfdb_script.specs.declared.why.Why.TheVariants.{Memory}
 
 -- a history h with what was taken back f, at y, has become h' with f', at y'
 record Walked (h f : List Record) (y : State) (h' f' : List Record) (y' : State) : Type 0 where

@@ -17,10 +17,10 @@ use Rattle.bpf_session.specs.Replies.{IsThere}
 use Rattle.bpf_session.specs.Sessions.{SessionValue, HasPast, StandsAt, Obeys, gap_of, point_of, track_at}
 use Rattle.bpf_session.specs.declared.reply.Reply.{Reply}
 use Rattle.bpf_session.specs.declared.reply.Reply.TheVariants as replies
-use Rattle.bpfdb_commands.specs.declared.refusal.Refusal.{Refusal}
-use Rattle.bpfdb_commands.specs.declared.refusal.Refusal.TheVariants.{OutOfMemory}
-use Rattle.bpfdb_replies.specs.declared.why.Why.{Why}
-use Rattle.bpfdb_replies.specs.declared.why.Why.TheVariants as whys
+use Rattle.bpfdb_script.specs.declared.refusal.Refusal.{Refusal}
+use Rattle.bpfdb_script.specs.declared.refusal.Refusal.TheVariants.{OutOfMemory}
+use Rattle.bpfdb_script.specs.declared.why.Why.{Why}
+use Rattle.bpfdb_script.specs.declared.why.Why.TheVariants as whys
 use Rattle.bpf_session.proofs.Answering.{Comes, comes_as, same-bounds}
 use Rattle.bpf_session.proofs.Forwards.{OnlyMoment}
 

@@ -12,16 +12,16 @@ use Rattle.bpf_journal.specs.Tracks.{Track}
 use Rattle.bpf_session.specs.Points.{Point, Bounds}
 use Rattle.bpf_session.specs.Sessions.{SessionValue, HasPast, StandsAt, bounds_of, point_of, refusals_with, refusals_after_all, track_at}
 use Rattle.counted_io.specs.Lines.{lines}
-use Rattle.bpfdb_commands.specs.Commands.{command_of}
+use Rattle.bpfdb_script.specs.Commands.{command_of}
 use Rattle.bpf_session.specs.Output.{Effect, effect, Walk, walk}
-use Rattle.bpfdb_commands.specs.Lines.{line_feeds}
+use Rattle.bpfdb_script.specs.Lines.{line_feeds}
 use Rattle.bpf_session.specs.Runs.{BreaksOff, Exchange, GoesOn, HasStanding, Interrupts, Leaves, Prints, Reaches, Standing, Wrote}
-use Rattle.bpfdb_commands.specs.ReadLines.{Buffer, Holds, ReadsLine, is_missing, is_last}
+use Rattle.bpfdb_script.specs.ReadLines.{Buffer, Holds, ReadsLine, is_missing, is_last}
 use Rattle.bpf_session.specs.LineSteps.{ObeysLine}
 use Rattle.bpf_session.specs.declared.fault.RunFault.{RunFault}
 use Rattle.bpf_session.specs.declared.fault.RunFault.TheVariants.{Read, Write}
-use Rattle.bpfdb_commands.specs.declared.line.NextLine.{NextLine}
-use Rattle.bpfdb_commands.specs.declared.line.NextLine.TheVariants.{Ended, Last, Missing}
+use Rattle.bpfdb_script.specs.declared.line.NextLine.{NextLine}
+use Rattle.bpfdb_script.specs.declared.line.NextLine.TheVariants.{Ended, Last, Missing}
 
 -- what a writer holds after a text
 appended : (before after : Option (List ℕ)) (xs ys : List ℕ) → before ≡ Some xs → Appends before after ys → after ≡ Some (xs ++ ys)

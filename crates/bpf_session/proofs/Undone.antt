@@ -25,13 +25,13 @@ use Rattle.bpf_session.proofs.CommandLaws.{cut-point, drop-told, fit-whole, gone
 use Rattle.bpf_session.proofs.ForwardLaws.{least-from}
 use Rattle.bpf_session.specs.declared.reply.Reply.{Reply}
 use Rattle.bpf_session.specs.declared.reply.Reply.TheVariants as reply
-use Rattle.bpfdb_commands.specs.declared.command.Command.{Command}
-use Rattle.bpfdb_commands.specs.declared.command.Command.TheVariants as command
-use Rattle.bpfdb_commands.specs.declared.command.Target.TheVariants as target
-use Rattle.bpfdb_commands.specs.declared.refusal.Refusal.{Refusal}
-use Rattle.bpfdb_commands.specs.declared.refusal.Refusal.TheVariants.{OutOfMemory}
-use Rattle.bpfdb_replies.specs.declared.why.Why.{Why}
-use Rattle.bpfdb_replies.specs.declared.why.Why.TheVariants.{Memory}
+use Rattle.bpfdb_script.specs.declared.command.Command.{Command}
+use Rattle.bpfdb_script.specs.declared.command.Command.TheVariants as command
+use Rattle.bpfdb_script.specs.declared.command.Target.TheVariants as target
+use Rattle.bpfdb_script.specs.declared.refusal.Refusal.{Refusal}
+use Rattle.bpfdb_script.specs.declared.refusal.Refusal.TheVariants.{OutOfMemory}
+use Rattle.bpfdb_script.specs.declared.why.Why.{Why}
+use Rattle.bpfdb_script.specs.declared.why.Why.TheVariants.{Memory}
 
 -- ---- what is looked up behind what was found
 

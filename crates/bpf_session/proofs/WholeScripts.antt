@@ -11,9 +11,9 @@ use Rattle.bpf_session.specs.Points.{Point}
 use Rattle.bpf_session.proofs.CommandLaws.{nothing-refused-nothing-missing}
 use Rattle.bpf_session.specs.declared.reply.Reply.{Reply}
 use Rattle.bpf_session.specs.declared.reply.Reply.TheVariants.{Forward, Redone}
-use Rattle.bpfdb_commands.specs.declared.refusal.Refusal.{Refusal}
-use Rattle.bpfdb_commands.specs.declared.refusal.Refusal.TheVariants.{OutOfMemory}
-use Rattle.bpfdb_replies.specs.declared.why.Why.TheVariants.{Memory}
+use Rattle.bpfdb_script.specs.declared.refusal.Refusal.{Refusal}
+use Rattle.bpfdb_script.specs.declared.refusal.Refusal.TheVariants.{OutOfMemory}
+use Rattle.bpfdb_script.specs.declared.why.Why.TheVariants.{Memory}
 
 -- a whole script
 pub nothing-refused-all-printed : NothingRefusedAllPrinted

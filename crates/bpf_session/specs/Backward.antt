@@ -6,11 +6,11 @@ use Rattle.bpf_journal.specs.Lookups.{Test, latest, state_before}
 use Rattle.bpf_session.specs.Points.{Point}
 use Rattle.bpf_session.specs.Outcomes.{Outcome, replied}
 use Rattle.bpf_session.specs.Stops.{breaks_at, watch_differs}
-use Rattle.bpfdb_replies.specs.declared.why.Why.{Why}
-use Rattle.bpfdb_replies.specs.declared.why.Why.TheVariants.{Done, Start, Break, Watch}
+use Rattle.bpfdb_script.specs.declared.why.Why.{Why}
+use Rattle.bpfdb_script.specs.declared.why.Why.TheVariants.{Done, Start, Break, Watch}
 use Rattle.bpf_session.specs.declared.reply.Reply.TheVariants.{Back}
-use Rattle.bpfdb_commands.specs.declared.command.Target.{Target}
-use Rattle.bpfdb_commands.specs.declared.command.Target.TheVariants.{Commands, Steps, Next, Continue, Finish}
+use Rattle.bpfdb_script.specs.declared.command.Target.{Target}
+use Rattle.bpfdb_script.specs.declared.command.Target.TheVariants.{Commands, Steps, Next, Continue, Finish}
 
 -- The state before the k-th last move; the present one for k = 0.
 abbrev pub before_last : ℕ → Point → State

@@ -4,8 +4,8 @@ use Rattle.std.specs.Str.{bytes_eq}
 use Rattle.bpf_steps.specs.State.{State, depth}
 use Rattle.bpf_session.specs.Stops.{has}
 use Rattle.bpf_session.specs.Watched.{bytes_at}
-use Rattle.bpfdb_commands.specs.declared.command.Goal.{Goal}
-use Rattle.bpfdb_commands.specs.declared.command.Goal.TheVariants.{Steps, Next, Continue, Finish}
+use Rattle.bpfdb_script.specs.declared.command.Goal.{Goal}
+use Rattle.bpfdb_script.specs.declared.command.Goal.TheVariants.{Steps, Next, Continue, Finish}
 
 -- Whether a step is the last one, which replaced bytes or not and led to y: a breakpoint is there, the depth is below a floor, or watched bytes
 -- are not those that were seen.

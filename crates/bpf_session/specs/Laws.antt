@@ -11,26 +11,26 @@ use Rattle.bpf_session.specs.Backward.{before_last, marks}
 use Rattle.bpf_session.specs.Redo.{state_ahead}
 use Rattle.bpf_session.specs.Stops.{breaks_at, watch_differs}
 use Rattle.bpf_session.specs.Refused.{refusals_of}
-use Rattle.bpfdb_commands.specs.Refusals.{number_of}
+use Rattle.bpfdb_script.specs.Refusals.{number_of}
 use Rattle.bpf_session.specs.Meaning.{does}
 use Rattle.bpf_entries.specs.Keeping.{Kept}
 use Rattle.bpf_session.specs.Outcomes.{Outcome}
 use Rattle.bpf_session.specs.Runs.{Exchange, Prints, PrintsWhole, Standing}
 use Rattle.bpf_session.specs.Sessions.{HasPast, Obeys, SessionValue, StandsAt, gap_of, point_of, refusals_after_all}
 use Rattle.bpf_session.specs.Output.{first_gap, is_quit, later_gaps, walk}
-use Rattle.bpfdb_commands.specs.Commands.{Answer, command_of}
-use Rattle.bpfdb_commands.specs.declared.command.Command.{Command}
-use Rattle.bpfdb_commands.specs.declared.command.Command.TheVariants as command
-use Rattle.bpfdb_commands.specs.declared.command.Goal.{Goal}
-use Rattle.bpfdb_commands.specs.declared.command.Goal.TheVariants as goal
-use Rattle.bpfdb_commands.specs.declared.command.Target.{Target}
-use Rattle.bpfdb_commands.specs.declared.command.Target.TheVariants as target
-use Rattle.bpfdb_commands.specs.declared.refusal.Refusal.{Refusal}
-use Rattle.bpfdb_commands.specs.declared.refusal.Refusal.TheVariants.{OutOfMemory}
+use Rattle.bpfdb_script.specs.Commands.{Answer, command_of}
+use Rattle.bpfdb_script.specs.declared.command.Command.{Command}
+use Rattle.bpfdb_script.specs.declared.command.Command.TheVariants as command
+use Rattle.bpfdb_script.specs.declared.command.Goal.{Goal}
+use Rattle.bpfdb_script.specs.declared.command.Goal.TheVariants as goal
+use Rattle.bpfdb_script.specs.declared.command.Target.{Target}
+use Rattle.bpfdb_script.specs.declared.command.Target.TheVariants as target
+use Rattle.bpfdb_script.specs.declared.refusal.Refusal.{Refusal}
+use Rattle.bpfdb_script.specs.declared.refusal.Refusal.TheVariants.{OutOfMemory}
 use Rattle.bpf_session.specs.declared.reply.Reply.{Reply}
-use Rattle.bpfdb_replies.specs.declared.why.Why.{Why}
+use Rattle.bpfdb_script.specs.declared.why.Why.{Why}
 use Rattle.bpf_session.specs.declared.reply.Reply.TheVariants.{Forward, Back, Redone}
-use Rattle.bpfdb_replies.specs.declared.why.Why.TheVariants.{End, Break, Watch, Done, Limit, Memory, Start}
+use Rattle.bpfdb_script.specs.declared.why.Why.TheVariants.{End, Break, Watch, Done, Limit, Memory, Start}
 
 -- A refused command changes nothing: neither history nor state, breakpoints or watches.
 abbrev pub RefusedChangesNothing : Type 0

@@ -4,7 +4,7 @@ use Rattle.counted_io.specs.Counted.{Tally, one_more}
 use Rattle.counted_io.specs.Writing.{Writes}
 use Rattle.bpf_entries.specs.Keeping.{Kept}
 use Rattle.bpf_journal.specs.Tracks.{Track}
-use Rattle.bpfdb_commands.specs.Commands.{command_of}
+use Rattle.bpfdb_script.specs.Commands.{command_of}
 use Rattle.bpf_session.specs.Sessions.{SessionValue, StandsAt, bounds_of, point_of, refusals_with}
 use Rattle.bpf_session.specs.Output.{effect}
 

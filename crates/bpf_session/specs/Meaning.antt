@@ -7,8 +7,8 @@ use Rattle.bpf_session.specs.Forward.{forward}
 use Rattle.bpf_session.specs.Backward.{back}
 use Rattle.bpf_session.specs.Redo.{redo}
 use Rattle.bpf_session.specs.Tables.{edit, with_stop, without_stop}
-use Rattle.bpfdb_commands.specs.declared.command.Command.{Command}
-use Rattle.bpfdb_commands.specs.declared.command.Command.TheVariants as command
+use Rattle.bpfdb_script.specs.declared.command.Command.{Command}
+use Rattle.bpfdb_script.specs.declared.command.Command.TheVariants as command
 use Rattle.bpf_session.specs.declared.reply.Reply.TheVariants as reply
 
 -- What a command comes to where it is not refused. The gap is None where the keeper keeps each of its moves, and else how many

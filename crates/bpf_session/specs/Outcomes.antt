@@ -2,7 +2,7 @@
 use Rattle.std.specs.Prelude.{List, [], ◌∷◌, Result, Ok, Err}
 use Rattle.bpf_session.specs.Points.{Point}
 use Rattle.bpf_session.specs.declared.reply.Reply.{Reply}
-use Rattle.bpfdb_commands.specs.declared.refusal.Refusal.{Refusal}
+use Rattle.bpfdb_script.specs.declared.refusal.Refusal.{Refusal}
 
 pub record Outcome : Type 0 where
   pub answer : Result Reply Refusal

@@ -3,12 +3,12 @@ use Rattle.std.specs.Prelude.{ℕ, Bool, true, false, List, [], ◌∷◌, ◌++
 use Rattle.bpf_session.specs.Points.{Point, Bounds}
 use Rattle.bpf_session.specs.Outcomes.{Outcome}
 use Rattle.bpf_session.specs.Meaning.{does}
-use Rattle.bpfdb_commands.specs.Refusals.{refusal_text}
+use Rattle.bpfdb_script.specs.Refusals.{refusal_text}
 use Rattle.bpf_session.specs.Replies.{text_of_answer}
 use Rattle.bpf_session.specs.Sessions.{gap_of}
-use Rattle.bpfdb_commands.specs.Commands.{Answer, command_of}
-use Rattle.bpfdb_commands.specs.declared.command.Command.{Command}
-use Rattle.bpfdb_commands.specs.declared.command.Command.TheVariants.{Quit}
+use Rattle.bpfdb_script.specs.Commands.{Answer, command_of}
+use Rattle.bpfdb_script.specs.declared.command.Command.{Command}
+use Rattle.bpfdb_script.specs.declared.command.Command.TheVariants.{Quit}
 
 -- What a line prints, the point that it leaves, the gap that its answer tells, and whether the session goes on.
 pub record Effect : Type 0 where

@@ -9,10 +9,10 @@ use Rattle.bpf_journal.specs.Tracks.{Track}
 use Rattle.bpf_session.specs.Points.{Point}
 use Rattle.bpf_session.specs.Outcomes.{Outcome, refused, replied}
 use Rattle.bpf_session.specs.Sessions.{HasPast, SessionValue}
-use Rattle.bpfdb_replies.specs.declared.why.Why.{Why}
-use Rattle.bpfdb_replies.specs.declared.why.Why.TheVariants.{Done, All, Memory}
+use Rattle.bpfdb_script.specs.declared.why.Why.{Why}
+use Rattle.bpfdb_script.specs.declared.why.Why.TheVariants.{Done, All, Memory}
 use Rattle.bpf_session.specs.declared.reply.Reply.TheVariants.{Redone}
-use Rattle.bpfdb_commands.specs.declared.refusal.Refusal.TheVariants.{OutOfMemory}
+use Rattle.bpfdb_script.specs.declared.refusal.Refusal.TheVariants.{OutOfMemory}
 
 -- The state after the first k of records that lead on from x.
 abbrev pub state_ahead : ℕ → List Record → State → State

@@ -12,14 +12,14 @@ use Rattle.bpf_session.specs.Limits.{most_breaks, most_watches}
 use Rattle.bpf_session.specs.Points.{Point}
 use Rattle.bpf_session.specs.Stops.{has}
 use Rattle.bpf_session.specs.Backward.{marks, kept_steps}
-use Rattle.bpfdb_commands.specs.declared.command.Command.{Command}
-use Rattle.bpfdb_commands.specs.declared.command.Command.TheVariants as command
-use Rattle.bpfdb_commands.specs.declared.command.Goal.TheVariants as goal
-use Rattle.bpfdb_commands.specs.declared.command.Stop.TheVariants as stop
-use Rattle.bpfdb_commands.specs.declared.command.Target.TheVariants as target
-use Rattle.bpfdb_commands.specs.declared.command.View.TheVariants as view
-use Rattle.bpfdb_commands.specs.declared.refusal.Refusal.{Refusal}
-use Rattle.bpfdb_commands.specs.declared.refusal.Refusal.TheVariants.{MachineEnded, NoKeptStep, FewerCommands, AddressNotPresent, RegisterNotWritable, NoStart, OutermostFrame, TableFull, ThereOrNot, NothingToRedo, NoCell}
+use Rattle.bpfdb_script.specs.declared.command.Command.{Command}
+use Rattle.bpfdb_script.specs.declared.command.Command.TheVariants as command
+use Rattle.bpfdb_script.specs.declared.command.Goal.TheVariants as goal
+use Rattle.bpfdb_script.specs.declared.command.Stop.TheVariants as stop
+use Rattle.bpfdb_script.specs.declared.command.Target.TheVariants as target
+use Rattle.bpfdb_script.specs.declared.command.View.TheVariants as view
+use Rattle.bpfdb_script.specs.declared.refusal.Refusal.{Refusal}
+use Rattle.bpfdb_script.specs.declared.refusal.Refusal.TheVariants.{MachineEnded, NoKeptStep, FewerCommands, AddressNotPresent, RegisterNotWritable, NoStart, OutermostFrame, TableFull, ThereOrNot, NothingToRedo, NoCell}
 
 -- A refusal where a test holds.
 abbrev pub when : Bool → Refusal → List Refusal

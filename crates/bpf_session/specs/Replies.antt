@@ -7,11 +7,11 @@ use Rattle.bpf_steps.specs.State.{State}
 use Rattle.bpf_journal.specs.Histories.{record_weight}
 use Rattle.bpf_journal.specs.Lookups.{last_change}
 use Rattle.bpf_journal.specs.declared.timeline.ByteChange.{ByteChange}
-use Rattle.bpfdb_commands.specs.Refusals.{refusal_text}
-use Rattle.bpfdb_commands.specs.declared.command.View.{View}
-use Rattle.bpfdb_commands.specs.declared.command.View.TheVariants as view
-use Rattle.bpfdb_commands.specs.declared.refusal.Refusal.{Refusal}
-use Rattle.bpfdb_replies.specs.Texts.{text_of_state, text_of_frames, text_of_breaks, text_of_history, text_of_trace, text_of_bytes, instructions_from, text_of_change, text_of_unchanged, text_of_move}
+use Rattle.bpfdb_script.specs.Refusals.{refusal_text}
+use Rattle.bpfdb_script.specs.declared.command.View.{View}
+use Rattle.bpfdb_script.specs.declared.command.View.TheVariants as view
+use Rattle.bpfdb_script.specs.declared.refusal.Refusal.{Refusal}
+use Rattle.bpfdb_script.specs.Texts.{text_of_state, text_of_frames, text_of_breaks, text_of_history, text_of_trace, text_of_bytes, instructions_from, text_of_change, text_of_unchanged, text_of_move}
 use Rattle.bpf_session.specs.Points.{Point, Bounds}
 use Rattle.bpf_session.specs.Backward.{marks}
 use Rattle.bpf_session.specs.declared.reply.Reply.{Reply}

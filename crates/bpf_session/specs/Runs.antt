@@ -6,10 +6,10 @@ use Rattle.bpf_entries.specs.Keeping.{Kept}
 use Rattle.bpf_session.specs.Points.{Point, Bounds}
 use Rattle.bpf_session.specs.Sessions.{SessionValue, StandsAt, bounds_of, refusals_after_all}
 use Rattle.counted_io.specs.Lines.{lines}
-use Rattle.bpfdb_commands.specs.Lines.{line_feeds}
-use Rattle.bpfdb_commands.specs.Commands.{command_of}
+use Rattle.bpfdb_script.specs.Lines.{line_feeds}
+use Rattle.bpfdb_script.specs.Commands.{command_of}
 use Rattle.bpf_session.specs.Output.{Walk, walk}
-use Rattle.bpfdb_commands.specs.declared.command.Command.TheVariants.{Quit}
+use Rattle.bpfdb_script.specs.declared.command.Command.TheVariants.{Quit}
 use Rattle.bpf_session.specs.declared.fault.RunFault.{RunFault}
 use Rattle.bpf_session.specs.declared.fault.RunFault.TheVariants.{Read, Write}
 

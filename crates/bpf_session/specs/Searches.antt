@@ -15,10 +15,10 @@ use Rattle.bpf_session.specs.Backward.{back_by, kept_steps, passes}
 use Rattle.bpf_session.specs.Points.{Point}
 use Rattle.bpf_session.specs.Sessions.{HasPast, SessionValue, StandsAt, bounds_of, point_of}
 use Rattle.bpf_session.specs.declared.session.backward.Found.{Found}
-use Rattle.bpfdb_commands.specs.declared.command.Target.{Target}
-use Rattle.bpfdb_commands.specs.declared.command.Target.TheVariants.{Commands, Steps, Next, Continue, Finish}
-use Rattle.bpfdb_replies.specs.declared.why.Why.{Why}
-use Rattle.bpfdb_replies.specs.declared.why.Why.TheVariants.{Done, Start, Break, Watch}
+use Rattle.bpfdb_script.specs.declared.command.Target.{Target}
+use Rattle.bpfdb_script.specs.declared.command.Target.TheVariants.{Commands, Steps, Next, Continue, Finish}
+use Rattle.bpfdb_script.specs.declared.why.Why.{Why}
+use Rattle.bpfdb_script.specs.declared.why.Why.TheVariants.{Done, Start, Break, Watch}
 
 -- The session went back to the n-th latest record that passes a test, or to the oldest one.
 pub record GoesBackTo {K : Type 0} (holds : K → List Kept → Type 0) (test : Test) (n : ℕ) (h : Track) (old new : SessionValue K) (found : Found) : Type 0 where

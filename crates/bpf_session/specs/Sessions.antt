@@ -8,9 +8,9 @@ use Rattle.bpf_session.specs.Outcomes.{Outcome}
 use Rattle.bpf_session.specs.Replies.{IsThere}
 use Rattle.bpf_session.specs.declared.reply.Reply.{Reply}
 use Rattle.bpf_session.specs.declared.reply.Reply.TheVariants.{Forward, Redone}
-use Rattle.bpfdb_commands.specs.declared.refusal.Refusal.{Refusal}
-use Rattle.bpfdb_commands.specs.declared.refusal.Refusal.TheVariants.{OutOfMemory}
-use Rattle.bpfdb_replies.specs.declared.why.Why.TheVariants.{Memory}
+use Rattle.bpfdb_script.specs.declared.refusal.Refusal.{Refusal}
+use Rattle.bpfdb_script.specs.declared.refusal.Refusal.TheVariants.{OutOfMemory}
+use Rattle.bpfdb_script.specs.declared.why.Why.TheVariants.{Memory}
 
 -- The present state with the keeper of the moves that led to it and those that were taken back, the breakpoints and the watches in order
 -- of setting, and the limit of steps of a command.

@@ -9,9 +9,9 @@ use Rattle.bpf_journal.specs.Timelines.{record_of}
 use Rattle.bpf_session.specs.Points.{Point}
 use Rattle.bpf_session.specs.Outcomes.{Outcome, refused, replied}
 use Rattle.bpf_session.specs.declared.reply.Reply.TheVariants as reply
-use Rattle.bpfdb_commands.specs.declared.command.Stop.{Stop}
-use Rattle.bpfdb_commands.specs.declared.command.Stop.TheVariants.{Breakpoint, Watch}
-use Rattle.bpfdb_commands.specs.declared.refusal.Refusal.TheVariants.{OutOfMemory}
+use Rattle.bpfdb_script.specs.declared.command.Stop.{Stop}
+use Rattle.bpfdb_script.specs.declared.command.Stop.TheVariants.{Breakpoint, Watch}
+use Rattle.bpfdb_script.specs.declared.refusal.Refusal.TheVariants.{OutOfMemory}
 
 -- An edit is a marked move, and what was taken back before can't be made again.
 abbrev pub with_edit : ℕ → Edit → Point → Point

@@ -8,8 +8,8 @@ use Rattle.bpf_steps.specs.State.{State}
 use Rattle.bpf_session.specs.Limits.{most_watches}
 use Rattle.bpf_session.specs.Sessions.{SessionValue}
 use Rattle.bpf_session.specs.Stops.{has}
-use Rattle.bpfdb_commands.specs.declared.refusal.Refusal.{Refusal}
-use Rattle.bpfdb_commands.specs.declared.refusal.Refusal.TheVariants.{AddressNotPresent, TableFull, ThereOrNot}
+use Rattle.bpfdb_script.specs.declared.refusal.Refusal.{Refusal}
+use Rattle.bpfdb_script.specs.declared.refusal.Refusal.TheVariants.{AddressNotPresent, TableFull, ThereOrNot}
 
 -- The addresses of so many bytes from one on.
 abbrev pub addresses : ℕ → ℕ → List ℕ

@@ -6,7 +6,7 @@ use crate::breakpoints::Breakpoints;
 use crate::watches::{Seen, Watches};
 use bpf_journal::StopTest;
 use bpf_machine::Cpu;
-use bpfdb_commands::Goal;
+use bpfdb_script::Goal;
 
 /// What stops a run beside its number of steps: a breakpoint, a depth of calls below a floor, and a
 /// change of what was seen of the watched bytes.

@@ -12,8 +12,9 @@ mod script;
 mod session;
 mod watches;
 
-pub use bpfdb_commands::{Command, Count, Goal, Refusal, Span, Stop, Target, View, parse_command};
-pub use bpfdb_replies::{Why, write_place};
+pub use bpfdb_script::{
+    Command, Count, Goal, Refusal, Span, Stop, Target, View, Why, parse_command, write_place,
+};
 pub use counted_io::{Counted, WriteFault};
 pub use fault::RunFault;
 pub use kept::run_kept;

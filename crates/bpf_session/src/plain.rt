@@ -5,7 +5,7 @@ ghost use Rattle.bpf_session.specs.Plain.{RunsPlain, plain_end};
 
 use crate::fault::RunFault;
 use bpf_machine::{Cpu, Status};
-use bpfdb_replies::number_in;
+use bpfdb_script::number_in;
 use counted_io::{Counted, WriteFault, put, put_hexadecimal};
 use std::io::Write;
 

@@ -1,7 +1,6 @@
 //! Replies: the answers to commands.
 
-use bpfdb_commands::View;
-use bpfdb_replies::Why;
+use bpfdb_script::{View, Why};
 
 /// The answer to a command. Its text is written from the session's state.
 #[derive(Clone, Copy)]

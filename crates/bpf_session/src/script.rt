@@ -2,8 +2,8 @@
 ghost use Rattle.std.specs.Prelude.{◌≡◌, List, ℕ, IfErr, IfOk, OnOk, Some, true};
 ghost use Rattle.counted_io.specs.Writing.{Writes};
 ghost use Rattle.bpf_journal.specs.Tracks.{Track};
-ghost use Rattle.bpfdb_commands.specs.Commands.{command_of};
-ghost use Rattle.bpfdb_commands.specs.ReadLines.{Holds};
+ghost use Rattle.bpfdb_script.specs.Commands.{command_of};
+ghost use Rattle.bpfdb_script.specs.ReadLines.{Holds};
 ghost use Rattle.bpf_session.specs.LineSteps.{FailsOnce, ObeysLine};
 ghost use Rattle.bpf_session.specs.Output.{is_quit};
 ghost use Rattle.bpf_session.specs.Replies.{IsThere, text_of_answer};
@@ -14,8 +14,7 @@ use crate::fault::RunFault;
 use crate::reply::Reply;
 use crate::session::Session;
 use bpf_journal::Keeper;
-use bpfdb_commands::{Command, LineBuffer, Refusal, next_line, parse_command};
-use bpfdb_replies::put_refusal;
+use bpfdb_script::{Command, LineBuffer, Refusal, next_line, parse_command, put_refusal};
 use counted_io::{Counted, WriteFault};
 use std::io::{Read, Write};
 

@@ -3,7 +3,7 @@ ghost use Rattle.std.specs.Borrow.{sem};
 ghost use Rattle.std.specs.Prelude.{◌≡◌, ◌≤◌, List, [], length};
 ghost use Rattle.bpf_journal.specs.Histories.{HasHistory, Record, StandsFor};
 ghost use Rattle.bpf_journal.specs.Tracks.{CanOpen, IsCourse, Track, track_of};
-ghost use Rattle.bpfdb_commands.specs.Limits.{greatest_count};
+ghost use Rattle.bpfdb_script.specs.Limits.{greatest_count};
 ghost use Rattle.bpf_session.specs.Accepted.{Accepts};
 ghost use Rattle.bpf_session.specs.Lending.{LendsCourse};
 ghost use Rattle.bpf_session.specs.Meaning.{accepted, does};
@@ -23,7 +23,7 @@ use crate::reply::Reply;
 use crate::watches::Watches;
 use bpf_journal::{Course, Keeper, RingKeeper};
 use bpf_machine::Cpu;
-use bpfdb_commands::{Command, Refusal};
+use bpfdb_script::{Command, Refusal};
 use std::marker::Model;
 
 /// A session of commands.

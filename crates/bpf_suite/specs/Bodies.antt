@@ -9,7 +9,7 @@ use Rattle.hex.specs.Hex.{decode_of}
 use Rattle.bpfdb_limits.specs.Limits.{greatest_count}
 use Rattle.counted_io.specs.Lines.{is_blank, trim_start}
 use Rattle.counted_io.specs.Numerals.{natural, as_u64}
-use Rattle.bpfdb_replies.specs.Shown.{steers}
+use Rattle.bpfdb_script.specs.Shown.{steers}
 
 -- A blank, or a line feed (10) or form feed (12).
 abbrev pub is_space : ℕ → Bool

@@ -18,7 +18,7 @@ use Rattle.bpf_steps.specs.declared.fault.OpenFault.TheVariants as unopened
 use Rattle.bpf_entries.specs.declared.status.Status.{Status}
 use Rattle.bpf_entries.specs.declared.status.Status.TheVariants as status
 use Rattle.bpf_session.specs.Plain.{plain_end}
-use Rattle.bpfdb_replies.specs.Texts.{place}
+use Rattle.bpfdb_script.specs.Texts.{place}
 use Rattle.bpf_suite.specs.Refusals.{refusal_text}
 use Rattle.bpf_suite.specs.Regs.{reg_lines, with_regs}
 use Rattle.bpf_suite.specs.declared.cells.Cell.{Cell}

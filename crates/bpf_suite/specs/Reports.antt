@@ -3,7 +3,7 @@ use Rattle.std.specs.Prelude.{ℕ, ◌≡◌, ◌-◌, ◌==◌, Bool, true, fal
 use Rattle.std.specs.Option.{option_map_or}
 use Rattle.bpf_steps.specs.Platform.{cell_address}
 use Rattle.bpf_steps.specs.State.{State}
-use Rattle.bpfdb_replies.specs.Texts.{text_of_bytes}
+use Rattle.bpfdb_script.specs.Texts.{text_of_bytes}
 use Rattle.counted_io.specs.Counted.{Tally, one_more}
 use Rattle.counted_io.specs.Writing.{Writes}
 use Rattle.bpf_suite.specs.Bodies.{trimmed}

@@ -2,7 +2,7 @@
 use Rattle.std.specs.Prelude.{ℕ, ◌≡◌, slice_range, ⊤, true, ◌==◌, if◌then◌else◌, List, [], ◌∷◌, ◌++◌, codes, decimal, flat_map, Option, Some, None}
 use Rattle.bstr.specs.Utf8.{pieces, spans_from}
 use Rattle.hex.specs.Hex.{encode_lower}
-use Rattle.bpfdb_replies.specs.Shown.{steers}
+use Rattle.bpfdb_script.specs.Shown.{steers}
 use Rattle.bpf_text.specs.Listing.{IsFaultOf}
 use Rattle.bpf_suite.specs.Tests.{cells, has_listing, limit, maps, program, regs}
 use Rattle.bpf_suite.specs.declared.cells.Cell.{Cell}

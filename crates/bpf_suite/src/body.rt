@@ -6,10 +6,10 @@ ghost use Rattle.std.specs.Option.{option_map};
 ghost use Rattle.bpf_suite.specs.Bodies.{are_remarks, bytes_of, fits, fits_byte, fits_digit, is_line, is_pattern, is_phrase, is_remark, is_space, is_title, limit_of, number_of, solid, trim_end, trimmed};
 
 use bpfdb_limits::is_limit;
+use bpfdb_script::steers;
 use bstr::ByteSlice;
 use counted_io::{digit_value, is_blank, natural, trim_start};
 use hex::{FromHexError, decode};
-use bpfdb_replies::steers;
 use std::alloc::{AllocError, Global};
 
 /// Whether a byte is a blank, a line feed or a form feed.

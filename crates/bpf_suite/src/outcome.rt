@@ -2,7 +2,7 @@
 ghost use Rattle.std.specs.Prelude.{◌≡◌, ◌∷◌, ◌++◌, IfErr, IfOk, OnOk, None, [], filter_map};
 ghost use Rattle.bpf_steps.specs.Opening.{Opened};
 ghost use Rattle.bpf_session.specs.Plain.{plain_end};
-ghost use Rattle.bpfdb_replies.specs.Texts.{place};
+ghost use Rattle.bpfdb_script.specs.Texts.{place};
 ghost use Rattle.counted_io.specs.Writing.{WritesAfter};
 ghost use Rattle.bpf_suite.specs.Benches.{Loads, RefusesProgram};
 ghost use Rattle.bpf_suite.specs.Cells.{cell_of};
@@ -22,7 +22,7 @@ use bpf_isa::{MapTable, Program, check};
 use bpf_machine::{Cpu, Edit, OpenFault, Status};
 use bpf_session::run_plain;
 use bpf_text::AsmFault;
-use bpfdb_replies::put_place;
+use bpfdb_script::put_place;
 use counted_io::{Counted, WriteFault, put};
 use std::alloc::{AllocError, Global};
 use std::io::{Write, sink};

@@ -14,10 +14,10 @@ use crate::regs::{RegLine, reg_lines};
 use crate::section::Text;
 use crate::test::Test;
 use bpf_text::{AsmFault, assemble};
+use bpfdb_script::steers;
 use bstr::ByteSlice;
 use counted_io::{Counted, Piece, WriteFault, put, put_all};
 use hex::encode_to_slice;
-use bpfdb_replies::steers;
 use std::alloc::{AllocError, Global};
 use std::io::Write;
 

@@ -15,7 +15,7 @@ use crate::refusal::Refusal;
 use crate::test::Test;
 use crate::values::WrongCells;
 use bpf_machine::{Cpu, Fault, Status};
-use bpfdb_replies::number_in;
+use bpfdb_script::number_in;
 use counted_io::{Counted, Piece, WriteFault, put_all};
 use std::alloc::{AllocError, Global};
 use std::io::Write;

@@ -6,8 +6,8 @@ use Rattle.bpf_isa.specs.Programs.{insn_at}
 use Rattle.bpf_isa.specs.declared.instruction.Insn.{Insn}
 use Rattle.bpf_steps.specs.Next.{next}
 use Rattle.bpf_steps.specs.State.{State}
-use Rattle.bpfdb_replies.specs.Texts.{text_at}
-use Rattle.bpfdb_replies.specs.SlotTexts.{SlotTexts, text_of_slot}
+use Rattle.bpfdb_script.specs.Texts.{text_at}
+use Rattle.bpfdb_script.specs.SlotTexts.{SlotTexts, text_of_slot}
 use Rattle.bpf_trace.specs.Branches.{branch_by, branch_line, compared_by, is_branch, way_text}
 
 -- by the instruction

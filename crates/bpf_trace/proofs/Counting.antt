@@ -10,7 +10,7 @@ use Rattle.std.proofs.lemmas.List.Sums.{sum_by-cons}
 use Rattle.bpf_entries.specs.Status.{has_ended}
 use Rattle.bpf_isa.specs.Programs.{Checked, insn_at}
 use Rattle.bpf_isa.specs.declared.instruction.Insn.{Insn}
-use Rattle.bpfdb_replies.specs.Texts.{text_at}
+use Rattle.bpfdb_script.specs.Texts.{text_at}
 use Rattle.bpf_steps.specs.Next.{next}
 use Rattle.bpf_steps.specs.Runs.{Steps}
 use Rattle.bpf_steps.specs.State.{State, IsState}

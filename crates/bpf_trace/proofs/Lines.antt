@@ -8,7 +8,7 @@ use Rattle.bpf_entries.specs.Status.{has_ended}
 use Rattle.bpf_steps.specs.Next.{next}
 use Rattle.bpf_steps.specs.Runs.{Advances}
 use Rattle.bpf_steps.specs.State.{State}
-use Rattle.bpfdb_replies.proofs.Telling.{Telling, Telling-start, Telling-step, Telling-end}
+use Rattle.bpfdb_script.proofs.Telling.{Telling, Telling-start, Telling-step, Telling-end}
 use Rattle.bpf_session.specs.Plain.{plain_end}
 use Rattle.bpf_trace.specs.Runs.{steps_of}
 use Rattle.bpf_trace.specs.Traces.{end_line, line_of, lines_from, lines_text, trace_text}

@@ -9,7 +9,7 @@ use Rattle.std.proofs.lemmas.List.Elements.{All-append, All-nil}
 use Rattle.std.proofs.lemmas.List.FromFn.{map-range_with_len_more}
 use Rattle.bpf_isa.specs.Programs.{Checked, insn_at}
 use Rattle.bpf_isa.specs.declared.instruction.Insn.{Insn}
-use Rattle.bpfdb_replies.specs.Texts.{text_at}
+use Rattle.bpfdb_script.specs.Texts.{text_at}
 use Rattle.bpf_trace.specs.Texts.{LiesIn, slot_text, text_in}
 use Rattle.bpf_trace.specs.declared.texts.Span.{Span}
 

@@ -18,7 +18,7 @@ use Rattle.bpf_steps.proofs.Resolved.{start-within}
 use Rattle.bpf_machine.proofs.Fitting.{change_fits}
 use Rattle.bpf_origin.specs.Writes.{written}
 use Rattle.bpf_origin.specs.declared.place.Part.TheVariants as part
-use Rattle.bpfdb_replies.specs.Texts.{text_at}
+use Rattle.bpfdb_script.specs.Texts.{text_at}
 use Rattle.bpf_trace.specs.Taken.{Took, parts_by, register_by}
 use Rattle.bpf_trace.specs.Texts.{slot_text, texts_of}
 use Rattle.bpf_trace.specs.Traces.{step_line, written_text}

@@ -10,8 +10,8 @@ use Rattle.bpf_isa.specs.declared.instruction.Source.TheVariants.{Immediate, Reg
 use Rattle.bpf_steps.specs.Next.{next}
 use Rattle.bpf_steps.specs.State.{State, register}
 use Rattle.bpf_origin.specs.Texts.{value_text}
-use Rattle.bpfdb_replies.specs.Texts.{text_at}
-use Rattle.bpfdb_replies.specs.SlotTexts.{SlotTexts, text_of_slot}
+use Rattle.bpfdb_script.specs.Texts.{text_at}
+use Rattle.bpfdb_script.specs.SlotTexts.{SlotTexts, text_of_slot}
 
 -- A register that it compared, whole, and a second one, where it isn't a number.
 unfoldable pub compared_text : State → ℕ → List ℕ

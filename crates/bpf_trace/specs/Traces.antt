@@ -9,7 +9,7 @@ use Rattle.bpf_origin.specs.Texts.{part_text}
 use Rattle.bpf_origin.specs.Writes.{written}
 use Rattle.bpf_origin.specs.declared.place.Part.{Part}
 use Rattle.bpf_session.specs.Plain.{plain_end}
-use Rattle.bpfdb_replies.specs.Texts.{place, text_at}
+use Rattle.bpfdb_script.specs.Texts.{place, text_at}
 use Rattle.bpf_trace.specs.Branches.{branch_line}
 use Rattle.bpf_trace.specs.Runs.{steps_of}
 use Rattle.bpf_trace.specs.declared.trace.Shown.{Shown}

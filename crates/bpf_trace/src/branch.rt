@@ -12,7 +12,7 @@ use crate::parts::add_value;
 use crate::texts::Texts;
 use bpf_isa::{Insn, Reg, Source};
 use bpf_machine::{Cpu, Ended};
-use bpfdb_replies::{SlotTexts, text_of_slot};
+use bpfdb_script::{SlotTexts, text_of_slot};
 use counted_io::{Counted, WriteFault, put};
 use std::io::Write;
 

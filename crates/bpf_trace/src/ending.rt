@@ -1,11 +1,11 @@
 //! The line of where a run ended.
 ghost use Rattle.std.specs.Prelude.{◌++◌, codes};
 ghost use Rattle.bpf_trace.specs.Traces.{end_line, limit_line};
-ghost use Rattle.bpfdb_replies.specs.Texts.{place};
+ghost use Rattle.bpfdb_script.specs.Texts.{place};
 ghost use Rattle.counted_io.specs.Writing.{WritesAfter};
 
 use bpf_machine::Cpu;
-use bpfdb_replies::put_place;
+use bpfdb_script::put_place;
 use counted_io::{Counted, WriteFault, put, put_decimal};
 use std::io::Write;
 

@@ -11,7 +11,7 @@ ghost use Rattle.bpf_trace.specs.Traces.{written_text};
 use crate::line::Line;
 use bpf_entries::{FRAME_LEN, frame_base};
 use bpf_machine::{Change, Cpu};
-use bpfdb_replies::number_in;
+use bpfdb_script::number_in;
 use byteorder::{ByteOrder, LittleEndian};
 
 /// Adds each part that the step with this change wrote, in the machine after it.

@@ -7,7 +7,7 @@ ghost use Rattle.counted_io.specs.Writing.{WritesAfter};
 use crate::ending::put_end;
 use bpf_isa::Program;
 use bpf_machine::{Cpu, Ended};
-use bpfdb_replies::put_at;
+use bpfdb_script::put_at;
 use counted_io::{Counted, WriteFault, put, put_decimal};
 use std::alloc::{AllocError, Global};
 use std::io::Write;

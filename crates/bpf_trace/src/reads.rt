@@ -12,7 +12,7 @@ ghost use Rattle.bpf_trace.specs.Written.{is_stop as is_stop_of, read_unwritten}
 use crate::marks::{ROOM, first_unwritten};
 use bpf_isa::{Address, Helper, Insn, LoadSize, Width};
 use bpf_machine::{Change, Cpu};
-use bpfdb_replies::number_in;
+use bpfdb_script::number_in;
 
 /// The address of the first such byte that the next step reads, which does this.
 #[inline(always)]

@@ -9,7 +9,7 @@ ghost use Rattle.counted_io.specs.Writing.{WritesAfter};
 use crate::line::Line;
 use crate::parts::add_parts;
 use bpf_machine::{Change, Cpu};
-use bpfdb_replies::put_at;
+use bpfdb_script::put_at;
 use counted_io::{Counted, WriteFault, put, put_decimal};
 use std::io::Write;
 

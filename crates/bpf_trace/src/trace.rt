@@ -15,7 +15,7 @@ use crate::line::Line;
 use crate::step::put_step;
 use crate::texts::Texts;
 use bpf_machine::Cpu;
-use bpfdb_replies::SlotTexts;
+use bpfdb_script::SlotTexts;
 use counted_io::{Counted, WriteFault};
 use std::alloc::Global;
 use std::io::Write;

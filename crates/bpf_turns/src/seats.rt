@@ -10,8 +10,8 @@ use bpf_link::{
     Found, LinkFault, Object, Plan, SectionHeader, Side, SymbolEntry, is_closed, name_at,
     section_bytes, symbol_place,
 };
-use std::alloc::Global;
 use input_texts::{name_in, offset_in};
+use std::alloc::Global;
 
 /// Where a program lies that is called.
 #[derive(Clone, Copy)]

@@ -4,7 +4,7 @@ use Rattle.std.specs.Prelude.{Result, take}
 use Rattle.counted_io.specs.Counted.{Tally}
 use Rattle.counted_io.specs.Writing.{WritesAfter}
 use Rattle.counted_io.proofs.Appending.{WritesAfter-WritesAfter}
-use Rattle.bpfdb_replies.proofs.Telling.{WritesAfter-nothing}
+use Rattle.bpfdb_script.proofs.Telling.{WritesAfter-nothing}
 use Rattle.counted_io.specs.declared.fault.WriteFault.{WriteFault}
 use Rattle.bpf_entries.specs.Keeping.{Kept}
 use Rattle.bpf_journal.specs.Histories.{Record}

@@ -15,7 +15,7 @@ use Rattle.bpf_origin.specs.Asked.{answer_about}
 use Rattle.bpf_origin.specs.Pasts.{IsSameKeeper, Stand, StandsThere, gone_back, gone_from}
 use Rattle.bpf_origin.specs.Reads.{conditions}
 use Rattle.bpf_origin.specs.declared.place.Part.{Part}
-use Rattle.bpfdb_replies.specs.Texts.{place}
+use Rattle.bpfdb_script.specs.Texts.{place}
 use Rattle.bpf_origin.specs.declared.question.Told.{Told}
 use Rattle.bpf_origin.specs.declared.question.Extent.TheVariants.{Whole}
 use Rattle.bpf_origin.proofs.Backs.{back_on, keeps_on}

@@ -4,7 +4,7 @@ use Rattle.std.specs.Prelude.{Result, ◌↔◌, ◌==◌, not, if◌then◌else
 use Rattle.std.proofs.lemmas.Bool.Decides.{nat_tests}
 use Rattle.counted_io.specs.Counted.{Tally}
 use Rattle.counted_io.specs.Writing.{WritesAfter}
-use Rattle.bpfdb_replies.proofs.Telling.{WritesAfter-nothing}
+use Rattle.bpfdb_script.proofs.Telling.{WritesAfter-nothing}
 use Rattle.counted_io.specs.declared.fault.WriteFault.{WriteFault}
 use Rattle.bpf_isa.specs.Programs.{Checked, insn_at}
 use Rattle.bpf_isa.specs.declared.instruction.Insn.{Insn}

@@ -13,8 +13,8 @@ use Rattle.bpf_origin.specs.Texts.{move_text, part_text}
 use Rattle.bpf_origin.specs.declared.place.Part.{Part}
 use Rattle.bpf_origin.specs.declared.question.Question.{Question}
 use Rattle.bpf_origin.specs.declared.question.Extent.TheVariants.{Whole}
-use Rattle.bpfdb_replies.specs.Texts.{place}
-use Rattle.bpfdb_replies.specs.SlotTexts.{SlotTexts, text_of_slot}
+use Rattle.bpfdb_script.specs.Texts.{place}
+use Rattle.bpfdb_script.specs.SlotTexts.{SlotTexts, text_of_slot}
 use Rattle.bpf_whynot.specs.Reach.{can_from, is_goal}
 
 -- What is asked: the slots, how the answer about values is made, and whether that is left out; and what is told of the slots of the line of a move.

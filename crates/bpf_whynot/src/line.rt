@@ -14,7 +14,7 @@ use crate::standing::Standing;
 use bpf_isa::{Insn, Reg, Source};
 use bpf_machine::Cpu;
 use bpf_origin::{Part, Parts, put_part, register_part};
-use bpfdb_replies::{SlotTexts, put_at, text_of_slot};
+use bpfdb_script::{SlotTexts, put_at, text_of_slot};
 use counted_io::{Counted, Piece, WriteFault, put, put_all, put_decimal};
 use std::io::Write;
 

@@ -1,7 +1,7 @@
 //! What is asked, and how.
 
 use bpf_origin::Question;
-use bpfdb_replies::SlotTexts;
+use bpfdb_script::SlotTexts;
 
 /// What is asked about the branches, and how.
 #[derive(Clone, Copy)]

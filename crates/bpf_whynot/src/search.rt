@@ -2,7 +2,7 @@
 
 use crate::reach::Reach;
 use bpf_origin::Question;
-use bpfdb_replies::SlotTexts;
+use bpfdb_script::SlotTexts;
 
 /// What is asked, and how.
 #[derive(Clone, Copy)]

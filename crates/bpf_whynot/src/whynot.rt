@@ -20,7 +20,7 @@ use crate::search::Search;
 use crate::standing::Standing;
 use bpf_machine::Cpu;
 use bpf_origin::{Extent, Past, Told, Wanted, put_answer};
-use bpfdb_replies::put_place;
+use bpfdb_script::put_place;
 use counted_io::{Counted, Piece, WriteFault, put, put_all};
 use std::io::Write;
 

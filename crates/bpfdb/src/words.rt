@@ -1,9 +1,9 @@
 //! The words of the command line.
 ghost use Rattle.std.specs.Prelude.{◌≡◌, IfSome, map, string_bytes};
-ghost use Rattle.bpfdb_replies.specs.Shown.{shown};
+ghost use Rattle.bpfdb_script.specs.Shown.{shown};
 
 use bpfdb_faults::JobFault;
-use bpfdb_replies::shown_name;
+use bpfdb_script::shown_name;
 use std::alloc::Global;
 use std::env;
 use std::io::ErrorKind;

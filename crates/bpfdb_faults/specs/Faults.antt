@@ -13,8 +13,8 @@ use Rattle.bpf_ring.specs.Opening.{journal_fault}
 use Rattle.bpf_origin.specs.Asked.{what_fault}
 use Rattle.bpf_trace.specs.Traces.{limit_line}
 use Rattle.bpf_whynot.specs.Asked.{goal_fault}
-use Rattle.bpfdb_commands.specs.Refusals as commands
-use Rattle.bpfdb_replies.specs.Shown.{shown}
+use Rattle.bpfdb_script.specs.Refusals as commands
+use Rattle.bpfdb_script.specs.Shown.{shown}
 use Rattle.input_texts.specs.TraceFaults.{line_fault}
 use Rattle.bpfdb_faults.specs.declared.fault.JobFault.{JobFault}
 use Rattle.bpfdb_faults.specs.declared.fault.JobFault.TheVariants.{Unreadable, NotText, Refused, Input, Output, Memory, StepLimit}

@@ -10,7 +10,7 @@ use crate::refusal::JobRefusal;
 use bpf_link::{LinkFault, Source, helper_name};
 use bpf_suite::{Refusal, put_numbered, slot_of};
 use bpf_trace::put_limit;
-use bpfdb_replies::put_shown;
+use bpfdb_script::put_shown;
 use counted_io::{Counted, Piece, WriteFault, put, put_all};
 use std::io::Write;
 
@@ -60,7 +60,7 @@ fn put_refusal<E: Write>(
             let (number, text) = (fault.number(), fault.text());
             put_refused(errors, so_far, b"refused J", number, None, text)
         }
-        JobRefusal::Script(refusal) => bpfdb_replies::put_refusal(errors, so_far, *refusal),
+        JobRefusal::Script(refusal) => bpfdb_script::put_refusal(errors, so_far, *refusal),
         JobRefusal::What(fault) => {
             let (number, text) = (fault.number(), fault.text());
             put_refused(errors, so_far, b"refused V", number, None, text)

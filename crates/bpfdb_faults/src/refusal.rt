@@ -7,7 +7,7 @@ use bpf_ring::JournalFault;
 use bpf_suite::{Refusal as ProgramRefusal, SectionFault};
 use bpf_text::AsmFault;
 use bpf_whynot::GoalFault;
-use bpfdb_commands::Refusal;
+use bpfdb_script::Refusal;
 use input_texts::LineFault;
 
 /// Why a job is refused, in the order in which it is looked at.

@@ -1,16 +1,16 @@
 //! What goes to standard output at once, and what goes to standard error.
 ghost use Rattle.std.specs.Prelude.{◌≡◌, ◌≤◌, ◌++◌, OnErr, OnOk, [], codes};
 ghost use Rattle.counted_io.specs.Writing.{Writes, WritesAfter};
-ghost use Rattle.bpfdb_replies.specs.Texts.{place};
+ghost use Rattle.bpfdb_script.specs.Texts.{place};
 ghost use Rattle.bpfdb_faults.specs.Streams.{Told, stream};
 ghost use Rattle.bpfdb_faults.specs.Faults.{line_of};
-ghost use Rattle.bpfdb_replies.specs.Shown.{shown_lines};
+ghost use Rattle.bpfdb_script.specs.Shown.{shown_lines};
 ghost use Rattle.bpfdb_faults.specs.declared.fault.JobFault.TheVariants.{Output};
 
 use crate::fault::JobFault;
 use crate::line::put_line;
 use bpf_machine::Cpu;
-use bpfdb_replies::{put_shown_lines, write_place};
+use bpfdb_script::{put_shown_lines, write_place};
 use counted_io::{Counted, WriteFault, put, write_text};
 use std::io::Write;
 

@@ -4,8 +4,8 @@ use Rattle.bpf_journal.specs.Tracks.{RingHolds, Track, ring_room}
 use Rattle.bpf_ring.specs.declared.keeper.RingKeeper.{RingKeeper}
 use Rattle.bpf_session.specs.Points.{Bounds, Point}
 use Rattle.bpf_session.specs.Sessions.{HasPast, SessionValue, StandsAt, bounds_of, point_of, track_at}
-use Rattle.bpfdb_commands.specs.Commands.{command_of}
-use Rattle.bpfdb_commands.specs.declared.refusal.Refusal.{Refusal}
+use Rattle.bpfdb_script.specs.Commands.{command_of}
+use Rattle.bpfdb_script.specs.declared.refusal.Refusal.{Refusal}
 use Rattle.bpfdb_jobs.specs.Obeying.{Comes, ObeysLine, arrived}
 use Rattle.bpfdb_jobs.specs.Origins.{Arrival, obeyed, obeyed_line}
 use Rattle.counted_io.specs.Lines.{lines}

@@ -11,7 +11,7 @@ use Rattle.bpf_journal.specs.Timelines.{Moment}
 use Rattle.bpf_journal.specs.Tracks.{RingHolds, Track, ring_room}
 use Rattle.bpf_ring.specs.declared.keeper.RingKeeper.{RingKeeper}
 use Rattle.bpf_link.specs.declared.fault.LinkFault.{LinkFault}
-use Rattle.bpf_names.specs.declared.names.Names.{Names}
+use Rattle.bpf_lines.specs.declared.place_names.Names.{Names}
 use Rattle.bpf_steps.specs.State.{State, initial}
 use Rattle.bpf_origin.specs.Answers.{Answer}
 use Rattle.bpf_origin.specs.Asked.{answer_about, parts_asked}
@@ -24,7 +24,7 @@ use Rattle.bpf_origin.specs.declared.what.What.{What}
 use Rattle.bpf_session.specs.Plain.{plain_end, plain_steps}
 use Rattle.bpf_session.specs.Points.{Bounds, Point}
 use Rattle.bpf_session.specs.Sessions.{HasPast, SessionValue, bounds_of, track_at}
-use Rattle.bpfdb_commands.specs.declared.refusal.Refusal.{Refusal}
+use Rattle.bpfdb_script.specs.declared.refusal.Refusal.{Refusal}
 use Rattle.bpfdb_jobs.specs.Jobs.{Prints, arrival_of, named_print, section_of, start_of}
 use Rattle.bpfdb_jobs.specs.Obeying.{ObeysScript, arrived}
 use Rattle.bpfdb_jobs.specs.Openings.{AreAskedParts, HasArrived, HasTail, IsOpening, IsStart}

@@ -22,7 +22,7 @@ use Rattle.bpf_link.specs.declared.linker.Linked.{Linked}
 use Rattle.bpf_link.specs.declared.stubs.Stub.{Stub}
 use Rattle.bpf_lines.specs.Objects.{AreBehind, AreLinesOf, program_table}
 use Rattle.bpf_lines.specs.declared.objects.ObjectLines.{ObjectLines}
-use Rattle.bpf_names.specs.declared.names.Names.{Names}
+use Rattle.bpf_lines.specs.declared.place_names.Names.{Names}
 use Rattle.bpf_lines.specs.Lookups.{AreListingSlots}
 use Rattle.bpf_lines.specs.Places.{is_place}
 use Rattle.bpf_steps.specs.Platform.{context_limit}
@@ -48,8 +48,8 @@ use Rattle.bpf_whynot.specs.Answers.{Query, why_not}
 use Rattle.bpf_whynot.specs.Asked.{goals_in}
 use Rattle.bpf_whynot.specs.Reach.{TellsReach}
 use Rattle.bpf_whynot.specs.declared.fault.GoalFault.{GoalFault}
-use Rattle.bpfdb_commands.specs.declared.refusal.Refusal.{Refusal}
-use Rattle.bpfdb_replies.specs.Texts.{place}
+use Rattle.bpfdb_script.specs.declared.refusal.Refusal.{Refusal}
+use Rattle.bpfdb_script.specs.Texts.{place}
 use Rattle.bpfdb_jobs.specs.MapLines.{linked_told}
 use Rattle.bpfdb_jobs.specs.Origins.{Arrival, AreNamesOf, Asks, IsTail, answer_by, arrival, branches_by, followed_by, found_text, named_by, question_by, status_of_extent}
 use Rattle.bpfdb_jobs.specs.declared.job.Job.{Job}

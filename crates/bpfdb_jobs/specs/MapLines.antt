@@ -3,7 +3,7 @@ use Rattle.std.specs.Prelude.{ℕ, List, [], ◌∷◌, ◌++◌, Option, Some, 
 use Rattle.std.specs.List.{join_by}
 use Rattle.bpf_isa.specs.declared.maps.MapShape.{MapShape}
 use Rattle.bpf_link.specs.Names.{built, short_at}
-use Rattle.bpfdb_replies.specs.Shown.{shown}
+use Rattle.bpfdb_script.specs.Shown.{shown}
 
 -- A map as `--maps` names it: its value size, an x, its entries.
 abbrev pub shape_text : MapShape → List ℕ

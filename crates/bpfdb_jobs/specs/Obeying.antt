@@ -6,9 +6,9 @@ use Rattle.bpf_session.specs.Meaning.{does}
 use Rattle.bpf_session.specs.Output.{is_quit}
 use Rattle.bpf_session.specs.Points.{Point}
 use Rattle.bpf_session.specs.Sessions.{HasPast, SessionValue, StandsAt, bounds_of, point_of}
-use Rattle.bpfdb_commands.specs.Commands.{command_of}
-use Rattle.bpfdb_commands.specs.declared.command.Command.{Command}
-use Rattle.bpfdb_commands.specs.declared.refusal.Refusal.{Refusal}
+use Rattle.bpfdb_script.specs.Commands.{command_of}
+use Rattle.bpfdb_script.specs.declared.command.Command.{Command}
+use Rattle.bpfdb_script.specs.declared.refusal.Refusal.{Refusal}
 use Rattle.bpfdb_jobs.specs.Origins.{Arrival, obeyed, obeyed_by, obeyed_line}
 
 -- Where a session stands that is behind so many moves.

@@ -14,7 +14,7 @@ use Rattle.bpfdb_jobs.specs.declared.job.Job.{Job}
 use Rattle.bpfdb_jobs.specs.declared.job.LinkedObject.{LinkedObject}
 use Rattle.bpfdb_options.specs.declared.subcommand.Subcommand.{Subcommand}
 use Rattle.bpfdb_options.specs.declared.subcommand.Subcommand.TheVariants.{Asm, Batch, Lines, Link, Test, Whynot}
-use Rattle.bpfdb_replies.specs.SlotTexts.{SlotTexts}
+use Rattle.bpfdb_script.specs.SlotTexts.{SlotTexts}
 
 -- Subcommands that check FILE as a program.
 abbrev pub is_check : Subcommand → Bool

@@ -17,24 +17,24 @@ use Rattle.bpf_origin.specs.declared.question.Question.{Question}
 use Rattle.bpf_origin.specs.declared.what.What.{What}
 use Rattle.bpf_link.specs.Names.{fault_names}
 use Rattle.bpf_link.specs.declared.fault.LinkFault.{LinkFault}
-use Rattle.bpf_names.specs.Maps.{AreNames, IsNamesRefusal}
-use Rattle.bpf_names.specs.Texts.{named_text}
-use Rattle.bpf_names.specs.declared.names.Names.{Names}
+use Rattle.bpf_lines.specs.NamedMaps.{AreNames, IsNamesRefusal}
+use Rattle.bpf_lines.specs.NamedTexts.{named_text}
+use Rattle.bpf_lines.specs.declared.place_names.Names.{Names}
 use Rattle.bpf_remote.specs.Moves.{moves_after}
 use Rattle.bpf_session.specs.Meaning.{does}
 use Rattle.bpf_session.specs.Outcomes.{Outcome}
 use Rattle.bpf_session.specs.Output.{is_quit}
 use Rattle.bpf_session.specs.Plain.{plain_end, plain_steps}
 use Rattle.bpf_session.specs.Points.{Bounds, Point, opening}
-use Rattle.bpfdb_commands.specs.Commands.{command_of}
-use Rattle.bpfdb_commands.specs.Commands as commands
-use Rattle.bpfdb_commands.specs.declared.command.Command.{Command}
-use Rattle.bpfdb_commands.specs.declared.refusal.Refusal.{Refusal}
+use Rattle.bpfdb_script.specs.Commands.{command_of}
+use Rattle.bpfdb_script.specs.Commands as commands
+use Rattle.bpfdb_script.specs.declared.command.Command.{Command}
+use Rattle.bpfdb_script.specs.declared.refusal.Refusal.{Refusal}
 use Rattle.bpfdb_jobs.specs.declared.job.LinkedObject.{LinkedObject}
 use Rattle.bpfdb_options.specs.declared.options.Options.{Options}
-use Rattle.bpfdb_replies.specs.Texts.{place}
+use Rattle.bpfdb_script.specs.Texts.{place}
 use Rattle.counted_io.specs.Lines.{lines}
-use Rattle.bpfdb_replies.specs.SlotTexts.{SlotTexts}
+use Rattle.bpfdb_script.specs.SlotTexts.{SlotTexts}
 
 -- What a text asks of a state, where there is one; why that is refused.
 abbrev pub Asks : Option (Bor (List ℕ)) → State → Option What → Type 0

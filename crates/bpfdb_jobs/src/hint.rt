@@ -17,7 +17,7 @@ use crate::row::line_at;
 use bpf_isa::{LoadFault, PieceFault, WordFault};
 use bpf_text::line_table;
 use bpfdb_faults::{JobRefusal, flush_after};
-use bpfdb_replies::put_shown;
+use bpfdb_script::put_shown;
 use counted_io::{Counted, Piece, WriteFault, put, put_all};
 use std::alloc::Global;
 use std::io::Write;

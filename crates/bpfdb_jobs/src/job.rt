@@ -2,7 +2,7 @@
 use bpf_isa::MapShape;
 use bpf_link::Linked;
 use bpfdb_options::{Options, Subcommand};
-use bpfdb_replies::SlotTexts;
+use bpfdb_script::SlotTexts;
 
 /// A subcommand, with the bytes of its files and its options.
 #[derive(Clone, Copy)]

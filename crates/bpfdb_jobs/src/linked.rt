@@ -13,7 +13,7 @@ use crate::whynot::asked;
 use bpf_lines::{is_place, object_places, object_slots};
 use bpf_link::{LinkFault, Linked};
 use bpfdb_options::{Options, Subcommand};
-use bpfdb_replies::SlotTexts;
+use bpfdb_script::SlotTexts;
 use counted_io::Counted;
 use std::alloc::Global;
 use std::io::{Read, Write};

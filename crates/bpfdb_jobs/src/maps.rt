@@ -7,7 +7,7 @@ ghost use Rattle.bpfdb_jobs.specs.MapLines.{count_line, linked_text, linked_told
 use bpf_isa::MapShape;
 use bpf_link::short_at;
 use bpfdb_faults::flush_after;
-use bpfdb_replies::put_shown;
+use bpfdb_script::put_shown;
 use counted_io::{Counted, Piece, WriteFault, put, put_all};
 use std::io::Write;
 

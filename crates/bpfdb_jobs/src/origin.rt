@@ -18,16 +18,16 @@ use crate::object::{refuse, section_of};
 use crate::opening::{session_of, timeline_of, wanted_of};
 use crate::script::obey_script;
 use bpf_journal::{JournalFault, Keeper, RingKeeper, Timeline};
+use bpf_lines::{Names, map_names, put_named};
 use bpf_link::LinkFault;
 use bpf_machine::Cpu;
-use bpf_names::{Names, map_names, put_named};
 use bpf_origin::{
     Extent, Part, Parts, Question, Told, Wanted, What, WhatFault, parts_asked, put_answer,
 };
 use bpf_session::run_kept;
 use bpf_whynot::{Found, Query, find_branches};
 use bpfdb_faults::{JobFault, JobRefusal, flush_after, give_up};
-use bpfdb_replies::write_place;
+use bpfdb_script::write_place;
 use counted_io::{Counted, WriteFault, put};
 use std::alloc::{AllocError, Global};
 use std::io::Write;

@@ -11,7 +11,7 @@ use bpf_journal::RingKeeper;
 use bpf_remote::moves_after;
 use bpf_session::Session;
 use bpf_session::laws::no_answer_is_of_memory;
-use bpfdb_commands::{Command, Refusal, parse_command};
+use bpfdb_script::{Command, Refusal, parse_command};
 use counted_io::sides;
 
 /// Obeys the lines of a script one after another, up to its end, the first `quit` or the first line

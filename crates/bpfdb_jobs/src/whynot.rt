@@ -24,7 +24,7 @@ use bpf_lines::{is_place, listing_slots};
 use bpf_origin::{Question, Told, Wanted};
 use bpf_whynot::{Aim, AimFault, GoalFault, Search, put_whynot};
 use bpfdb_faults::{JobFault, JobRefusal, flush_after, give_up};
-use bpfdb_replies::write_place;
+use bpfdb_script::write_place;
 use counted_io::{Counted, WriteFault, put};
 use std::alloc::Global;
 use std::io::Write;

@@ -3,8 +3,8 @@ ghost use Rattle.std.specs.Prelude.{◌≡◌, IfOk};
 ghost use Rattle.suite_files.specs.Asks.{IsAsked, given_in, packet_in};
 
 use bpf_packet::Packet;
-use std::alloc::{AllocError, Global};
 use input_texts::{Text, Word, are_options, head_of, once_of, option_lines, values_of};
+use std::alloc::{AllocError, Global};
 
 /// How many objects may be joined to one.
 const MOST_WITH: usize = 16;

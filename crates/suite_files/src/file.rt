@@ -12,8 +12,8 @@ use crate::place::Place;
 use crate::put::{PutFault, put_piece};
 use crate::shelf::Shelved;
 use bpfdb_files::Opener;
-use std::alloc::{AllocError, Global};
 use input_texts::{Piece, Word, front, head_of, pieces};
+use std::alloc::{AllocError, Global};
 
 /// The most bytes of a file of tests, with its files in it.
 const MOST_BYTES: usize = 67_108_864;

@@ -14,8 +14,8 @@ use bpf_link::{
     LinkFault, LinkOptions, Linked, MOST_STUBS, Stub, fault_names, link_with, stubs_in,
 };
 use counted_io::{Counted, WriteFault};
-use std::alloc::{AllocError, Global};
 use input_texts::Text;
+use std::alloc::{AllocError, Global};
 
 /// A program, and the table of where its slots stand in its source, if that is wanted.
 #[derive(Drop)]

@@ -2,8 +2,8 @@
 ghost use Rattle.std.specs.Prelude.{◌≡◌, IfOk};
 ghost use Rattle.suite_files.specs.Shelves.{is_allowed, path_of};
 
-use std::alloc::{AllocError, Global};
 use input_texts::{is_absolute, is_below};
+use std::alloc::{AllocError, Global};
 
 /// Where names of files begin, and what is wanted of objects.
 #[derive(Clone, Copy)]

@@ -19,8 +19,8 @@ use crate::shelf::{NameFault, Shelved, shelve};
 use bpf_join::ChainFault;
 use bpfdb_files::Opener;
 use counted_io::{find_blank, natural, trim_start};
-use std::alloc::{AllocError, Global};
 use input_texts::{Word, feeds, head_of, is_empty, memory_text, with_lines, words_text};
+use std::alloc::{AllocError, Global};
 
 /// Why there is nothing in place of a piece.
 #[derive(Drop)]

@@ -10,8 +10,8 @@ use crate::fault::NamedFault;
 use crate::place::{Place, is_allowed, path_of};
 use bpfdb_files::{FileKind, FirstFault, Opener, read_kind};
 use counted_io::Counted;
-use std::alloc::Global;
 use input_texts::{packet_at, packet_starts};
+use std::alloc::Global;
 
 /// The most files that a file of tests may name.
 const MOST_FILES: usize = 4_096;

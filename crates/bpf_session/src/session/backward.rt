@@ -14,8 +14,7 @@ ghost use Rattle.bpf_session.specs.Stops.{has, some_differs};
 use super::Session;
 use crate::reply::Reply;
 use bpf_journal::{Keeper, Stays, Taken};
-use bpfdb_commands::{Command, Target};
-use bpfdb_replies::Why;
+use bpfdb_script::{Command, Target, Why};
 
 /// Where a backward command has gone.
 #[derive(Clone, Copy)]

@@ -7,7 +7,7 @@ use super::Session;
 use crate::reply::Reply;
 use bpf_journal::{Keeper, TimelineFault};
 use bpf_machine::Edit;
-use bpfdb_commands::Refusal;
+use bpfdb_script::Refusal;
 
 impl<K: Keeper> Session<K> {
     /// Makes an edit, a marked move. Q15 where the keeper can't keep it.

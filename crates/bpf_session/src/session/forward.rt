@@ -15,8 +15,7 @@ use crate::halting::{Halting, floor_of, most_of};
 use crate::reply::Reply;
 use crate::watches::Seen;
 use bpf_journal::{Keeper, Run};
-use bpfdb_commands::{Goal, Refusal};
-use bpfdb_replies::Why;
+use bpfdb_script::{Goal, Refusal, Why};
 
 impl<K: Keeper> Session<K> {
     /// Takes the least number of steps, at least one, after which a stop holds: the machine has

@@ -7,8 +7,7 @@ ghost use Rattle.bpf_session.specs.Sessions.{HasPast, Obeys};
 use super::Session;
 use crate::reply::Reply;
 use bpf_journal::Keeper;
-use bpfdb_commands::{Count, Refusal};
-use bpfdb_replies::Why;
+use bpfdb_script::{Count, Refusal, Why};
 
 /// The most steps that are made again at once.
 const LONGEST: u64 = 63;

@@ -11,7 +11,7 @@ ghost use Rattle.bpf_session.specs.Sessions.{HasPast, point_of};
 use super::Session;
 use bpf_journal::Keeper;
 use bpf_machine::{Edit, EditFault};
-use bpfdb_commands::{Command, Goal, Refusal, Stop, Target, View};
+use bpfdb_script::{Command, Goal, Refusal, Stop, Target, View};
 
 impl<K: Keeper> Session<K> {
     /// Why a command is refused, if it is: of the refusals that hold the one with the least number.

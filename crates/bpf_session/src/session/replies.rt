@@ -10,9 +10,8 @@ use super::Session;
 use crate::reply::Reply;
 use crate::watches::byte_at;
 use bpf_journal::Keeper;
-use bpfdb_commands::View;
-use bpfdb_replies::{
-    put_breaks, put_bytes, put_change, put_frames, put_history, put_instructions, put_move,
+use bpfdb_script::{
+    View, put_breaks, put_bytes, put_change, put_frames, put_history, put_instructions, put_move,
     put_state, put_trace, put_unchanged,
 };
 use counted_io::{Counted, WriteFault, put};

@@ -5,7 +5,7 @@ ghost use Rattle.bpf_session.specs.WatchRuns.{SetsWatches, seen_at, with_run, wi
 use super::Session;
 use crate::watches::{Run, Sight};
 use bpf_journal::Keeper;
-use bpfdb_commands::Refusal;
+use bpfdb_script::Refusal;
 
 impl<K: Keeper> Session<K> {
     /// Watches the bytes of a run. Q6 where some of them aren't present, Q10 where there isn't room

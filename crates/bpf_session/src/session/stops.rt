@@ -8,7 +8,7 @@ ghost use Rattle.bpf_session.specs.Tables.{with_stop, without_stop};
 use super::Session;
 use crate::reply::Reply;
 use bpf_journal::Keeper;
-use bpfdb_commands::{Command, Stop};
+use bpfdb_script::{Command, Stop};
 
 impl<K: Keeper> Session<K> {
     /// Sets a breakpoint or a watch.

@@ -1,7 +1,7 @@
 use Rattle.std.proofs.Common.{◌≡◌, ◌-◌, arith, false, length, length-drop}
 use Rattle.std.specs.Prelude.{drop, take}
 use Rattle.std.proofs.lemmas.List.{take_all}
-use Rattle.bpfdb_replies.proofs.Telling.{Telling-start, Telling-step, Telling-end}
+use Rattle.bpfdb_script.proofs.Telling.{Telling-start, Telling-step, Telling-end}
 use Rattle.bpf_cover.proofs.Grouping.{next-group, no-group}
 use Rattle.bpf_cover.specs.Sources.{file_text}
 use Rattle.bpf_cover.proofs.sources.put_files.Goals as goal

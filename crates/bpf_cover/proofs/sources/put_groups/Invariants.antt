@@ -1,6 +1,6 @@
 use Rattle.std.proofs.Common.{◌≤◌, ◌-◌, true, length}
 use Rattle.std.specs.Prelude.{drop, flat_map}
-use Rattle.bpfdb_replies.proofs.Telling.{Telling}
+use Rattle.bpfdb_script.proofs.Telling.{Telling}
 use Rattle.bpf_cover.specs.Sources.{group_text, groups}
 use Rattle.bpf_cover.proofs.sources.put_groups.Given as goal
 

@@ -1,6 +1,6 @@
 use Rattle.std.proofs.Common.{◌+◌, ◌++◌, ◌∙◌, ap, arith, sym}
 use Rattle.std.specs.Prelude.{drop, flat_map}
-use Rattle.bpfdb_replies.proofs.Telling.{Telling-start, Telling-step, Telling-end, pieces-next, pieces-end}
+use Rattle.bpfdb_script.proofs.Telling.{Telling-start, Telling-step, Telling-end, pieces-next, pieces-end}
 use Rattle.bpf_cover.specs.Sources.{jump_text}
 use Rattle.bpf_cover.specs.declared.places.Spot.{Spot}
 use Rattle.bpf_cover.proofs.sources.put_jumps.Goals as goal

@@ -1,5 +1,5 @@
 use Rattle.std.specs.Prelude.{drop, flat_map}
-use Rattle.bpfdb_replies.proofs.Telling.{Telling}
+use Rattle.bpfdb_script.proofs.Telling.{Telling}
 use Rattle.bpf_cover.specs.Sources.{jump_text}
 use Rattle.bpf_cover.proofs.sources.put_jumps.Given as goal
 

@@ -1,7 +1,7 @@
 use Rattle.std.proofs.Common.{◌≡◌, ◌++◌, ℕ, List, append_assoc, codes, refl, true}
 use Rattle.std.specs.Prelude.{count_by, flat_map, length}
 use Rattle.counted_io.proofs.Appending.{Writes-text}
-use Rattle.bpfdb_replies.specs.Shown.{shown}
+use Rattle.bpfdb_script.specs.Shown.{shown}
 use Rattle.bpf_cover.specs.Sources.{forks_of, group_text, groups, line_ran, taken_of}
 use Rattle.bpf_cover.specs.Tracefiles.{totals_text}
 use Rattle.bpf_cover.proofs.sources.put_record.Goals as goal

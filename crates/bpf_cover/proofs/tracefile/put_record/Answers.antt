@@ -1,7 +1,7 @@
 use Rattle.std.proofs.Common.{◌≡◌, ◌++◌, ℕ, List, append_assoc, codes, refl}
 use Rattle.counted_io.proofs.Appending.{Writes-text}
 use Rattle.counted_io.specs.Lines.{lines}
-use Rattle.bpfdb_replies.specs.Shown.{shown}
+use Rattle.bpfdb_script.specs.Shown.{shown}
 use Rattle.bpf_cover.specs.Tracefiles.{record_text, rows_text, totals_of}
 use Rattle.bpf_cover.proofs.tracefile.put_record.Goals as goal
 

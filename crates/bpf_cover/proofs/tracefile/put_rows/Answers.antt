@@ -1,6 +1,6 @@
 use Rattle.std.proofs.Common.{◌<◌, ◌≡◌, length, arith}
 use Rattle.std.proofs.lemmas.Grind.{common_steps}
-use Rattle.bpfdb_replies.proofs.Telling.{Telling-start, Telling-step, Telling-end}
+use Rattle.bpfdb_script.proofs.Telling.{Telling-start, Telling-step, Telling-end}
 use Rattle.bpf_cover.proofs.Records.{rows-end, rows-next}
 use Rattle.bpf_cover.proofs.tracefile.put_rows.Goals as goal
 

@@ -1,6 +1,6 @@
 use Rattle.std.proofs.Common.{length}
 use Rattle.counted_io.specs.Lines.{lines}
-use Rattle.bpfdb_replies.proofs.Telling.{Telling}
+use Rattle.bpfdb_script.proofs.Telling.{Telling}
 use Rattle.bpf_cover.specs.Tracefiles.{rows_text}
 use Rattle.bpf_cover.proofs.tracefile.put_rows.Given as goal
 

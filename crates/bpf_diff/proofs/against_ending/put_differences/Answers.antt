@@ -1,6 +1,6 @@
 use Rattle.std.proofs.Common.{◌≡◌, ◌-◌, ◌∙◌, ◌++◌, [], List, ℕ, ap, arith, refl, sym, take}
 use Rattle.counted_io.proofs.Appending.{WritesAfter-WritesAfter, WritesAfter-text}
-use Rattle.bpfdb_replies.proofs.Telling.{WritesAfter-nothing}
+use Rattle.bpfdb_script.proofs.Telling.{WritesAfter-nothing}
 use Rattle.bpf_diff.specs.Against.{differences}
 use Rattle.bpf_diff.proofs.AgainstTelling.{differences-end, differences-more, differences-none}
 use Rattle.bpf_diff.proofs.against_ending.put_differences.Goals as goal

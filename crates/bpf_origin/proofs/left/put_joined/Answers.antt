@@ -1,6 +1,6 @@
 use Rattle.std.proofs.Common.{◌∙◌, arith, refl, sym}
 use Rattle.bpf_origin.specs.Texts.{left_line}
-use Rattle.bpfdb_replies.proofs.Telling.{Telling-start, Telling-step, Telling-end}
+use Rattle.bpfdb_script.proofs.Telling.{Telling-start, Telling-step, Telling-end}
 use Rattle.bpf_origin.proofs.Joining.{joined-longer, joined-next, joined-end}
 use Rattle.bpf_origin.proofs.left.put_joined.Goals as goal
 use Rattle.bpf_origin.proofs.left.put_joined.Goals.{in-Some, in-None}

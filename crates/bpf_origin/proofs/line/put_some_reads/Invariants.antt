@@ -1,5 +1,5 @@
 use Rattle.std.proofs.Common.{drop, flat_map}
-use Rattle.bpfdb_replies.proofs.Telling.{Telling}
+use Rattle.bpfdb_script.proofs.Telling.{Telling}
 use Rattle.bpf_origin.specs.Texts.{read_text}
 use Rattle.bpf_origin.proofs.line.put_some_reads.Given as goal
 

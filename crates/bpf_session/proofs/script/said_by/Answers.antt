@@ -1,5 +1,5 @@
 use Rattle.std.proofs.Common.{sym}
-use Rattle.bpfdb_commands.proofs.Lines.{command_of-long}
+use Rattle.bpfdb_script.proofs.Lines.{command_of-long}
 use Rattle.bpf_session.proofs.script.said_by.Goals as goal
 
 pub returns-in-None : goal.returns-in-None

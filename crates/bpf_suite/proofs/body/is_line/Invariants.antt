@@ -2,7 +2,7 @@ use Rattle.std.proofs.Common.{◌≡◌, length}
 use Rattle.bpf_suite.specs.Bodies.{is_line}
 use Rattle.std.specs.Prelude.{not}
 use Rattle.std.specs.List.{list_all}
-use Rattle.bpfdb_replies.specs.Shown.{steers}
+use Rattle.bpfdb_script.specs.Shown.{steers}
 use Rattle.bpf_suite.proofs.body.is_line.Given as goal
 
 -- What is left of the characters decides.

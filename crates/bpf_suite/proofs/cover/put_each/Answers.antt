@@ -1,6 +1,6 @@
 use Rattle.std.proofs.Common.{◌≡◌, ◌++◌, ◌+◌, [], ◌∷◌, List, take, sym, ap, refl, ◌∙◌}
 use Rattle.std.proofs.lemmas.List.{take_more}
-use Rattle.bpfdb_replies.proofs.Telling.{WritesAfter-nothing}
+use Rattle.bpfdb_script.proofs.Telling.{WritesAfter-nothing}
 use Rattle.counted_io.proofs.Appending.{WritesAfter-WritesAfter}
 use Rattle.bpf_suite.specs.declared.section.Section.{Section}
 use Rattle.bpf_suite.proofs.Covering.{each-next}

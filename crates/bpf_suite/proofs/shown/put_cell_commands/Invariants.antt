@@ -1,6 +1,6 @@
 use Rattle.std.proofs.Common.{drop, flat_map}
 use Rattle.std.specs.List.{filter_map}
-use Rattle.bpfdb_replies.proofs.Telling.{Telling}
+use Rattle.bpfdb_script.proofs.Telling.{Telling}
 use Rattle.bpf_suite.specs.Cells.{cell_of}
 use Rattle.bpf_suite.specs.Shown.{cell_command}
 use Rattle.bpf_suite.proofs.shown.put_cell_commands.Given as goal

@@ -1,7 +1,7 @@
 use Rattle.std.proofs.Common.{length, sym, ap, rules, flat_map}
 use Rattle.std.proofs.lemmas.List.Elements.{All-same, All-head, All-rest}
 use Rattle.bstr.proofs.lemmas.SpanLemmas.{IsWithin, All-char_spans}
-use Rattle.bpfdb_replies.proofs.Telling.{Telling-start, Telling-step, Telling-end}
+use Rattle.bpfdb_script.proofs.Telling.{Telling-start, Telling-step, Telling-end}
 use Rattle.bpf_suite.specs.Shown.{quoted_char}
 use Rattle.bpf_suite.proofs.shown.put_quoted_chars.Goals as goal
 

@@ -1,7 +1,7 @@
 use Rattle.std.proofs.Common.{length, flat_map, All}
 use Rattle.bstr.proofs.lemmas.SpanLemmas.{IsWithin}
 use Rattle.bstr.specs.Utf8.{pieces, spans_from}
-use Rattle.bpfdb_replies.proofs.Telling.{Telling}
+use Rattle.bpfdb_script.proofs.Telling.{Telling}
 use Rattle.bpf_suite.specs.Shown.{quoted_char}
 use Rattle.bpf_suite.proofs.shown.put_quoted_chars.Given as goal
 

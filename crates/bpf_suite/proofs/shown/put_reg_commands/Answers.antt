@@ -1,7 +1,7 @@
 use Rattle.std.proofs.Common.{◌≡◌, ◌++◌, ◌+◌, drop, sym, ap, ◌∙◌, arith}
 use Rattle.std.specs.Prelude.{flat_map}
 use Rattle.bpf_suite.specs.Shown.{reg_command}
-use Rattle.bpfdb_replies.proofs.Telling.{Telling-start, Telling-step, Telling-end, pieces-next, pieces-end}
+use Rattle.bpfdb_script.proofs.Telling.{Telling-start, Telling-step, Telling-end, pieces-next, pieces-end}
 use Rattle.bpf_suite.proofs.shown.put_reg_commands.Goals as goal
 
 pub loop-line-init : goal.loop-line-init

@@ -1,6 +1,6 @@
 use Rattle.std.proofs.Common.{drop}
 use Rattle.std.specs.Prelude.{flat_map}
-use Rattle.bpfdb_replies.proofs.Telling.{Telling}
+use Rattle.bpfdb_script.proofs.Telling.{Telling}
 use Rattle.bpf_suite.specs.Shown.{reg_command}
 use Rattle.bpf_suite.proofs.shown.put_reg_commands.Given as goal
 

@@ -1,7 +1,7 @@
 use Rattle.std.proofs.Common.{◌≡◌, ◌++◌, ◌+◌, drop, sym, ap, ◌∙◌, arith}
 use Rattle.std.specs.Prelude.{flat_map}
 use Rattle.bpf_suite.specs.Reports.{cell_text}
-use Rattle.bpfdb_replies.proofs.Telling.{Telling-start, Telling-step, Telling-end, pieces-next, pieces-end}
+use Rattle.bpfdb_script.proofs.Telling.{Telling-start, Telling-step, Telling-end, pieces-next, pieces-end}
 use Rattle.bpf_suite.proofs.values.put_each_cell.Goals as goal
 
 pub loop-line-init : goal.loop-line-init

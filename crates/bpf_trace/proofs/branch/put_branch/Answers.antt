@@ -1,5 +1,5 @@
 use Rattle.std.proofs.Common.{◌∙◌, sym}
-use Rattle.bpfdb_replies.proofs.Telling.{WritesAfter-nothing}
+use Rattle.bpfdb_script.proofs.Telling.{WritesAfter-nothing}
 use Rattle.counted_io.proofs.Appending.{WritesAfter-WritesAfter, WritesAfter-text}
 use Rattle.bpf_trace.proofs.Branching.{ended, no_line, whole_branch}
 use Rattle.bpf_trace.proofs.Steps.{slot_within, text_is}

@@ -1,6 +1,6 @@
 use Rattle.std.proofs.Common.{codes, decimal, refl}
-use Rattle.bpfdb_replies.specs.Texts.{text_at}
-use Rattle.bpfdb_replies.proofs.Telling.{WritesAfter-nothing}
+use Rattle.bpfdb_script.specs.Texts.{text_at}
+use Rattle.bpfdb_script.proofs.Telling.{WritesAfter-nothing}
 use Rattle.counted_io.proofs.Appending.{WritesAfter-WritesAfter, WritesAfter-text}
 use Rattle.bpf_trace.proofs.Counting.{count_there, count_nowhere}
 use Rattle.bpf_trace.proofs.profile.put_count.Goals as goal

@@ -1,6 +1,6 @@
 use Rattle.std.proofs.Common.{◌++◌, ◌∙◌, Some, List, ℕ, ap}
 use Rattle.counted_io.proofs.Appending.{Writes-none}
-use Rattle.bpfdb_replies.specs.Texts.{text_at}
+use Rattle.bpfdb_script.specs.Texts.{text_at}
 use Rattle.bpf_trace.proofs.Making.{text_there}
 use Rattle.bpf_trace.proofs.texts.with_text.Goals as goal
 

@@ -1,5 +1,5 @@
 use Rattle.std.proofs.Common.{drop, flat_map}
-use Rattle.bpfdb_replies.proofs.Telling.{Telling}
+use Rattle.bpfdb_script.proofs.Telling.{Telling}
 use Rattle.bpf_whynot.specs.Answers.{compared_text}
 use Rattle.bpf_whynot.proofs.line.put_values.Given as goal
 

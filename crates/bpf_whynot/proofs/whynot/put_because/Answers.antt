@@ -6,7 +6,7 @@ use Rattle.bpf_journal.specs.Tracks.{Track}
 use Rattle.bpf_steps.specs.State.{State}
 use Rattle.bpf_origin.specs.Asked.{answer_about}
 use Rattle.bpf_origin.specs.Reads.{conditions}
-use Rattle.bpfdb_replies.specs.Texts.{place}
+use Rattle.bpfdb_script.specs.Texts.{place}
 use Rattle.bpf_whynot.specs.Answers.{because}
 use Rattle.bpf_whynot.specs.Asking.{query}
 use Rattle.bpf_whynot.proofs.Going.{because_is, some_parts, told_line}

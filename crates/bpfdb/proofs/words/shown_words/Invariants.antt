@@ -1,5 +1,5 @@
 use Rattle.std.proofs.Common.{◌≡◌, map, string_bytes, take}
-use Rattle.bpfdb_replies.specs.Shown.{shown}
+use Rattle.bpfdb_script.specs.Shown.{shown}
 use Rattle.bpfdb.proofs.words.shown_words.Given as goal
 
 abbrev pub invariant-loop-word : goal.invariant-loop-word

@@ -1,5 +1,5 @@
 use Rattle.std.proofs.Common.{ℕ, ◌≡◌, ◌<◌, ◌++◌, List, [], ◌∷◌, append_assoc, codes, length, refl, arith}
-use Rattle.bpfdb_replies.specs.Shown.{shown}
+use Rattle.bpfdb_script.specs.Shown.{shown}
 use Rattle.bpfdb_faults.specs.Faults.{name_text}
 use Rattle.bpfdb_faults.proofs.line.put_named.Goals as goal
 

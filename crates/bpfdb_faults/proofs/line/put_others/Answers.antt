@@ -1,7 +1,7 @@
 use Rattle.std.proofs.Common.{◌≡◌, ap, sym, length, add-one, arith}
 use Rattle.counted_io.proofs.Appending.{WritesAfter-WritesAfter, WritesAfter-text}
 use Rattle.bpf_link.specs.Names.{built}
-use Rattle.bpfdb_replies.proofs.Telling.{WritesAfter-nothing}
+use Rattle.bpfdb_script.proofs.Telling.{WritesAfter-nothing}
 use Rattle.bpfdb_faults.specs.Faults.{with_other}
 use Rattle.bpfdb_faults.proofs.line.put_others.Goals as goal
 

@@ -1,5 +1,5 @@
 use Rattle.std.proofs.Common.{◌++◌, codes, arith}
-use Rattle.bpfdb_replies.proofs.Telling.{Telling-start, Telling-step, Telling-end, pieces-next, pieces-end}
+use Rattle.bpfdb_script.proofs.Telling.{Telling-start, Telling-step, Telling-end, pieces-next, pieces-end}
 use Rattle.bpfdb_jobs.specs.MapLines.{shape_text}
 use Rattle.bpfdb_jobs.proofs.maps.put_further.Goals as goal
 

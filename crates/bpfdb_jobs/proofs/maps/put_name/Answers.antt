@@ -1,6 +1,6 @@
 use Rattle.std.proofs.Common.{ℕ, ◌≡◌, ◌<◌, ◌++◌, List, [], ◌∷◌, append_assoc, ap, codes, decimal, length, refl, sym, ◌∙◌, arith}
 use Rattle.counted_io.proofs.Appending.{Writes-text}
-use Rattle.bpfdb_replies.specs.Shown.{shown}
+use Rattle.bpfdb_script.specs.Shown.{shown}
 use Rattle.bpfdb_jobs.specs.MapLines.{name_line}
 use Rattle.bpfdb_jobs.proofs.maps.put_name.Goals as goal
 

@@ -1,7 +1,7 @@
 use Rattle.std.proofs.Common.{[], ◌++◌, ◌∙◌, append_assoc, codes}
 use Rattle.std.proofs.lemmas.List.{append-nil}
 use Rattle.bpf_origin.specs.Asked as spec
-use Rattle.bpfdb_replies.specs.Texts.{place}
+use Rattle.bpfdb_script.specs.Texts.{place}
 use Rattle.counted_io.proofs.Appending.{Writes-text}
 use Rattle.bpfdb_jobs.proofs.origin.put_found.Goals as goal
 

@@ -1,6 +1,6 @@
 use Rattle.std.proofs.Common.{◌∙◌, ap}
 use Rattle.std.proofs.lemmas.List.{append-nil}
-use Rattle.bpf_names.specs.Texts.{named_text}
+use Rattle.bpf_lines.specs.NamedTexts.{named_text}
 use Rattle.counted_io.proofs.Appending.{Writes-none, Writes-text}
 use Rattle.bpfdb_jobs.proofs.origin.put_told.Goals as goal
 

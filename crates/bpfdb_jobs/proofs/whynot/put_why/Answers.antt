@@ -3,7 +3,7 @@ use Rattle.std.proofs.lemmas.List.{append-nil}
 use Rattle.bpf_whynot.specs.Answers.{why_not}
 use Rattle.bpf_whynot.specs.Asking.{query}
 use Rattle.bpf_whynot.specs.Tables.{told_by}
-use Rattle.bpfdb_replies.specs.Texts.{place}
+use Rattle.bpfdb_script.specs.Texts.{place}
 use Rattle.counted_io.proofs.Appending.{Writes-text}
 use Rattle.bpfdb_jobs.proofs.whynot.put_why.Goals as goal
 

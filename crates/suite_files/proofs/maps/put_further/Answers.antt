@@ -1,5 +1,5 @@
 use Rattle.std.proofs.Common.{◌++◌, codes, arith}
-use Rattle.bpfdb_replies.proofs.Telling.{Telling-start, Telling-step, Telling-end, pieces-next, pieces-end}
+use Rattle.bpfdb_script.proofs.Telling.{Telling-start, Telling-step, Telling-end, pieces-next, pieces-end}
 use Rattle.suite_files.specs.Maps.{shape_text}
 use Rattle.suite_files.proofs.maps.put_further.Goals as goal
 

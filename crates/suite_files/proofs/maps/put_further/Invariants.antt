@@ -1,5 +1,5 @@
 use Rattle.std.proofs.Common.{◌++◌, codes, drop, flat_map}
-use Rattle.bpfdb_replies.proofs.Telling.{Telling}
+use Rattle.bpfdb_script.proofs.Telling.{Telling}
 use Rattle.suite_files.specs.Maps.{shape_text}
 use Rattle.suite_files.proofs.maps.put_further.Given as goal
 

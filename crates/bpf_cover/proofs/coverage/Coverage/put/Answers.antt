@@ -1,5 +1,5 @@
 use Rattle.std.proofs.Common.{List, [], ℕ, get_or, length, ap, sym, arith, ◌∙◌, ◌≡◌, refl}
-use Rattle.bpfdb_replies.proofs.Telling.{Telling-start, Telling-step, Telling-end}
+use Rattle.bpfdb_script.proofs.Telling.{Telling-start, Telling-step, Telling-end}
 use Rattle.bpf_cover.specs.Coverage.{Covered}
 use Rattle.bpf_cover.proofs.Marks.{lines-next, lines-end}
 use Rattle.bpf_cover.proofs.coverage.Coverage.put.Goals as goal

@@ -1,5 +1,5 @@
 use Rattle.std.proofs.Common.{drop}
-use Rattle.bpfdb_replies.proofs.Telling.{Telling}
+use Rattle.bpfdb_script.proofs.Telling.{Telling}
 use Rattle.bpf_cover.specs.Coverage.{miss_lines, table_text}
 use Rattle.bpf_cover.proofs.coverage.Coverage.put.Given as goal
 

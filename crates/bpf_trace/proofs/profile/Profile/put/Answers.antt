@@ -1,5 +1,5 @@
 use Rattle.std.proofs.Common.{arith, ◌∙◌}
-use Rattle.bpfdb_replies.proofs.Telling.{Telling-start, Telling-step, Telling-end}
+use Rattle.bpfdb_script.proofs.Telling.{Telling-start, Telling-step, Telling-end}
 use Rattle.bpf_trace.proofs.Counting.{lines_next, lines_end}
 use Rattle.bpf_trace.proofs.profile.Profile.put.Goals as goal
 

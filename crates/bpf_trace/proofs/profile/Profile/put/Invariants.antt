@@ -1,5 +1,5 @@
 use Rattle.std.proofs.Common.{drop}
-use Rattle.bpfdb_replies.proofs.Telling.{Telling}
+use Rattle.bpfdb_script.proofs.Telling.{Telling}
 use Rattle.bpf_trace.specs.Profiles.{count_lines}
 use Rattle.bpf_trace.proofs.profile.Profile.put.Given as goal
 

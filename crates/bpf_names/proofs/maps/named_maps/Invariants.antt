@@ -1,9 +1,0 @@
-use Rattle.std.proofs.Common.{◌≡◌, length}
-use Rattle.bpf_names.specs.Maps.{first_maps}
-use Rattle.bpf_names.proofs.maps.named_maps.Given as goal
-
-abbrev pub invariant-loop-k : goal.invariant-loop-k
-invariant-loop-k l = record {
-  maps : l.maps.items ≡ first_maps l.plan l.types l.own l.sections l.shapes l.places l.k;
-  size : length l.maps.items ≡ l.k;
-}

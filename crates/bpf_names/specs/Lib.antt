@@ -1,4 +1,0 @@
-pub mod Spots
-pub mod Globals
-pub mod Maps
-pub mod Texts

@@ -1,4 +1,0 @@
-pub mod Bytes
-pub mod Cuts
-pub mod Lines
-pub mod Readings

@@ -1,5 +1,0 @@
-pub mod Limits
-pub mod Lines
-pub mod Refusals
-pub mod Commands
-pub mod ReadLines

@@ -1,7 +1,0 @@
-use Rattle.std.proofs.Common.{◌-◌}
-use Rattle.bpfdb_replies.specs.Texts.{instructions_from}
-use Rattle.bpfdb_replies.proofs.Telling.{Telling}
-use Rattle.bpfdb_replies.proofs.instructions.put_instructions.Given as goal
-
-abbrev pub invariant-loop : goal.invariant-loop
-invariant-loop g l = Telling g.W.Write.contents l.fn.writer l.fn.so_far l.writer l.told (instructions_from l.program l.at (l.end - l.counter)) (instructions_from l.program l.fn.slot l.fn.span)

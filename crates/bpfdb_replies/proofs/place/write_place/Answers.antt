@@ -1,5 +1,0 @@
-use Rattle.counted_io.proofs.Appending.{Writes-none}
-use Rattle.bpfdb_replies.proofs.place.write_place.Goals as goal
-
-pub returns : goal.returns
-returns g c = c.put_place.ensures _ _ (Writes-none g.W.Write.contents c.args.writer.now _)

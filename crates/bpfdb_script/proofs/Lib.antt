@@ -1,0 +1,5 @@
+pub mod Bytes
+pub mod Cuts
+pub mod Lines
+pub mod Readings
+pub mod Telling
