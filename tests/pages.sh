@@ -188,20 +188,20 @@ grammar() {
                 else for (j = 1; j <= count[inner]; j++) print names["commands", i], names[inner, j]
             }
         }
-    ' crates/bpfdb_commands/specs/Commands.antt
+    ' crates/bpfdb_script/specs/Commands.antt
 }
 
 # commands: those of the grammar are the rows of docs/COMMANDS.md and the lines of docs/commands.txt, in the same order. (docs/tables.sh makes
 # of the latter the tables of README, of help and of bpfdb-shell.)
 commands() {
     grammar > "$work/commands"
-    [ -s "$work/commands" ] || fault 'crates/bpfdb_commands/specs/Commands.antt has no commands'
+    [ -s "$work/commands" ] || fault 'crates/bpfdb_script/specs/Commands.antt has no commands'
     awk -F ' *\\| *' '/^## / { inside = $0 == "## COMMANDS" } inside && NF > 3 && $2 ~ /`/ { print $2 }' docs/COMMANDS.md |
         quoted | sed 's/ *\[*[A-Z].*//' | cmp -s "$work/commands" - ||
-        fault "docs/COMMANDS.md has other commands than crates/bpfdb_commands/specs/Commands.antt, or another order"
+        fault "docs/COMMANDS.md has other commands than crates/bpfdb_script/specs/Commands.antt, or another order"
     sed '/^#/d' docs/commands.txt | awk -F ' *[|] *' '{ sub(/ [[A-Z].*/, "", $2); gsub(/ or /, "\n", $2); print $2 }' |
         cmp -s "$work/commands" - ||
-        fault "docs/commands.txt has other commands than crates/bpfdb_commands/specs/Commands.antt, or another order"
+        fault "docs/commands.txt has other commands than crates/bpfdb_script/specs/Commands.antt, or another order"
 }
 
 # same_words PAGE NAME: fails where the words of $work/found, which PAGE has, aren't those of $work/sorted.
@@ -247,7 +247,7 @@ options() {
 refusals() {
     # (want of memory has the text that the checker's has; a long row is one line)
     memory=$(sed -n 's/.*LoadFault::Memory => ([0-9]*, "\([^"]*\)").*/\1/p' crates/bpf_isa/src/fault.rt)
-    cat crates/bpf_*/src/fault.rt crates/bpfdb_commands/src/refusal.rt |
+    cat crates/bpf_*/src/fault.rt crates/bpfdb_script/src/refusal.rt |
         sed "s/[A-Za-z]*::[A-Za-z]*Memory\.text()/\"$memory\"/; /=> ($/{N;N;N;s/(\n */(/;s/\n */ /g;s/, ),/),/}" | awk -v tested="$(grep -c '^| T1 ' docs/COMMANDS.md)" '
         BEGIN {
             letter["LoadFault"] = letter["PieceFault"] = letter["WordFault"] = "C"

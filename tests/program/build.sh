@@ -43,8 +43,7 @@ echo "$count_of_crates of $count_of_crates bpfdb: 3 functions proved" > wanted/o
 compare 'make run: the last line'
 {
     echo ./HANDLES
-    for crate in counted_io bpfdb_limits bpfdb_options bpf_isa bpf_btf bpf_packet bpf_link bpf_join turn_texts bpf_turns count_texts bpf_counts bpf_lines bpf_names bpf_places bpf_against trace_lines json_lines dot_lines slot_texts suite_texts suite_files case_texts bpf_batch bpf_branches bpf_text bpf_entries bpf_steps bpf_machine bpfdb_files bpf_ring bpfdb_commands bpfdb_replies shown_text bpf_cover \
-        bpf_journal bpf_session bpf_origin bpf_whynot bpf_trace bpf_diff bpf_strict bpf_agent bpf_remote bpf_suite bpfdb_faults bpfdb_jobs bpfdb_cli bpfdb; do
+    for crate in $(sed -n '/^memory_calls:/d; /_laws:/d; s/^\([a-z_]*\):.*/\1/p' "$top/crates.txt"); do
         echo "./crates/$crate/src/lib.rt"
     done
     echo ./crates.txt
