@@ -7,6 +7,6 @@ pub mod Writes
 pub mod Leaving
 pub mod Outcomes
 pub mod AgainstTelling
-pub mod Along
-pub mod Lines
+pub mod Tracing
+pub mod TraceLines
 pub mod Noting

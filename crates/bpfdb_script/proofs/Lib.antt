@@ -1,4 +1,4 @@
-pub mod Bytes
+pub mod ByteTexts
 pub mod Cuts
 pub mod Lines
 pub mod Readings

@@ -343,7 +343,7 @@ fn parse_span(token: &[u8]) -> Option<Span>
 }
 
 /// Bytes as hexadecimal digits of either case, two a byte: 1 to 256 bytes.
-#[tactic(auto, using(crate::proofs::Bytes::too_many_bytes))]
+#[tactic(auto, using(crate::proofs::ByteTexts::too_many_bytes))]
 pub fn parse_bytes(digits: &[u8]) -> Option<ByteString>
     ensures value { result ≡ bytes_of digits.now }
 {

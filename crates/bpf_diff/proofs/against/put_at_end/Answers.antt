@@ -2,7 +2,7 @@ use Rattle.std.proofs.Common.{◌≡◌, ◌∙◌, List, ap, false, sym, true, 
 use Rattle.counted_io.proofs.Appending.{WritesAfter-text}
 use Rattle.bpf_trace.specs.Traces.{end_line}
 use Rattle.bpf_diff.specs.Against.{is_line}
-use Rattle.bpf_diff.proofs.Along.{none-text, none-told, other-text, other-told, told-text, told-told}
+use Rattle.bpf_diff.proofs.Tracing.{none-text, none-told, other-text, other-told, told-text, told-told}
 use Rattle.bpf_diff.proofs.against.put_at_end.Goals as goal
 
 pub returns-in-None-clause-text : goal.returns-in-None-clause-text

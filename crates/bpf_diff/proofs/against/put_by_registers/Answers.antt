@@ -2,7 +2,7 @@ use Rattle.std.proofs.Common.{◌∙◌, arith, reverse, sym, take}
 use Rattle.counted_io.proofs.Appending.{WritesAfter-text}
 use Rattle.bpf_trace.specs.Runs.{steps_of}
 use Rattle.input_texts.specs.declared.trace_form.Form.TheVariants.{Registers}
-use Rattle.bpf_diff.proofs.Along.{end-text, end-told, goes-is, otherwise-if, otherwise-text, otherwise-told, over-is, over-text, over-told}
+use Rattle.bpf_diff.proofs.Tracing.{end-text, end-told, goes-is, otherwise-if, otherwise-text, otherwise-told, over-is, over-text, over-told}
 use Rattle.bpf_diff.proofs.against.put_by_registers.Goals as goal
 
 pub returns-then-is_over-clause-text : goal.returns-then-is_over-clause-text

@@ -2,7 +2,7 @@ use Rattle.std.proofs.Common.{◌∙◌, arith, reverse, sym, take}
 use Rattle.counted_io.proofs.Appending.{WritesAfter-text}
 use Rattle.bpf_trace.specs.Runs.{steps_of}
 use Rattle.input_texts.specs.declared.trace_form.Form.TheVariants.{Steps}
-use Rattle.bpf_diff.proofs.Along.{map-ok, otherwise-text, otherwise-told, over-text, over-told, took-start}
+use Rattle.bpf_diff.proofs.Tracing.{map-ok, otherwise-text, otherwise-told, over-text, over-told, took-start}
 use Rattle.bpf_diff.proofs.against.put_by_steps.Goals as goal
 
 pub put_step_otherwise-requires-clause-number : goal.put_step_otherwise-requires-clause-number

@@ -1,6 +1,6 @@
 use Rattle.std.proofs.Common.{refl}
 use Rattle.counted_io.proofs.Appending.{WritesAfter-WritesAfter}
-use Rattle.bpf_diff.proofs.Lines.{register-text}
+use Rattle.bpf_diff.proofs.TraceLines.{register-text}
 use Rattle.bpf_diff.proofs.against_ending.put_entry_here.Goals as goal
 
 pub returns-then-entry-eq0 : goal.returns-then-entry-eq0

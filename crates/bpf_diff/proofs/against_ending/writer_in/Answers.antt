@@ -1,5 +1,5 @@
 use Rattle.std.proofs.Common.{◌∙◌}
-use Rattle.bpf_diff.proofs.Lines.{not_zero}
+use Rattle.bpf_diff.proofs.TraceLines.{not_zero}
 use Rattle.bpf_diff.proofs.against_ending.writer_in.Goals as goal
 
 pub returns-then-entry-eq0 : goal.returns-then-entry-eq0

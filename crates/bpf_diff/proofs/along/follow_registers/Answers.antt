@@ -2,7 +2,7 @@ use Rattle.std.proofs.Common.{◌≡◌, ◌∙◌, arith, inl, refl, reverse, s
 use Rattle.bpf_trace.specs.Runs.{steps_of}
 use Rattle.input_texts.specs.declared.trace_form.Form.TheVariants.{Registers}
 use Rattle.bpf_diff.specs.Noted.{Along, AreNotes}
-use Rattle.bpf_diff.proofs.Along.{Along-next, Along-start, behind-one, is_on, leaves, number-of, on-parts, stops}
+use Rattle.bpf_diff.proofs.Tracing.{Along-next, Along-start, behind-one, is_on, leaves, number-of, on-parts, stops}
 use Rattle.bpf_diff.proofs.along.follow_registers.Goals as goal
 
 pub loop-k-init : goal.loop-k-init

@@ -2,7 +2,7 @@ use Rattle.std.proofs.Common.{◌≡◌, ◌∙◌, ap, arith, inl, inr, refl, s
 use Rattle.bpf_entries.specs.Status.{has_ended}
 use Rattle.input_texts.specs.declared.trace_form.Form.TheVariants.{Steps}
 use Rattle.bpf_diff.specs.Noted.{Along}
-use Rattle.bpf_diff.proofs.Along.{Along-start, leaves, steps-next, steps-otherwise, took-start}
+use Rattle.bpf_diff.proofs.Tracing.{Along-start, leaves, steps-next, steps-otherwise, took-start}
 use Rattle.bpf_diff.proofs.along.follow_steps.Goals as goal
 
 pub loop-k-init : goal.loop-k-init

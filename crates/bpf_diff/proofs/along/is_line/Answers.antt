@@ -1,5 +1,5 @@
 use Rattle.std.proofs.Common.{◌∙◌}
-use Rattle.bpf_diff.proofs.Lines.{line-no, line-none, line-yes, not-ten}
+use Rattle.bpf_diff.proofs.TraceLines.{line-no, line-none, line-yes, not-ten}
 use Rattle.bpf_diff.proofs.along.is_line.Goals as goal
 
 pub returns-then-last-eq10 : goal.returns-then-last-eq10
