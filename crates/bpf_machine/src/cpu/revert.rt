@@ -66,14 +66,23 @@ impl Cpu {
 
     /// Takes a step back that replaced one register.
     #[inline(always)]
-    #[tactic(auto, unfolding(crate::specs::Undoing::undone))]
     fn undo_register(&mut self, bytes: &[u8])
         requires { RestoresText self.old 1 bytes.now }
         ensures { self.new ≡ undone (read_as 1 bytes.now) self.old }
     {
         let value = LittleEndian::read_u64(&bytes[6..14]);
-        self.write_register(register_by(bytes[5]), value);
-        self.pc = slot_in(bytes);
+        self.put_register_back(slot_in(bytes), register_by(bytes[5]), value);
+    }
+
+    /// Puts back what a step replaced in a register.
+    #[inline(always)]
+    #[tactic(auto, unfolding(crate::specs::Undoing::undone))]
+    fn put_register_back(&mut self, pc: u16, register: Reg, value: u64)
+        requires { Restores self.old (Entry.Register pc register value) }
+        ensures { self.new ≡ undone (Entry.Register pc register value) self.old }
+    {
+        self.write_register(register, value);
+        self.pc = pc;
     }
 
     /// Takes a jump back.
@@ -185,14 +194,23 @@ impl Cpu {
 
     /// Takes a traced word back.
     #[inline(never)]
-    #[tactic(auto, unfolding(crate::specs::Undoing::undone))]
     fn undo_trace(&mut self, bytes: &[u8])
         requires { RestoresText self.old 8 bytes.now }
         ensures { self.new ≡ undone (read_as 8 bytes.now) self.old }
     {
+        self.put_trace_back(slot_in(bytes), LittleEndian::read_u64(&bytes[5..13]));
+    }
+
+    /// Puts back what the call replaced that traced a word.
+    #[inline(always)]
+    #[tactic(auto, unfolding(crate::specs::Undoing::undone))]
+    fn put_trace_back(&mut self, pc: u16, r0: u64)
+        requires { Restores self.old (Entry.Trace pc r0) }
+        ensures { self.new ≡ undone (Entry.Trace pc r0) self.old }
+    {
         let _word = self.trace.pop();
-        self.registers[0] = LittleEndian::read_u64(&bytes[5..13]);
-        self.pc = slot_in(bytes);
+        self.registers[0] = r0;
+        self.pc = pc;
     }
 
     /// Takes the step back that ended the machine.
