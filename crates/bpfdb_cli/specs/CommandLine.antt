@@ -259,10 +259,19 @@ batch_app = with_rule (with_rule (with_rule (new_app (codes "batch")) maps_rule)
 abbrev pub bare_app : App
 bare_app = record (new_app (codes "bpfdb")) { top = record (new_app (codes "bpfdb")).top { subcommand_required = true; has_version = true } }
 
--- A command with the subcommands.
-unfoldable pub with_subcommands : App → App
-with_subcommands app = with_subcommand (with_subcommand (with_subcommand (with_subcommand (with_subcommand (with_subcommand (with_subcommand (with_subcommand (with_subcommand (with_subcommand (with_subcommand (with_subcommand (with_subcommand (with_subcommand app
-    run_app.top) trace_app.top) debug_app.top) origin_app.top) whynot_app.top) diff_app.top) gdb_app.top) asm_app.top) disasm_app.top) lines_app.top) check_app.top) link_app.top) test_app.top) batch_app.top
+-- A command with the subcommands: those that run a program, those that ask about a run, with the server, and those of files.
+unfoldable pub with_runs : App → App
+with_runs app = with_subcommand (with_subcommand (with_subcommand app run_app.top) trace_app.top) debug_app.top
+
+unfoldable pub with_questions : App → App
+with_questions app = with_subcommand (with_subcommand (with_subcommand (with_subcommand app origin_app.top) whynot_app.top) diff_app.top) gdb_app.top
+
+unfoldable pub with_files : App → App
+with_files app = with_subcommand (with_subcommand (with_subcommand (with_subcommand (with_subcommand (with_subcommand (with_subcommand app
+    asm_app.top) disasm_app.top) lines_app.top) check_app.top) link_app.top) test_app.top) batch_app.top
+
+abbrev pub with_subcommands : App → App
+with_subcommands app = with_files (with_questions (with_runs app))
 
 unfoldable pub command_app : App
 command_app = with_subcommands bare_app

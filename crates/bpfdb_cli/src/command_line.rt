@@ -1,12 +1,12 @@
 //! The command line, as `clap` is told of it.
 ghost use Rattle.std.specs.Prelude.{◌≡◌, IfOk, false, fold};
 ghost use Rattle.clap.specs.Words.{app_of, new_app, rule_of, with_subcommand};
-ghost use Rattle.bpfdb_cli.specs.CommandLine.{bare_app, command_app, with_subcommands};
+ghost use Rattle.bpfdb_cli.specs.CommandLine.{bare_app, command_app, with_files, with_questions, with_runs, with_subcommands};
 ghost use Rattle.bpfdb_cli.specs.Subcommands.{count_rule_of, entry_app, flag_rule, operand_rule, option_rule, text_rule, with_entry, with_option};
 
 use crate::help;
 use crate::options::{CliOption, Takes};
-use crate::subcommands::{CliSubcommand, SUBCOMMANDS};
+use crate::subcommands::{CliSubcommand, FILES, QUESTIONS, RUNS};
 use bpfdb_limits::GREATEST_COUNT;
 use clap::{Arg, ArgAction, Command, value_parser};
 use std::alloc::{AllocError, Global};
@@ -170,11 +170,35 @@ fn with_entries<'a>(
     Ok(command)
 }
 
-/// A command and the subcommands of the table.
+/// A command and the subcommands that run a program.
+fn with_runs<'a>(alloc: Global, bare: Command<'a>) -> Result<Command<'a>, AllocError>
+    ensures { IfOk result (λ command. app_of command ≡ with_runs (app_of bare.entry)) }
+{
+    with_entries(alloc, bare, &RUNS)
+}
+
+/// A command and the subcommands that ask about a run, and the server.
+fn with_questions<'a>(alloc: Global, bare: Command<'a>) -> Result<Command<'a>, AllocError>
+    ensures { IfOk result (λ command. app_of command ≡ with_questions (app_of bare.entry)) }
+{
+    with_entries(alloc, bare, &QUESTIONS)
+}
+
+/// A command and the subcommands of files.
+fn with_files<'a>(alloc: Global, bare: Command<'a>) -> Result<Command<'a>, AllocError>
+    ensures { IfOk result (λ command. app_of command ≡ with_files (app_of bare.entry)) }
+{
+    with_entries(alloc, bare, &FILES)
+}
+
+/// A command and the subcommands of all tables. (A function that names one of them is laid out with
+/// all of its options, so each table has its own.)
 fn with_subcommands<'a>(alloc: Global, bare: Command<'a>) -> Result<Command<'a>, AllocError>
     ensures { IfOk result (λ command. app_of command ≡ with_subcommands (app_of bare.entry)) }
 {
-    with_entries(alloc, bare, &SUBCOMMANDS)
+    let running = with_runs(alloc, bare)?;
+    let asking = with_questions(alloc, running)?;
+    with_files(alloc, asking)
 }
 
 /// The whole command line.

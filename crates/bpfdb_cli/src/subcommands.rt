@@ -1,4 +1,4 @@
-//! The subcommands, as a table.
+//! The subcommands, as tables.
 use crate::options::CliOption;
 use crate::{help, options};
 
@@ -11,8 +11,8 @@ pub(crate) struct CliSubcommand<'a> {
     pub(crate) options: &'a [CliOption<'a>],
 }
 
-/// The subcommands, as help lists them.
-pub(crate) const SUBCOMMANDS: [CliSubcommand<'static>; 14] = [
+/// Those that run a program, as help lists them.
+pub(crate) const RUNS: [CliSubcommand<'static>; 3] = [
     CliSubcommand {
         name: "run",
         about: help::RUN,
@@ -79,6 +79,10 @@ pub(crate) const SUBCOMMANDS: [CliSubcommand<'static>; 14] = [
             options::PROGRAM,
         ],
     },
+];
+
+/// Those that ask about a run, and the server, which stand behind those.
+pub(crate) const QUESTIONS: [CliSubcommand<'static>; 4] = [
     CliSubcommand {
         name: "origin",
         about: help::ORIGIN,
@@ -177,6 +181,10 @@ pub(crate) const SUBCOMMANDS: [CliSubcommand<'static>; 14] = [
             options::PROGRAM,
         ],
     },
+];
+
+/// Those of files, which stand last.
+pub(crate) const FILES: [CliSubcommand<'static>; 7] = [
     CliSubcommand {
         name: "asm",
         about: help::ASM,

@@ -1,7 +1,0 @@
-use Rattle.bpfdb_cli.specs.CommandLine.{with_subcommands}
-use Rattle.bpfdb_cli.specs.Subcommands.{entry_app}
-use Rattle.bpfdb_cli.proofs.command_line.with_subcommands.Goals as goal
-
-pub returns : goal.returns
-unfolding with_subcommands entry_app
-returns c = c.with_entries.ensures
