@@ -62,6 +62,14 @@ for compiler in $compilers; do
     grep -q '^-[0-9]* r[0-9] = 0x7; .*; from 0x[0-9a-f]*:8; in seed$' found/out || complain "a load: $(cat found/out)"
     grep -q '^-[0-9]* r[0-9] = 0x5; .*; from 0x[0-9a-f]*:4; in level$' found/out || complain "a load: $(cat found/out)"
     grep -q '^-[0-9]* 0x[0-9a-f]*:8 = 0x3; .*; from r4; initial value of slow\.rate$' found/out || complain "what the setup stores: $(cat found/out)"
+    # Stores of the program's own are no initial values, nor are edits; and so it is as JSON.
+    count=$((count + 3))
+    grep 'initial' found/out | grep -qv '; [0-9]*: stxdw \[r3+[0-9]*\], r4; from r4; initial value of [a-z]' && complain "initial values: $(cat found/out)"
+    echo 'set mem 0x300000104 0f000000' > edit
+    "$program" origin --script edit --object places.o 0x300000104:4 > found/out 2> found/err
+    [ "$(sed -n '2p' found/out)" = '-1 0x300000104:4 = 0xf; edit; in classes[3].limits[1].rate' ] || complain "an edit: $(cat found/out found/err)"
+    "$program" origin --json --object places.o "$(printf '0x%x:4' $((0x300000000 + 260)))" > found/out 2> found/err
+    grep -q '^{"kind":"move",.*,"from":\["r4"\],"initial":"slow\.rate","parts":\[{"part":"0x[0-9a-f]*:8","value":"0x3"}\]}$' found/out || complain "an initial value as JSON: $(cat found/out)"
     # As JSON a name is a member.
     "$program" origin --json --script empty --object places.o "$(printf '0x%x' $((0x300000000 + 260)))" > found/out 2> found/err
     count=$((count + 1))
