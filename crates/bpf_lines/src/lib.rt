@@ -7,11 +7,11 @@ mod functions;
 mod globals;
 mod line_info;
 mod listing;
+mod lookups;
 mod marks;
 mod named_maps;
 mod named_text;
 mod names;
-mod object_places;
 mod objects;
 mod part_lines;
 mod place;
@@ -25,9 +25,10 @@ mod table_row;
 
 pub use line_info::LineEntry;
 pub use listing::listing_slots;
+pub use lookups::{object_places, object_slots};
+pub use lookups::{object_places, object_slots};
 pub use named_maps::NamedMap;
 pub use named_text::put_named;
-pub use object_places::{object_places, object_slots};
 pub use objects::{
     LinesFault, ObjectLines, first_lines, object_lines, with_functions, write_table,
 };

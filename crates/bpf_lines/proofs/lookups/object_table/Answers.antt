@@ -1,6 +1,6 @@
 use Rattle.std.proofs.Common.{◌∙◌, ap, inl, inr, refl}
 use Rattle.bpf_lines.specs.Objects.{program_table}
-use Rattle.bpf_lines.proofs.object_places.object_table.Goals as goal
+use Rattle.bpf_lines.proofs.lookups.object_table.Goals as goal
 
 pub returns-in-Ok-table_of-clause-memory : goal.returns-in-Ok-table_of-clause-memory
 returns-in-Ok-table_of-clause-memory c = inr (c.in-Ok.ensures.ok.0.plan, c.in-Ok.ensures.ok.1.plans, inl refl)

@@ -1,6 +1,6 @@
 use Rattle.std.proofs.Common.{◌/◌, ◌∙◌, ap, length}
 use Rattle.bpf_lines.specs.PlaceTexts.{places_told}
-use Rattle.bpf_lines.proofs.object_places.object_places.Goals as goal
+use Rattle.bpf_lines.proofs.lookups.object_places.Goals as goal
 
 pub returns-in-Ok-places_told-clause-ok : goal.returns-in-Ok-places_told-clause-ok
 returns-in-Ok-places_told-clause-ok c = (

@@ -1,6 +1,6 @@
 use Rattle.std.proofs.Common.{◌∙◌, ap, true}
 use Rattle.bpf_lines.specs.PlaceSlots.{slots_told}
-use Rattle.bpf_lines.proofs.object_places.object_slots.Goals as goal
+use Rattle.bpf_lines.proofs.lookups.object_slots.Goals as goal
 
 pub returns-in-Ok-slots_told-clause-ok : goal.returns-in-Ok-slots_told-clause-ok
 returns-in-Ok-slots_told-clause-ok c = (
