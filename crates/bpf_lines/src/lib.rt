@@ -26,7 +26,6 @@ mod table_row;
 pub use line_info::LineEntry;
 pub use listing::listing_slots;
 pub use lookups::{object_places, object_slots};
-pub use lookups::{object_places, object_slots};
 pub use named_maps::NamedMap;
 pub use named_text::put_named;
 pub use objects::{
