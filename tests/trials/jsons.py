@@ -89,6 +89,8 @@ def moved(text):
             told |= {"way": "jumped", "to": int(m[1])}
         elif m := re.fullmatch(r"in (.*)", piece):
             told["name"] = m[1]
+        elif m := re.fullmatch(r"initial value of (.*)", piece):
+            told["initial"] = m[1]
         elif m := re.fullmatch(r"byte (\d+) of the context", piece):
             told["byte"] = int(m[1])
         elif m := re.fullmatch(r"(?:at|before|not written since) the (.*)", piece):
