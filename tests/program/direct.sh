@@ -42,7 +42,7 @@ alike() {
     "$program" $subcommand $options $(grep '^--maps ' told) linked.bin "$@" < script > wanted/out 2> wanted/err
     echo $? > wanted/status
     run $subcommand $options --object $asked $object "$@"
-    [ "$subcommand" != origin ] || sed -i 's/; in [^;]*$//' found/out
+    [ "$subcommand" != origin ] || sed -i 's/; in [^;]*$//; s/; initial value of [^;]*$//' found/out
     compare "bpfdb $subcommand $options --object $asked $object $*"
 }
 
