@@ -90,18 +90,14 @@ fn is_setup(plan: &Plan<'_>, slot: Option<u64>) -> bool
     }
 }
 
-/// Writes what the name of a byte is to a line.
-fn put_way<W: Write>(
-    writer: &mut Counted<W>,
-    so_far: Result<(), WriteFault>,
-    is_setup: bool,
-) -> Result<(), WriteFault>
-    ensures { WritesAfter W.contents writer.old so_far writer.new result (spec.way_text is_setup) }
+/// What the name of a byte is to a line.
+fn way_of(is_setup: bool) -> &'static [u8]
+    ensures { result.now ≡ spec.way_text is_setup }
 {
     if is_setup {
-        put(writer, so_far, b"; initial value of ")
+        b"; initial value of "
     } else {
-        put(writer, so_far, b"; in ")
+        b"; in "
     }
 }
 
@@ -119,7 +115,8 @@ fn put_told<W: Write>(
 {
     match told {
         Some(at) => {
-            let parted = put_way(writer, so_far, is_setup(&names.plan, slot_in(line)));
+            let way = way_of(is_setup(&names.plan, slot_in(line)));
+            let parted = put(writer, so_far, way);
             put_name(writer, parted, names, at)
         }
         None => so_far,

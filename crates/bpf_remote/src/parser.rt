@@ -212,7 +212,7 @@ fn set_memory(rest: &[u8]) -> Request
 }
 
 /// Bytes as hexadecimal digits of either case, two a byte: 1 to 256 bytes.
-#[tactic(auto, using(bpfdb_script::proofs::Bytes::too_many_bytes))]
+#[tactic(auto, using(bpfdb_script::proofs::ByteTexts::too_many_bytes))]
 fn bytes_of(digits: &[u8]) -> Option<ByteString>
     ensures { result ≡ bytes_of digits.now }
 {

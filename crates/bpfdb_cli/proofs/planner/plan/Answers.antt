@@ -5,7 +5,7 @@ use Rattle.clap.specs.declared.error.Error.{Error}
 use Rattle.clap.specs.declared.error.kind.ErrorKind.{ErrorKind}
 use Rattle.clap.specs.declared.error.kind.ErrorKind.TheVariants.{DisplayHelp, InvalidSubcommand, ValueValidation}
 use Rattle.clap.specs.declared.parser.matches.ArgMatches.{ArgMatches}
-use Rattle.bpfdb_cli.specs.CommandLine.{command_app, with_subcommands}
+use Rattle.bpfdb_cli.specs.CommandLine.{command_app, with_files, with_questions, with_runs}
 use Rattle.bpfdb_cli.specs.Plans.{HasKindIfTold, HasNoPlan, IsFaultOf, IsPlan, Tells}
 use Rattle.bpfdb_cli.specs.Scaffolding.{AskAlike, IsHelp}
 use Rattle.bpfdb_cli.specs.declared.plans.PlanFault.{PlanFault}
@@ -14,11 +14,11 @@ use Rattle.bpfdb_cli.proofs.planner.plan.Goals as goal
 
 -- the command line is one of those whose matches are known exactly
 simple : is_simple command_app ≡ true
-unfolding command_app with_subcommands
+unfolding command_app with_runs with_questions with_files
 simple = refl
 
 simple_and_free : is_simple_and_free command_app ≡ true
-unfolding command_app with_subcommands
+unfolding command_app with_runs with_questions with_files
 simple_and_free = refl
 
 -- `help` is help, or a subcommand that there isn't, whatever follows it
@@ -26,7 +26,7 @@ abbrev helps : Kinds
 helps = DisplayHelp ∷ InvalidSubcommand ∷ []
 
 help_faults : (words : List Text) → IsHelp words → fault_of command_app words ≡ helps
-unfolding command_app with_subcommands walk_fault
+unfolding command_app with_runs with_questions with_files walk_fault
 help_faults (name ∷ word ∷ rest) is = subst (λ w. fault_of command_app (name ∷ w ∷ rest) ≡ helps) (sym is) refl
 help_faults (name ∷ []) is = absurd is
 help_faults [] is = absurd is
