@@ -142,7 +142,7 @@ class Adapter(BreakpointRequests, WayRequests, StateRequests, CommandRequests):
             raise Failed(f'cannot find {self.program}; name it by BPFDB')
         loaded = Loaded(self.program, wanted)
         gdb, version, said = self.gdb_for(wanted)
-        program = gdb or Program(loaded.line, loaded.kept)
+        program = gdb or Program(loaded.line, loaded.kept, loaded.linked_of)
         machine = Machine(program, loaded)
         try:
             if gdb:

@@ -6,7 +6,7 @@ import re
 from bpfdb.places import Listing, Object, Source
 from bpfdb.protocol import NOTHING, Failed
 from bpfdb.session import linked, maps_of
-from bpfdb.texts import ran, start_of
+from bpfdb.texts import copied, path_of, ran, start_of
 
 # The journal of a session that names none, in bytes; and the steps of a forward command, as bpfdb has them.
 JOURNAL, STEPS = 4194304, 1000000
@@ -61,16 +61,22 @@ class Wanted:
 
 
 class Loaded:
-    """A program that is ready to start: the words for it, files that are kept open for it, its places, and the shapes of its maps."""
+    """A program that is ready to start: the words for it, those for the object that was linked, files that are kept open for it, its places, and the
+    shapes of its maps."""
 
     def __init__(self, program, wanted):
         self.wanted, self.kept, self.source, path = wanted, [], Source(), wanted.file
+        self.linked_of = []
         words, shapes, names = wanted.for_debug(), wanted.maps, {}
         if wanted.is_object():
             link = wanted.for_link()
             content, said = linked(program, wanted.file, link)
             option, names = maps_of(said)
             self.kept, path = [content], f'/dev/fd/{content.fileno()}'
+            if not shapes:
+                # (the file itself may be compiled anew)
+                self.kept.append(copied(wanted.file))
+                self.linked_of = ['--object', *link, '--', path_of(self.kept[-1])]
             if option and not shapes:
                 words, shapes = words + option, option[1]
             self.source = Object(program, wanted.file, link, os.fstat(content.fileno()).st_size)

@@ -42,9 +42,11 @@ class Refused(Exception):
 class Program:
     """bpfdb, to which lines are sent and whose replies are read. A reply ends where two lines behind it are refused."""
 
-    def __init__(self, line, kept):
+    def __init__(self, line, kept, linked_of=()):
         # the files that it is given by their numbers, how many moves lie before the state and the most that did, and the lines that led there
         self.line, self.kept, self.moves, self.most, self.lines = line, kept, 0, 0, []
+        # the words for the object that was linked to its program, where its answers are to have the object's names
+        self.linked_of = linked_of
         # (a group of its own: an interrupt doesn't end it)
         self.child = subprocess.Popen(line, stdin=subprocess.PIPE, stdout=subprocess.PIPE, stderr=subprocess.PIPE, text=True,
                                       pass_fds=[file.fileno() for file in kept], encoding='utf-8', errors='surrogateescape', preexec_fn=os.setpgrp)
@@ -99,8 +101,12 @@ class Program:
         if subcommand != 'debug' or '--' not in words:
             raise Hint('the program that is built in has no file')
         at = words.index('--')
-        journal = [] if has(words[:at], '--journal') else ['--journal', self.ask('info history')[0].split()[-2]]
-        asked = [of, *words[:at], *journal, '--script', '/dev/stdin', *words[at:], *what]
+        options, file = words[:at], words[at:]
+        if of == 'origin' and self.linked_of:
+            # (the object has its maps)
+            options, file = without_maps(options), self.linked_of
+        journal = [] if has(options, '--journal') else ['--journal', self.ask('info history')[0].split()[-2]]
+        asked = [of, *options, *journal, '--script', '/dev/stdin', *file, *what]
         done = subprocess.run([self.line[0], *asked], input=''.join(line + '\n' for line in self.lines), capture_output=True, text=True,
                               pass_fds=[file.fileno() for file in self.kept], encoding='utf-8', errors='surrogateescape')
         return asked, done.stdout.splitlines()[1:] if done.stdout else done.stderr.splitlines()
@@ -154,6 +160,12 @@ def with_readable(words, kept):
         is_path = found[-1:] in (['-m'], ['--mem']) or name and path
         found.append(name + readable(path, kept) if is_path else word)
     return found
+
+
+def without_maps(words):
+    """Words without the option for maps, whose value is a word behind it."""
+    at = words.index('--maps') if '--maps' in words else len(words)
+    return words[:at] + words[at + 2:]
 
 
 def has(words, option):

@@ -14,7 +14,7 @@ from bpfdb.meanings import Meanings
 from bpfdb.places import Listing, Object, Source
 from bpfdb.prompt import Prompt, edit_lines, uncommented
 from bpfdb.session import MOVE, PLACE, Ended, Hint, Program, Refused, has, linked, maps_of, split_words, with_readable
-from bpfdb.texts import LONGEST_LINE, beside, is_text, path_of, plain, ran, readable, start_of, text_lines, warn
+from bpfdb.texts import LONGEST_LINE, beside, copied, is_text, path_of, plain, ran, readable, start_of, text_lines, warn
 from bpfdb.values import Values
 from bpfdb.ways import Ways
 
@@ -203,13 +203,17 @@ def opened(program, given):
     debug, file, options = split_words(given)
     link, kept = [word for option in options for word in option], []
     debug, path = with_readable(debug, kept), file and readable(file, kept)
-    source = Source()
+    source, linked_of = Source(), []
     if file and start_of(path, 4) == b'\x7fELF':
         content, said = linked(program, path, link, kept)
         # (--object says what is known already)
         debug = [word for word in debug if word != '--object']
         maps, names = maps_of(said)
-        debug += [] if has(debug, '--maps') else maps
+        if not has(debug, '--maps'):
+            debug += maps
+            # (the file itself may be compiled anew)
+            kept.append(copied(path))
+            linked_of = ['--object', *link, '--', path_of(kept[-1])]
         if sys.stdin.isatty():
             warn(f"> bpfdb link {' '.join([*link, file])}\n{said}", '')
         source = Object(program, path, link, os.fstat(content.fileno()).st_size, kept)
@@ -222,7 +226,7 @@ def opened(program, given):
         if '--listing' in debug and file and os.path.isfile(path):
             source = Listing(path, ran([program, 'lines', '--', path], kept)[0])
     line = [program] + (['debug', *debug] if given else []) + (['--', path] if file else [])
-    return Shell(Program(line, kept), source, not given)
+    return Shell(Program(line, kept, linked_of), source, not given)
 
 
 def explain(errors, source, given):

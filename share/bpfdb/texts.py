@@ -78,14 +78,20 @@ def path_of(file):
     return f'/dev/fd/{file.fileno()}'
 
 
+def copied(path):
+    """A copy of a file in memory."""
+    with open(path, 'rb') as file:
+        copy = in_memory()
+        copy.write(file.read(LONGEST_FILE + 1))
+        copy.flush()
+    return copy
+
+
 def readable(path, kept):
     """The path of a file that can be read again: of a pipe, which can't, that of a copy in memory, which is kept."""
     with contextlib.suppress(OSError):
         if stat.S_ISFIFO(os.stat(path).st_mode):
-            with open(path, 'rb') as pipe:
-                kept.append(in_memory())
-                kept[-1].write(pipe.read(LONGEST_FILE + 1))
-                kept[-1].flush()
+            kept.append(copied(path))
             return path_of(kept[-1])
     return path
 

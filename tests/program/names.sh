@@ -70,6 +70,15 @@ for compiler in $compilers; do
     [ "$(sed -n '2p' found/out)" = '-1 0x300000104:4 = 0xf; edit; in classes[3].limits[1].rate' ] || complain "an edit: $(cat found/out found/err)"
     "$program" origin --json --object places.o "$(printf '0x%x:4' $((0x300000000 + 260)))" > found/out 2> found/err
     grep -q '^{"kind":"move",.*,"from":\["r4"\],"initial":"slow\.rate","parts":\[{"part":"0x[0-9a-f]*:8","value":"0x3"}\]}$' found/out || complain "an initial value as JSON: $(cat found/out)"
+    # The shell asks with the object; where maps are given it has no names.
+    if command -v python3 > /dev/null; then
+        count=$((count + 2))
+        printf 'continue\norigin 0x300000104:4\n' | BPFDB=$program python3 "$top/share/bpfdb-shell" places.o > found/out 2> found/err
+        grep -q '^-[0-9]* 0x300000104:4 = 0xf; .*; in classes\[3\]\.limits\[1\]\.rate$' found/out || complain "the shell: $(cat found/out found/err)"
+        # shellcheck disable=SC2046
+        printf 'continue\norigin 0x300000104:4\n' | BPFDB=$program python3 "$top/share/bpfdb-shell" $(sed -n '1p' told) places.o > found/out 2> found/err
+        grep -q '^-[0-9]* 0x300000104:4 = 0xf; [^;]*; from r[0-9]$' found/out || complain "the shell with maps: $(cat found/out found/err)"
+    fi
     # As JSON a name is a member.
     "$program" origin --json --script empty --object places.o "$(printf '0x%x' $((0x300000000 + 260)))" > found/out 2> found/err
     count=$((count + 1))
