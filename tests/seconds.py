@@ -3,7 +3,8 @@
 
 seconds.py CRATE [FLAG..]: CRATE is a folder, FLAG one of the prover's, as --only PATH, or --incremental FOLDER, over what an earlier check left there.
 Without FLAG all is proved from nothing, and nothing is kept. A line has the seconds so far, those since the line before, and the function. What is proved
-between two functions, as files of lemmas, counts to the second; the first one has all that comes before. The libraries below have to be built (rt lib)."""
+between two functions, as files of lemmas and the steps of functions whose turn comes later, counts to the second; the first one has all that comes before. Over
+a new FOLDER the times of its files tell these apart. The libraries below have to be built (rt lib)."""
 import importlib.machinery
 import importlib.util
 import os

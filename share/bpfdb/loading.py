@@ -5,8 +5,8 @@ import re
 
 from bpfdb.places import Listing, Object, Source
 from bpfdb.protocol import NOTHING, Failed
-from bpfdb.session import linked, maps_of
-from bpfdb.texts import copied, path_of, ran, start_of
+from bpfdb.session import linked, maps_of, words_of_object
+from bpfdb.texts import ran, start_of
 
 # The journal of a session that names none, in bytes; and the steps of a forward command, as bpfdb has them.
 JOURNAL, STEPS = 4194304, 1000000
@@ -74,9 +74,7 @@ class Loaded:
             option, names = maps_of(said)
             self.kept, path = [content], f'/dev/fd/{content.fileno()}'
             if not shapes:
-                # (the file itself may be compiled anew)
-                self.kept.append(copied(wanted.file))
-                self.linked_of = ['--object', *link, '--', path_of(self.kept[-1])]
+                self.linked_of = words_of_object(wanted.file, link, self.kept)
             if option and not shapes:
                 words, shapes = words + option, option[1]
             self.source = Object(program, wanted.file, link, os.fstat(content.fileno()).st_size)

@@ -5,7 +5,7 @@ import os
 import re
 import subprocess
 
-from bpfdb.texts import in_memory, readable
+from bpfdb.texts import copied, in_memory, path_of, readable
 
 # The bytes that a journal may have. (docs/JOURNAL.md)
 LARGEST_JOURNAL = 16777216
@@ -160,6 +160,15 @@ def with_readable(words, kept):
         is_path = found[-1:] in (['-m'], ['--mem']) or name and path
         found.append(name + readable(path, kept) if is_path else word)
     return found
+
+
+def words_of_object(path, link, kept):
+    """The words for an object that was linked, as it is now: a copy of it is kept, since it may be compiled anew. None where it is gone already."""
+    try:
+        kept.append(copied(path))
+    except OSError:
+        return []
+    return ['--object', *link, '--', path_of(kept[-1])]
 
 
 def without_maps(words):

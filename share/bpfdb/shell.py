@@ -13,8 +13,8 @@ from bpfdb.listings import Listings
 from bpfdb.meanings import Meanings
 from bpfdb.places import Listing, Object, Source
 from bpfdb.prompt import Prompt, edit_lines, uncommented
-from bpfdb.session import MOVE, PLACE, Ended, Hint, Program, Refused, has, linked, maps_of, split_words, with_readable
-from bpfdb.texts import LONGEST_LINE, beside, copied, is_text, path_of, plain, ran, readable, start_of, text_lines, warn
+from bpfdb.session import MOVE, PLACE, Ended, Hint, Program, Refused, has, linked, maps_of, split_words, with_readable, words_of_object
+from bpfdb.texts import LONGEST_LINE, beside, is_text, path_of, plain, ran, readable, start_of, text_lines, warn
 from bpfdb.values import Values
 from bpfdb.ways import Ways
 
@@ -211,9 +211,7 @@ def opened(program, given):
         maps, names = maps_of(said)
         if not has(debug, '--maps'):
             debug += maps
-            # (the file itself may be compiled anew)
-            kept.append(copied(path))
-            linked_of = ['--object', *link, '--', path_of(kept[-1])]
+            linked_of = words_of_object(path, link, kept)
         if sys.stdin.isatty():
             warn(f"> bpfdb link {' '.join([*link, file])}\n{said}", '')
         source = Object(program, path, link, os.fstat(content.fileno()).st_size, kept)

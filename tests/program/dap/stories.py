@@ -99,7 +99,7 @@ def firewall():
     hold(editor.state(), before, 'the state before it')
     hold(editor.go('continue')[0], 'exited', 'the end without it')
     hold(editor.body['description'], 'exited at 12: r0 0x2', 'XDP_PASS')
-    # (XDP_PASS is the third of the verdicts that are counted; over gdb names of places are gdb's)
+    # (XDP_PASS is the third of the verdicts that are counted; over gdb no name is told)
     passed = editor.ask('bpfdb/origin', what='0x300000010:8')['lines'][0]['text']
     hold(passed.endswith('; in verdicts[2]'), OVER == 'bpfdb', 'the name of a value of a map')
     hold(editor.go('reverseContinue')[::2], ('breakpoint', 54), 'back to the breakpoint')
