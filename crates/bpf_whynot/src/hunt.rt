@@ -1,4 +1,4 @@
-//! A pass over a history, as far as it has come.
+//! A pass over a history that looks for branches, as far as it has come.
 
 use crate::Sure;
 use crate::branch_aim::Aim;

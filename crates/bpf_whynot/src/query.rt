@@ -1,4 +1,4 @@
-//! What is asked, and how.
+//! What is asked about the branches that decided that a value came about, and how.
 
 use bpf_origin::Question;
 use bpfdb_script::SlotTexts;

@@ -1,4 +1,4 @@
-//! What is asked, and how.
+//! What is asked about an instruction that was not come to, and how.
 
 use crate::reach::Reach;
 use bpf_origin::Question;

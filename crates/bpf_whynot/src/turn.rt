@@ -1,4 +1,4 @@
-//! One move of the pass.
+//! One move of the pass that looks for branches.
 ghost use Rattle.std.specs.Prelude.{◌≡◌, ◌≤◌, ◌<◌, ◌+◌, ◌↔◌, ℕ, true, false, List, IfOk, not, if◌then◌else◌};
 ghost use Rattle.bpf_isa.specs.Checker.{most_slots};
 ghost use Rattle.bpf_isa.specs.Programs.{Checked};

@@ -1,4 +1,4 @@
-//! Moves that made a value: those that the answer about the value tells.
+//! Moves that made a value whose branches are asked for: those that the answer about the value tells.
 ghost use Rattle.std.specs.Prelude.{◌≡◌, ◌∷◌, List, take, true, false};
 ghost use Rattle.bpf_entries.specs.Past.{past};
 ghost use Rattle.bpf_entries.specs.Status.{has_ended};
