@@ -1,5 +1,6 @@
 -- Answers to where a value came from, and their packets.
-use Rattle.std.proofs.Common.{◌≡◌, ◌≤◌, ◌*◌, inl, inr, ℕ, List, [], ◌∷◌, ◌++◌, Option, Some, None, Bool, true, false, Result, Ok, Err, IfOk, length, refl, sym, ap, subst, ◌∙◌, append_assoc, arith}
+use Rattle.std.proofs.Common.{◌≡◌, ◌≤◌, ◌*◌, ◌⊎◌, inl, inr, ℕ, List, [], ◌∷◌, ◌++◌, Option, Some, None, Bool, true, false, Result, Ok, Err, IfOk, length, refl, sym, ap, subst, ◌∙◌, append_assoc, arith}
+use Rattle.std.specs.Borrow.{Bor}
 use Rattle.std.specs.Prelude.{MatchResult, if◌then◌else◌, drop, take}
 use Rattle.std.specs.Option.{option_map, unwrap_or}
 use Rattle.std.proofs.lemmas.Grind.{common_steps}
@@ -16,10 +17,13 @@ use Rattle.bpf_entries.specs.Keeping.{Kept}
 use Rattle.bpf_journal.specs.Tracks.{Track}
 use Rattle.bpf_origin.specs.Asked.{answer_about, parts_asked}
 use Rattle.bpf_origin.specs.declared.what.What.{What}
+use Rattle.bpf_lines.specs.NamedTexts.{named_text}
+use Rattle.bpf_lines.specs.declared.place_names.Names.{Names}
 use Rattle.bpf_session.specs.Sessions.{HasPast, SessionValue}
 use Rattle.bpf_remote.specs.Numbers.{behind, hex_text}
-use Rattle.bpf_remote.specs.Origins.{ComesBack, asked_in, named_in, Fits, Shows, TellsOrigin, longest_part, question_of, too_long}
+use Rattle.bpf_remote.specs.Origins.{ComesBack, asked_in, named_in, Fits, FitsNamed, Shows, TellsOrigin, longest_part, question_of, too_long}
 use Rattle.bpf_remote.specs.Packets.{framed, longest_body}
+use Rattle.bpf_remote.specs.declared.manners.Manners.{Manners}
 use Rattle.bpf_remote.proofs.Consoles.{no-text}
 
 -- A text that fits, and one that doesn't.
@@ -28,18 +32,30 @@ pub fitting : {A E : Type 0} (items : A → List ℕ) (r : Result A E) (shown an
 fitting items (Ok a) shown answer is e = inl (is ∙ e)
 fitting items (Err fault) shown answer is e = inr is
 
-pub fitting-all : {A E T : Type 0} (items : A → List ℕ) (r : Result A E) (shown : List ℕ) (P : T → Type 0) (answer : T → List ℕ)
-    → MatchResult r (λ a. shown ≡ items a) (λ _. shown ≡ too_long) → IfOk r (λ a. (t : T) → P t → items a ≡ answer t) → (t : T) → P t → Fits (answer t) shown
-fitting-all items (Ok a) shown P answer is e t p = inl (is ∙ e t p)
-fitting-all items (Err fault) shown P answer is e t p = inr is
+-- The same of one that is told with names; and one without names, and what there is no memory to name, are told as they are.
+pub fitting-named : {A E T : Type 0} (items : A → List ℕ) (r : Result A E) (shown : List ℕ) (names : Option (Bor Names)) (P : T → Type 0) (answer : T → List ℕ)
+    → MatchResult r (λ a. FitsNamed names (items a) shown) (λ _. shown ≡ too_long) → IfOk r (λ a. (t : T) → P t → items a ≡ answer t) → (t : T) → P t
+    → FitsNamed names (answer t) shown
+fitting-named items (Ok a) shown names P answer is e t p = subst (λ (v : List ℕ). FitsNamed names v shown) (e t p) is
+fitting-named items (Err fault) shown names P answer is e t p = inl (inr is)
+
+pub without-names : {A E : Type 0} (r : Result A E) (text shown : List ℕ) → MatchResult r (λ _. shown ≡ text) (λ _. shown ≡ too_long)
+    → MatchResult r (λ _. FitsNamed None text shown) (λ _. shown ≡ too_long)
+without-names (Ok a) text shown is = inr is
+without-names (Err fault) text shown is = is
+
+pub with-names : (names : Bor Names) (text shown : List ℕ) → (shown ≡ named_text names.now text) ⊎ (shown ≡ text) → FitsNamed (Some names) text shown
+with-names names text shown (inl is) = inl (inl is)
+with-names names text shown (inr is) = inr is
 
 module _ {K : Type 0} (holds : K → List Kept → Type 0) (refusals room : K → ℕ) where
-  pub tells-answer : {A E : Type 0} (items : A → List ℕ) (r : Result A E) (what : Option What) (old new : SessionValue K) (moves left : ℕ) (shown : List ℕ)
+  pub tells-answer : {A E : Type 0} (items : A → List ℕ) (r : Result A E) (m : Manners) (what : Option What) (old new : SessionValue K) (left : ℕ) (shown : List ℕ)
       → ComesBack holds refusals room old new left
-      → IfOk r (λ a. (t : Track) → HasPast holds old t → items a ≡ (answer_about (question_of moves t) (parts_asked old.moment.state what) t.history old.moment.state).text)
-      → MatchResult r (λ a. shown ≡ items a) (λ _. shown ≡ too_long) → TellsOrigin holds refusals room (Ok what) old new moves left shown
-  tells-answer items r what old new moves left shown back texts is =
-      (back, fitting-all items r shown (HasPast holds old) (λ t. (answer_about (question_of moves t) (parts_asked old.moment.state what) t.history old.moment.state).text) is texts)
+      → IfOk r (λ a. (t : Track) → HasPast holds old t → items a ≡ (answer_about (question_of m.moves t) (parts_asked old.moment.state what) t.history old.moment.state).text)
+      → MatchResult r (λ a. FitsNamed m.target.names (items a) shown) (λ _. shown ≡ too_long)
+      → TellsOrigin holds refusals room m (Ok what) old new left shown
+  tells-answer items r m what old new left shown back texts is =
+      (back, fitting-named items r shown m.target.names (HasPast holds old) (λ t. (answer_about (question_of m.moves t) (parts_asked old.moment.state what) t.history old.moment.state).text) is texts)
 
 -- No part is left, and one more was shown.
 shows-none : Shows [] []

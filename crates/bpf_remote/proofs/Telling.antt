@@ -36,9 +36,9 @@ six-parts text a p b q c e =
 
 -- r10, pc and the moves before a stop
 pub stop-parts : (text : List ℕ) (m : Manners) (x : State) (pointer counter : ℕ) → pointer ≡ value_of x 10 → counter ≡ value_of x 11
-    → (((((text ++ codes "thread:0;0a:") ++ word_text pointer) ++ codes ";0b:") ++ word_text counter) ++ codes ";") ++ moves_text m.layout m.moves ≡ text ++ stop_text m x
+    → (((((text ++ codes "thread:0;0a:") ++ word_text pointer) ++ codes ";0b:") ++ word_text counter) ++ codes ";") ++ moves_text m.target.layout m.moves ≡ text ++ stop_text m x
 stop-parts text m x pointer counter e f =
-    rw (e, f) (six-parts text (codes "thread:0;0a:") (word_text (value_of x 10)) (codes ";0b:") (word_text (value_of x 11)) (codes ";") (moves_text m.layout m.moves))
+    rw (e, f) (six-parts text (codes "thread:0;0a:") (word_text (value_of x 10)) (codes ";0b:") (word_text (value_of x 11)) (codes ";") (moves_text m.target.layout m.moves))
 
 pub moves-there : (text : List ℕ) (gdb : Layout) (moves : ℕ) → has_moves gdb ≡ true → ((text ++ codes "40:") ++ word_text moves) ++ codes ";" ≡ text ++ moves_text gdb moves
 moves-there text gdb moves e =

@@ -16,10 +16,10 @@ use Rattle.bpf_remote.specs.Packets.{Buffer, Holds, IsItem, longest_body, is_end
 use Rattle.bpf_remote.specs.Serving.{Ends, Serves, Breaks, opening}
 use Rattle.bpf_remote.specs.Streams.{Reads, ReadsItem}
 use Rattle.bpf_remote.specs.Turning.{Sides, Standings, TakesTurn}
-use Rattle.bpf_remote.specs.declared.layout.Layout.{Layout}
 use Rattle.bpf_remote.specs.declared.manners.Manners.{Manners}
 use Rattle.bpf_remote.specs.declared.stream.Item.{Item}
 use Rattle.bpf_remote.specs.declared.stream.Item.TheVariants as item
+use Rattle.bpf_remote.specs.declared.target.Target.{Target}
 use Rattle.bpf_remote.proofs.Reading.{Reads-none, Reads-trans, Reads-Fails, IsAll-trans}
 
 pub sent-short : (text : List ℕ) → length text ≤ longest_body → text ≡ sent text
@@ -63,7 +63,7 @@ no-end item.End e f = cc
 
 module _ {K R W : Type 0} (holds : K → List Kept → Type 0) (refusals room : K → ℕ) (remaining : R → Option (List ℕ)) (contents : W → Option (List ℕ)) where
   -- what holds between two turns
-  pub record Serving (gdb : Layout) (from now : SessionValue K) (manners : Manners) (conditions : ConditionList) (answer : Buffer) (reader reader' : Tally R) (writer writer' : Tally W) : Type 0 where
+  pub record Serving (gdb : Target) (from now : SessionValue K) (manners : Manners) (conditions : ConditionList) (answer : Buffer) (reader reader' : Tally R) (writer writer' : Tally W) : Type 0 where
     pub nearer : reader.reads ≤ reader'.reads
     pub turns : List (Turn holds refusals room)
     pub are : AreTurns holds refusals room (opening gdb from) turns
@@ -76,7 +76,7 @@ module _ {K R W : Type 0} (holds : K → List Kept → Type 0) (refusals room : 
     pub told : Appends (contents writer.inner) (contents writer'.inner) (told_in holds refusals room turns)
     pub same : writer'.failures ≡ writer.failures
 
-  pub Serving-start : (gdb : Layout) (from : SessionValue K) (manners : Manners) (conditions : ConditionList) (answer : Buffer) (reader : Tally R) (writer : Tally W) → (record { acknowledges = true; swbreak = false; layout = gdb; moves = 0 }) ≡ manners → conditions ≡ [] → Holds answer []
+  pub Serving-start : (gdb : Target) (from : SessionValue K) (manners : Manners) (conditions : ConditionList) (answer : Buffer) (reader : Tally R) (writer : Tally W) → (record { acknowledges = true; swbreak = false; target = gdb; moves = 0 }) ≡ manners → conditions ≡ [] → Holds answer []
       → Serving gdb from from manners conditions answer reader reader writer writer
   Serving-start gdb from manners conditions answer reader writer e none h = record {
     nearer = omega arith;
@@ -100,7 +100,7 @@ module _ {K R W : Type 0} (holds : K → List Kept → Type 0) (refusals room : 
   standings old new conditions conditions' = record { old = old; new = new; conditions = conditions; conditions' = conditions' }
 
   -- a turn that was taken behind some
-  pub record Taken (gdb : Layout) (from : SessionValue K) (reader reader' : Tally R) (writer : Tally W) (session : SessionValue K) (manners : Manners) (conditions : ConditionList) (answer : Buffer) (on : Bool) : Type 0 where
+  pub record Taken (gdb : Target) (from : SessionValue K) (reader reader' : Tally R) (writer : Tally W) (session : SessionValue K) (manners : Manners) (conditions : ConditionList) (answer : Buffer) (on : Bool) : Type 0 where
     pub turn : Turn holds refusals room
     pub turns : List (Turn holds refusals room)
     pub are : AreTurns holds refusals room (opening gdb from) (turn ∷ turns)
@@ -118,7 +118,7 @@ module _ {K R W : Type 0} (holds : K → List Kept → Type 0) (refusals room : 
     pub same : now.failures ≡ writer.failures
     pub then : Writes contents now writer' result told
 
-  take : {A E F : Type 0} (gdb : Layout) (from session session' : SessionValue K) (manners manners' : Manners) (conditions conditions' : ConditionList) (answer answer' request : Buffer) (reader reader' reader'' : Tally R) (writer writer' writer'' : Tally W)
+  take : {A E F : Type 0} (gdb : Target) (from session session' : SessionValue K) (manners manners' : Manners) (conditions conditions' : ConditionList) (answer answer' request : Buffer) (reader reader' reader'' : Tally R) (writer writer' writer'' : Tally W)
       (said : Item) (result : Result A E) (on : Bool)
       → Serving gdb from session manners conditions answer reader reader' writer writer'
       → ReadsItem {E = F} remaining reader' reader'' request (Ok said) → is_end said ≡ false
@@ -159,7 +159,7 @@ module _ {K R W : Type 0} (holds : K → List Kept → Type 0) (refusals room : 
       )
 
   -- the next turn follows
-  Serving-more : {E : Type 0} (gdb : Layout) (from session : SessionValue K) (manners : Manners) (conditions : ConditionList) (answer : Buffer) (reader reader' : Tally R) (writer now writer' : Tally W) (on value : Bool)
+  Serving-more : {E : Type 0} (gdb : Target) (from session : SessionValue K) (manners : Manners) (conditions : ConditionList) (answer : Buffer) (reader reader' : Tally R) (writer now writer' : Tally W) (on value : Bool)
       → (t : Taken gdb from reader reader' writer session manners conditions answer on) → Wrote {E = E} writer now writer' (told_in holds refusals room t.turns) t.turn.told (Ok value) → on ≡ true
       → Serving gdb from session manners conditions answer reader reader' writer writer'
   Serving-more gdb from session manners conditions answer reader reader' writer now writer' on value t w e = record {
@@ -176,11 +176,11 @@ module _ {K R W : Type 0} (holds : K → List Kept → Type 0) (refusals room : 
     same = w.then.same ∙ w.same;
   }
 
-  abbrev ends : Layout → SessionValue K → SessionValue K → Tally R → Tally R → Tally W → Tally W → Ends K R W
+  abbrev ends : Target → SessionValue K → SessionValue K → Tally R → Tally R → Tally W → Tally W → Ends K R W
   ends gdb from to reader reader' writer writer' = record { gdb = gdb; from = from; to = to; reader = reader; reader' = reader'; writer = writer; writer' = writer' }
 
   -- gdb leaves
-  Serves-left : {E : Type 0} (gdb : Layout) (from session : SessionValue K) (manners : Manners) (conditions : ConditionList) (answer : Buffer) (reader reader' : Tally R) (writer now writer' : Tally W) (on value : Bool)
+  Serves-left : {E : Type 0} (gdb : Target) (from session : SessionValue K) (manners : Manners) (conditions : ConditionList) (answer : Buffer) (reader reader' : Tally R) (writer now writer' : Tally W) (on value : Bool)
       → (t : Taken gdb from reader reader' writer session manners conditions answer on) → Wrote {E = E} writer now writer' (told_in holds refusals room t.turns) t.turn.told (Ok value) → on ≡ false
       → Serves holds refusals room remaining contents (ends gdb from session reader reader' writer writer')
   Serves-left gdb from session manners conditions answer reader reader' writer now writer' on value t w e = (
@@ -192,7 +192,7 @@ module _ {K R W : Type 0} (holds : K → List Kept → Type 0) (refusals room : 
   )
 
   -- the stream ends
-  pub Serves-ended : {F : Type 0} (gdb : Layout) (from session : SessionValue K) (manners : Manners) (conditions : ConditionList) (answer request : Buffer) (reader reader' reader'' : Tally R) (writer writer' : Tally W) (said : Item)
+  pub Serves-ended : {F : Type 0} (gdb : Target) (from session : SessionValue K) (manners : Manners) (conditions : ConditionList) (answer request : Buffer) (reader reader' reader'' : Tally R) (writer writer' : Tally W) (said : Item)
       → Serving gdb from session manners conditions answer reader reader' writer writer' → ReadsItem {E = F} remaining reader' reader'' request (Ok said) → is_end said ≡ true
       → Serves holds refusals room remaining contents (ends gdb from session reader reader'' writer writer')
   Serves-ended gdb from session manners conditions answer request reader reader' reader'' writer writer' said s r e =
@@ -212,7 +212,7 @@ module _ {K R W : Type 0} (holds : K → List Kept → Type 0) (refusals room : 
       )
 
   -- a read fails
-  pub Breaks-read : {E : Type 0} (gdb : Layout) (from session : SessionValue K) (manners : Manners) (conditions : ConditionList) (answer request : Buffer) (reader reader' reader'' : Tally R) (writer writer' : Tally W) (fault : E)
+  pub Breaks-read : {E : Type 0} (gdb : Target) (from session : SessionValue K) (manners : Manners) (conditions : ConditionList) (answer request : Buffer) (reader reader' reader'' : Tally R) (writer writer' : Tally W) (fault : E)
       → Serving gdb from session manners conditions answer reader reader' writer writer' → ReadsItem remaining reader' reader'' request (Err fault)
       → Breaks holds refusals room remaining contents Read (ends gdb from session reader reader'' writer writer')
   Breaks-read gdb from session manners conditions answer request reader reader' reader'' writer writer' fault s r =
@@ -220,7 +220,7 @@ module _ {K R W : Type 0} (holds : K → List Kept → Type 0) (refusals room : 
       (s.turns, s.are, s.session, (s.told, s.same), s.on, p.0, p.2, Reads-Fails remaining reader reader' reader'' (read_in holds refusals room s.turns) p.0 s.read p.1)
 
   -- a write fails
-  Breaks-write : {A E : Type 0} (gdb : Layout) (from session : SessionValue K) (manners : Manners) (conditions : ConditionList) (answer : Buffer) (reader reader' : Tally R) (writer now writer' : Tally W) (on : Bool) (fault : E)
+  Breaks-write : {A E : Type 0} (gdb : Target) (from session : SessionValue K) (manners : Manners) (conditions : ConditionList) (answer : Buffer) (reader reader' : Tally R) (writer now writer' : Tally W) (on : Bool) (fault : E)
       → (t : Taken gdb from reader reader' writer session manners conditions answer on) → Wrote {A = A} writer now writer' (told_in holds refusals room t.turns) t.turn.told (Err fault)
       → Breaks holds refusals room remaining contents Write (ends gdb from session reader reader' writer writer')
   Breaks-write gdb from session manners conditions answer reader reader' writer now writer' on fault t w =
@@ -233,7 +233,7 @@ module _ {K R W : Type 0} (holds : K → List Kept → Type 0) (refusals room : 
       × TakesTurn holds refusals room contents (standings (sides session manners answer writer) (sides session' manners' answer' writer') conditions conditions') (result, on) said request
 
   -- behind a turn: the next one, the end, a failure
-  pub after-more : {E F : Type 0} (gdb : Layout) (from session session' : SessionValue K) (manners manners' : Manners) (conditions conditions' : ConditionList) (answer answer' request : Buffer) (reader reader' reader'' : Tally R) (writer writer' writer'' : Tally W)
+  pub after-more : {E F : Type 0} (gdb : Target) (from session session' : SessionValue K) (manners manners' : Manners) (conditions conditions' : ConditionList) (answer answer' request : Buffer) (reader reader' reader'' : Tally R) (writer writer' writer'' : Tally W)
       (said : Item) (result : Result Bool E) (value : Bool)
       → Serving gdb from session manners conditions answer reader reader' writer writer' → ReadsItem {E = F} remaining reader' reader'' request (Ok said) → is_end said ≡ false
       → Turned session session' manners manners' conditions conditions' answer answer' request writer' writer'' said result → result ≡ Ok value → value ≡ true → Serving gdb from session' manners' conditions' answer' reader reader'' writer writer''
@@ -243,7 +243,7 @@ module _ {K R W : Type 0} (holds : K → List Kept → Type 0) (refusals room : 
       let u : t.0 ≡ true = sym t.1 ∙ cc in
       Serving-more gdb from session' manners' conditions' answer' reader reader'' writer writer' writer'' t.0 y k.0 k.1 u
 
-  pub after-left : {E F : Type 0} (gdb : Layout) (from session session' : SessionValue K) (manners manners' : Manners) (conditions conditions' : ConditionList) (answer answer' request : Buffer) (reader reader' reader'' : Tally R) (writer writer' writer'' : Tally W)
+  pub after-left : {E F : Type 0} (gdb : Target) (from session session' : SessionValue K) (manners manners' : Manners) (conditions conditions' : ConditionList) (answer answer' request : Buffer) (reader reader' reader'' : Tally R) (writer writer' writer'' : Tally W)
       (said : Item) (result : Result Bool E) (value : Bool)
       → Serving gdb from session manners conditions answer reader reader' writer writer' → ReadsItem {E = F} remaining reader' reader'' request (Ok said) → is_end said ≡ false
       → Turned session session' manners manners' conditions conditions' answer answer' request writer' writer'' said result → result ≡ Ok value → value ≡ false → Serves holds refusals room remaining contents (ends gdb from session' reader reader'' writer writer'')
@@ -253,7 +253,7 @@ module _ {K R W : Type 0} (holds : K → List Kept → Type 0) (refusals room : 
       let u : t.0 ≡ false = sym t.1 ∙ cc in
       Serves-left gdb from session' manners' conditions' answer' reader reader'' writer writer' writer'' t.0 y k.0 k.1 u
 
-  pub after-failure : {E F : Type 0} (gdb : Layout) (from session session' : SessionValue K) (manners manners' : Manners) (conditions conditions' : ConditionList) (answer answer' request : Buffer) (reader reader' reader'' : Tally R) (writer writer' writer'' : Tally W)
+  pub after-failure : {E F : Type 0} (gdb : Target) (from session session' : SessionValue K) (manners manners' : Manners) (conditions conditions' : ConditionList) (answer answer' request : Buffer) (reader reader' reader'' : Tally R) (writer writer' writer'' : Tally W)
       (said : Item) (result : Result Bool E) (fault : E)
       → Serving gdb from session manners conditions answer reader reader' writer writer' → ReadsItem {E = F} remaining reader' reader'' request (Ok said) → is_end said ≡ false
       → Turned session session' manners manners' conditions conditions' answer answer' request writer' writer'' said result → result ≡ Err fault → Breaks holds refusals room remaining contents Write (ends gdb from session' reader reader'' writer writer'')

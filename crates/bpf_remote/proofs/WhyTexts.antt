@@ -19,9 +19,10 @@ use Rattle.bpf_whynot.specs.declared.fault.AimFault.{AimFault}
 use Rattle.bpf_whynot.specs.declared.fault.AimFault.TheVariants.{Goal, OutOfMemory}
 use Rattle.bpf_whynot.specs.declared.fault.GoalFault.{GoalFault}
 use Rattle.bpf_remote.specs.Numbers.{behind}
-use Rattle.bpf_remote.specs.Origins.{ComesBack, Fits, too_long}
+use Rattle.bpf_remote.specs.Origins.{ComesBack, Fits, FitsNamed, too_long}
 use Rattle.bpf_remote.specs.Whynots.{IsAimed, TellsGoals, TellsWhynot, aim_refusal, asks_whynot, query_of}
-use Rattle.bpf_remote.proofs.OriginTexts.{fitting-all}
+use Rattle.bpf_remote.specs.declared.manners.Manners.{Manners}
+use Rattle.bpf_remote.proofs.OriginTexts.{fitting-named}
 
 -- What a line asks that begins with `whynot` and a blank, and one that doesn't.
 pub asks-behind : (digits rest : List ℕ) → bytes_eq digits (codes "7768796e6f74") ≡ false → behind (codes "7768796e6f7420") digits ≡ Some rest
@@ -81,21 +82,21 @@ unspelled text out n r fault e m is =
 
 module _ {K : Type 0} (holds : K → List Kept → Type 0) (refusals room : K → ℕ) where
   -- An answer about some slots.
-  pub tells-goals : {A E : Type 0} (items : A → List ℕ) (r : Result A E) (asked : List ℕ) (old new : SessionValue K) (aim : Aim) (moves left : ℕ) (shown : List ℕ)
+  pub tells-goals : {A E : Type 0} (items : A → List ℕ) (r : Result A E) (m : Manners) (asked : List ℕ) (old new : SessionValue K) (aim : Aim) (left : ℕ) (shown : List ℕ)
       → (aims : IsAim old.moment.state.program asked aim) → ComesBack holds refusals room old new left
-      → IfOk r (λ a. (t : Track) → HasPast holds old t → items a ≡ (why_not (told_by aim.reach) (query_of moves aims.goals t) t.history old.moment.state).text)
-      → MatchResult r (λ a. shown ≡ items a) (λ _. shown ≡ too_long) → TellsWhynot holds refusals room asked old new moves left shown
-  tells-goals items r asked old new aim moves left shown aims back texts is =
-      inl (subst (λ (goals : Result (List ℕ) GoalFault). TellsGoals holds refusals room goals old new moves left shown) (sym aims.named) (
+      → IfOk r (λ a. (t : Track) → HasPast holds old t → items a ≡ (why_not (told_by aim.reach) (query_of m.moves aims.goals t) t.history old.moment.state).text)
+      → MatchResult r (λ a. FitsNamed m.target.names (items a) shown) (λ _. shown ≡ too_long) → TellsWhynot holds refusals room m asked old new left shown
+  tells-goals items r m asked old new aim left shown aims back texts is =
+      inl (subst (λ (goals : Result (List ℕ) GoalFault). TellsGoals holds refusals room m goals old new left shown) (sym aims.named) (
         told_by aim.reach,
         aims.tells,
         back,
-        fitting-all items r shown (HasPast holds old) (λ t. (why_not (told_by aim.reach) (query_of moves aims.goals t) t.history old.moment.state).text) is texts,
+        fitting-named items r shown m.target.names (HasPast holds old) (λ t. (why_not (told_by aim.reach) (query_of m.moves aims.goals t) t.history old.moment.state).text) is texts,
       ))
 
   -- Why there is none.
-  pub tells-none : (fault : AimFault) (asked : List ℕ) (s : SessionValue K) (moves : ℕ) (shown : List ℕ)
-      → IsNoAim s.moment.state.program asked fault → Fits (aim_refusal fault) shown → TellsWhynot holds refusals room asked s s moves 0 shown
-  tells-none (Goal fault) asked s moves shown none fits =
-      inl (subst (λ (goals : Result (List ℕ) GoalFault). TellsGoals holds refusals room goals s s moves 0 shown) (sym none) (refl, refl, fits))
-  tells-none OutOfMemory asked s moves shown none fits = inr (refl, refl, fits)
+  pub tells-none : (fault : AimFault) (m : Manners) (asked : List ℕ) (s : SessionValue K) (shown : List ℕ)
+      → IsNoAim s.moment.state.program asked fault → Fits (aim_refusal fault) shown → TellsWhynot holds refusals room m asked s s 0 shown
+  tells-none (Goal fault) m asked s shown none fits =
+      inl (subst (λ (goals : Result (List ℕ) GoalFault). TellsGoals holds refusals room m goals s s 0 shown) (sym none) (refl, refl, fits))
+  tells-none OutOfMemory m asked s shown none fits = inr (refl, refl, fits)

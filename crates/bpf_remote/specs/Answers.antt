@@ -100,7 +100,7 @@ abbrev pub moves_text : Layout → ℕ → List ℕ
 moves_text gdb moves = if has_moves gdb then codes "40:" ++ word_text moves ++ codes ";" else []
 
 abbrev pub stop_text : Manners → State → List ℕ
-stop_text m x = codes "thread:0;0a:" ++ word_text (value_of x 10) ++ codes ";0b:" ++ word_text (value_of x 11) ++ codes ";" ++ moves_text m.layout m.moves
+stop_text m x = codes "thread:0;0a:" ++ word_text (value_of x 10) ++ codes ";0b:" ++ word_text (value_of x 11) ++ codes ";" ++ moves_text m.target.layout m.moves
 
 -- The first n of them.
 unfoldable pub registers_below : State → ℕ → List ℕ
@@ -156,11 +156,11 @@ text_of m x (answer.Error number) = error_text number
 text_of m x (answer.Halted halt) = text_of_halt m.swbreak halt ++ stop_text m x
 text_of m x (answer.Watched address) = watched_text address ++ stop_text m x
 text_of m x answer.Actions = codes "vCont;c;C;s;S;r"
-text_of m x answer.Registers = registers_text m.layout x
+text_of m x answer.Registers = registers_text m.target.layout x
 text_of m x (answer.Register n) = register_text m x n
 text_of m x (answer.Memory address count) = memory_text x address count
-text_of m x answer.Supported = supported_text m.layout
-text_of m x (answer.Description offset count) = description_text m.layout offset count
+text_of m x answer.Supported = supported_text m.target.layout
+text_of m x (answer.Description offset count) = description_text m.target.layout offset count
 text_of m x answer.Attached = codes "1"
 text_of m x answer.Empty = []
 

@@ -181,12 +181,12 @@ module _ {K : Type 0} (holds : K → List Kept → Type 0) (refusals room : K �
       × (new.manners ≡ record old.manners { moves = moves })
       × (told ≡ acknowledgement old.manners ++ framed (sent new.last)) × (on ≡ true)
   DoesAsked old new (Some asked) digits told on =
-      DoesShow old new (TellsOrigin holds refusals room asked old.session new.session old.manners.moves) told on
+      DoesShow old new (TellsOrigin holds refusals room old.manners asked old.session new.session) told on
 
   abbrev pub DoesWhy : Place K → Place K → Option (List ℕ) → List ℕ → List ℕ → Bool → Type 0
   DoesWhy old new None digits told on = DoesAsked old new (asked_in old.session.moment.state digits) digits told on
   DoesWhy old new (Some asked) digits told on =
-      DoesShow old new (TellsWhynot holds refusals room asked old.session new.session old.manners.moves) told on
+      DoesShow old new (TellsWhynot holds refusals room old.manners asked old.session new.session) told on
 
   abbrev pub DoesLine : Place K → Place K → List ℕ → List ℕ → Bool → Type 0
   DoesLine old new digits told on = DoesWhy old new (asks_whynot digits) digits told on

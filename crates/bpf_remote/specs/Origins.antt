@@ -1,12 +1,15 @@
 -- `monitor origin`: where a value came from, asked of the session as it stands. bpfdb's own choice.
 use Rattle.std.specs.Prelude.{◌≡◌, ◌==◌, ℕ, List, [], ◌∷◌, ◌++◌, ◌⊎◌, Option, Some, None, Result, Ok, Err, decimal, if◌then◌else◌, false, length}
 use lib.Chars.{codes}
+use Rattle.std.specs.Borrow.{Bor}
 use Rattle.std.specs.Option.{option_map, option_and_then}
 use Rattle.std.specs.Result.{result_ok}
 use Rattle.std.specs.Str.{bytes_eq}
 use Rattle.hex.specs.Hex.{decode_of}
 use Rattle.bpf_entries.specs.Keeping.{Kept}
 use Rattle.bpf_journal.specs.Tracks.{Track}
+use Rattle.bpf_lines.specs.NamedTexts.{named_text}
+use Rattle.bpf_lines.specs.declared.place_names.Names.{Names}
 use Rattle.bpf_steps.specs.State.{State}
 use Rattle.bpf_origin.specs.Asked.{answer_about, parts_asked, what_fault, what_in}
 use Rattle.bpf_origin.specs.Pasts.{CourseStands, LeavesMoves, gone_from}
@@ -16,6 +19,7 @@ use Rattle.bpf_origin.specs.declared.what.What.{What}
 use Rattle.bpf_session.specs.Sessions.{HasPast, SessionValue, bounds_of}
 use Rattle.bpf_remote.specs.Numbers.{behind, hex_text}
 use Rattle.bpf_remote.specs.Packets.{framed}
+use Rattle.bpf_remote.specs.declared.manners.Manners.{Manners}
 
 -- The most lines of moves that are told.
 abbrev pub most_lines : ℕ
@@ -51,12 +55,21 @@ refused_line begin number text = begin ++ decimal number ++ codes ": " ++ text +
 abbrev pub what_refusal : WhatFault → List ℕ
 what_refusal fault = refused_line (codes "refused V") (what_fault fault).0 (what_fault fault).1
 
+-- The names of the places that a text tells stand in it where they are known.
+abbrev pub named_by : Option (Bor Names) → List ℕ → List ℕ
+named_by None text = text
+named_by (Some names) text = named_text names.now text
+
 -- A text is told, or that it is too long.
 abbrev pub too_long : List ℕ
 too_long = codes "cut: the answer has more than 32768 bytes\n"
 
 abbrev pub Fits : List ℕ → List ℕ → Type 0
 Fits answer text = (text ≡ answer) ⊎ (text ≡ too_long)
+
+-- So is one with names; it is told without them where there is no memory for that.
+abbrev pub FitsNamed : Option (Bor Names) → List ℕ → List ℕ → Type 0
+FitsNamed names answer text = Fits (named_by names answer) text ⊎ (text ≡ answer)
 
 -- The longest part of a text that fits a packet, and a text that is shown to gdb's user in packets, a part of it in each.
 abbrev pub longest_part : ℕ
@@ -84,10 +97,10 @@ module _ {K : Type 0} (holds : K → List Kept → Type 0) (refusals room : K �
     pub stands : (t : Track) → HasPast holds old t → CourseStands holds new.moment (gone_from left t old.moment.state)
     pub leaves : LeavesMoves refusals old.moment.keeper new.moment.keeper left
 
-  -- What is told of what is asked, where so many moves lie before the state: the answer over the kept history, or the refusal.
-  abbrev pub TellsOrigin : Result (Option What) WhatFault → SessionValue K → SessionValue K → ℕ → ℕ → List ℕ → Type 0
-  TellsOrigin (Err fault) old new moves left text = (new ≡ old) × (left ≡ 0) × Fits (what_refusal fault) text
-  TellsOrigin (Ok what) old new moves left text =
+  -- What is told of what is asked: the answer over the kept history, with the names that are known, or the refusal.
+  abbrev pub TellsOrigin : Manners → Result (Option What) WhatFault → SessionValue K → SessionValue K → ℕ → List ℕ → Type 0
+  TellsOrigin m (Err fault) old new left text = (new ≡ old) × (left ≡ 0) × Fits (what_refusal fault) text
+  TellsOrigin m (Ok what) old new left text =
       ComesBack old new left
       × ((t : Track) → HasPast holds old t →
-      Fits (answer_about (question_of moves t) (parts_asked old.moment.state what) t.history old.moment.state).text text)
+      FitsNamed m.target.names (answer_about (question_of m.moves t) (parts_asked old.moment.state what) t.history old.moment.state).text text)

@@ -9,19 +9,19 @@ use Rattle.bpf_session.specs.declared.fault.RunFault.TheVariants.{Read, Write}
 use Rattle.bpf_remote.specs.Packets.{IsUnfinished}
 use Rattle.bpf_remote.specs.Streams.{Reads, Fails, IsAll}
 use Rattle.bpf_remote.specs.Connections.{Desk, Turn, AreTurns, GoOn, end_of, read_in, told_in}
-use Rattle.bpf_remote.specs.declared.layout.Layout.{Layout}
 use Rattle.bpf_remote.specs.declared.manners.Manners.{Manners}
+use Rattle.bpf_remote.specs.declared.target.Target.{Target}
 
 -- At first packets are acknowledged, gdb is not known to understand `swbreak`, nothing has moved, and there is no last answer and no condition.
-abbrev pub first_manners : Layout → Manners
-first_manners gdb = record { acknowledges = true; swbreak = false; layout = gdb; moves = 0 }
+abbrev pub first_manners : Target → Manners
+first_manners gdb = record { acknowledges = true; swbreak = false; target = gdb; moves = 0 }
 
-abbrev pub opening : {K : Type 0} → Layout → SessionValue K → Desk K
+abbrev pub opening : {K : Type 0} → Target → SessionValue K → Desk K
 opening gdb session = record { place = record { session = session; manners = first_manners gdb; last = [] }; conditions = [] }
 
 -- What was known before a connection and after it.
 pub record Ends (K R W : Type 0) : Type 0 where
-  pub gdb : Layout
+  pub gdb : Target
   pub from : SessionValue K
   pub to : SessionValue K
   pub reader : Tally R

@@ -20,7 +20,8 @@ use Rattle.bpf_whynot.specs.declared.fault.GoalFault.{GoalFault}
 use Rattle.bpfdb_script.specs.Refusals.{refusal_text}
 use Rattle.bpfdb_script.specs.declared.refusal.Refusal.TheVariants as refusal
 use Rattle.bpf_remote.specs.Numbers.{behind}
-use Rattle.bpf_remote.specs.Origins.{ComesBack, Fits, question_of, refused_line}
+use Rattle.bpf_remote.specs.Origins.{ComesBack, Fits, FitsNamed, question_of, refused_line}
+use Rattle.bpf_remote.specs.declared.manners.Manners.{Manners}
 
 -- What a line asks about, by the digits that gdb writes for it: an empty text where it is `whynot`, and the text behind `whynot` and a blank;
 -- None for another line.
@@ -44,15 +45,17 @@ abbrev pub query_of : ℕ → List ℕ → Track → Query
 query_of moves goals t = record { goals = goals; question = question_of moves t; alone = false; places = None }
 
 module _ {K : Type 0} (holds : K → List Kept → Type 0) (refusals room : K → ℕ) where
-  -- What is told of slots: the answer over the kept history, by a test that tells from where they can be come to; or why a text names none.
-  abbrev pub TellsGoals : Result (List ℕ) GoalFault → SessionValue K → SessionValue K → ℕ → ℕ → List ℕ → Type 0
-  TellsGoals (Err fault) old new moves left text = (new ≡ old) × (left ≡ 0) × Fits (aim_refusal (Goal fault)) text
-  TellsGoals (Ok goals) old new moves left text = (can : ℕ → List ℕ → Bool) × TellsReach old.moment.state.program goals can
+  -- What is told of slots: the answer over the kept history, by a test that tells from where they can be come to, with the names that are known; or
+  -- why a text names none.
+  abbrev pub TellsGoals : Manners → Result (List ℕ) GoalFault → SessionValue K → SessionValue K → ℕ → List ℕ → Type 0
+  TellsGoals m (Err fault) old new left text = (new ≡ old) × (left ≡ 0) × Fits (aim_refusal (Goal fault)) text
+  TellsGoals m (Ok goals) old new left text = (can : ℕ → List ℕ → Bool) × TellsReach old.moment.state.program goals can
       × ComesBack holds refusals room old new left
-      × ((t : Track) → HasPast holds old t → Fits (why_not can (query_of moves goals t) t.history old.moment.state).text text)
+      × ((t : Track) → HasPast holds old t →
+      FitsNamed m.target.names (why_not can (query_of m.moves goals t) t.history old.moment.state).text text)
 
   -- The same of the slots that a text names; or that there is no memory for that test.
-  abbrev pub TellsWhynot : List ℕ → SessionValue K → SessionValue K → ℕ → ℕ → List ℕ → Type 0
-  TellsWhynot asked old new moves left text =
-      TellsGoals (goals_in old.moment.state.program asked) old new moves left text
+  abbrev pub TellsWhynot : Manners → List ℕ → SessionValue K → SessionValue K → ℕ → List ℕ → Type 0
+  TellsWhynot m asked old new left text =
+      TellsGoals m (goals_in old.moment.state.program asked) old new left text
       ⊎ ((new ≡ old) × (left ≡ 0) × Fits (aim_refusal OutOfMemory) text)

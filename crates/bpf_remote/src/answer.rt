@@ -146,9 +146,9 @@ pub(crate) fn answer_of_set<A>(answer: &Result<A, Refusal>) -> Answer
 }
 
 /// Writes an answer behind a body.
-pub(crate) fn append_answer(answer: Answer, cpu: &Cpu, manners: Manners, body: &mut Body)
+pub(crate) fn append_answer(answer: Answer, cpu: &Cpu, manners: Manners<'_>, body: &mut Body)
     ensures { (text : List ℕ) → Holds body.old text →
-        Holds body.new (text ++ text_of manners cpu.now answer) }
+        Holds body.new (text ++ text_of manners.entry cpu.now answer) }
 {
     match answer {
         Answer::Done => body.append(b"OK"),
@@ -161,12 +161,12 @@ pub(crate) fn append_answer(answer: Answer, cpu: &Cpu, manners: Manners, body: &
             append_watched(address, body);
             append_stop(cpu, manners, body);
         }
-        Answer::Registers => append_registers(cpu, manners.layout, body),
+        Answer::Registers => append_registers(cpu, manners.target.layout, body),
         Answer::Register(n) => append_register(cpu, manners, n, body),
         Answer::Memory { address, count } => append_memory(cpu, address, count, body),
-        Answer::Supported => body.append(supported_text(manners.layout).as_bytes()),
+        Answer::Supported => body.append(supported_text(manners.target.layout).as_bytes()),
         Answer::Description { offset, count } => {
-            append_description(manners.layout, offset, count, body)
+            append_description(manners.target.layout, offset, count, body)
         }
         Answer::Attached => body.append(b"1"),
         Answer::Actions => body.append(b"vCont;c;C;s;S;r"),
@@ -201,16 +201,16 @@ fn append_watched(address: u64, body: &mut Body)
 }
 
 /// Writes r10, pc and how many moves lie before behind a body.
-fn append_stop(cpu: &Cpu, manners: Manners, body: &mut Body)
+fn append_stop(cpu: &Cpu, manners: Manners<'_>, body: &mut Body)
     ensures { (text : List ℕ) → Holds body.old text →
-        Holds body.new (text ++ stop_text manners cpu.now) }
+        Holds body.new (text ++ stop_text manners.entry cpu.now) }
 {
     body.append(b"thread:0;0a:");
     body.append_word(value_of(cpu, 10));
     body.append(b";0b:");
     body.append_word(value_of(cpu, 11));
     body.append(b";");
-    append_moves(manners.layout, manners.moves, body);
+    append_moves(manners.target.layout, manners.moves, body);
 }
 
 /// Writes how many moves lie before behind a body, where gdb is told of that register.
@@ -297,9 +297,9 @@ fn append_registers(cpu: &Cpu, layout: Layout, body: &mut Body)
 }
 
 /// Writes the value of a register behind a body.
-fn append_register(cpu: &Cpu, manners: Manners, n: u64, body: &mut Body)
+fn append_register(cpu: &Cpu, manners: Manners<'_>, n: u64, body: &mut Body)
     ensures { (text : List ℕ) → Holds body.old text →
-        Holds body.new (text ++ register_text manners cpu.now n) }
+        Holds body.new (text ++ register_text manners.entry cpu.now n) }
 {
     if n <= 22 {
         body.append_word(value_of(cpu, n as u8));

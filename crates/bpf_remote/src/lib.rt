@@ -19,6 +19,7 @@ mod remark;
 mod request;
 mod serving;
 mod stream;
+mod target;
 mod ways;
 mod whynot;
 
@@ -34,3 +35,4 @@ pub use remark::Remark;
 pub use request::Request;
 pub use serving::serve;
 pub use stream::{Item, next_item};
+pub use target::Target;

@@ -1,15 +1,15 @@
 //! How gdb is talked to, and how far the program has gone.
-use crate::layout::Layout;
+use crate::target::Target;
 
 /// How gdb is talked to, and how far the program has gone.
 #[derive(Clone, Copy)]
-pub struct Manners {
+pub struct Manners<'a> {
     /// Packets are acknowledged, which they are at first.
     pub acknowledges: bool,
     /// gdb understands `swbreak` in an answer.
     pub swbreak: bool,
-    /// Which machine gdb takes this one for.
-    pub layout: Layout,
+    /// What gdb is told of.
+    pub target: Target<'a>,
     /// How many moves lie before the state, those that the journal dropped too.
     pub moves: u64,
 }

@@ -95,20 +95,20 @@ fn answer_to<K: Keeper>(session: &Session<K>, request: &Request) -> Answer
 }
 
 /// How gdb is talked to behind a request, before whose state so many moves lie then.
-pub(crate) fn manners_after(request: &Request, moves: u64, manners: Manners) -> Manners
-    ensures { result ≡ manners_after request.now moves manners }
+pub(crate) fn manners_after<'a>(request: &Request, moves: u64, manners: Manners<'a>) -> Manners<'a>
+    ensures { result ≡ manners_after request.now moves manners.entry }
 {
     match request {
         Request::Silence => Manners {
             acknowledges: false,
             swbreak: manners.swbreak,
-            layout: manners.layout,
+            target: manners.target,
             moves,
         },
         Request::Supported { swbreak } => Manners {
             acknowledges: manners.acknowledges,
             swbreak: *swbreak,
-            layout: manners.layout,
+            target: manners.target,
             moves,
         },
         _ => with_moves(moves, manners),
@@ -130,13 +130,13 @@ pub(crate) fn keep_conditions(request: &Request, told: Answer, conditions: &mut 
 }
 
 /// Manners as they are, but for the count of moves.
-pub(crate) fn with_moves(moves: u64, manners: Manners) -> Manners
-    ensures { result ≡ record manners { moves = moves } }
+pub(crate) fn with_moves(moves: u64, manners: Manners<'_>) -> Manners<'_>
+    ensures { result ≡ record manners.entry { moves = moves } }
 {
     Manners {
         acknowledges: manners.acknowledges,
         swbreak: manners.swbreak,
-        layout: manners.layout,
+        target: manners.target,
         moves,
     }
 }

@@ -1,26 +1,30 @@
 //! `monitor origin`: where a value came from, asked of the session as it stands.
-ghost use Rattle.std.specs.Prelude.{◌≡◌, ◌≤◌, ◌∷◌, ℕ, IfOk, List, MatchResult, Ok, Some, length};
+ghost use Rattle.std.specs.Prelude.{◌≡◌, ◌≤◌, ◌⊎◌, ◌∷◌, ℕ, IfOk, List, MatchResult, Ok, Some, length};
 ghost use Rattle.std.specs.Option.{option_map};
 ghost use Rattle.std.specs.Result.{result_ok};
 ghost use Rattle.bpf_journal.specs.Tracks.{Track};
+ghost use Rattle.bpf_lines.specs.NamedTexts.{named_text};
 ghost use Rattle.bpf_origin.specs.Asked.{answer_about, parts_asked};
 ghost use Rattle.bpf_remote.specs.Numbers.{hex_text};
-ghost use Rattle.bpf_remote.specs.Origins.{ComesBack, Fits, Shows, TellsOrigin, asked_in, longest_part, named_in, question_of, refused_line, too_long};
+ghost use Rattle.bpf_remote.specs.Origins.{ComesBack, Fits, FitsNamed, Shows, TellsOrigin, asked_in, longest_part, named_in, question_of, refused_line, too_long};
 ghost use Rattle.bpf_remote.specs.Packets.{framed, longest_body};
 ghost use Rattle.bpf_session.specs.Sessions.{HasPast};
 ghost use Rattle.counted_io.specs.Writing.{WritesAfter};
 ghost use Rattle.hex.specs.Hex.{decode_of};
 
 use crate::body::{Body, LONGEST_BODY};
+use crate::manners::Manners;
 use crate::number::behind;
 use crate::packet::put_packet;
 use crate::parser::is;
 use arrayvec::ArrayVec;
 use bpf_journal::Keeper;
+use bpf_lines::{Names, put_named};
 use bpf_machine::Cpu;
 use bpf_origin::{Question, Wanted, What, WhatFault, look_back, parts_asked};
 use bpf_session::Session;
 use counted_io::{Counted, WriteFault, put, put_decimal};
+use std::alloc::Global;
 use std::io::Write;
 
 /// The most lines of moves that are told.
@@ -141,23 +145,24 @@ fn put_refused<W: Write>(
     put(writer, told, b"\n")
 }
 
-/// Shows gdb's user what is asked, before whose state so many moves lie. The session stands then
-/// where it stood, but for the moves that its keeper refused to keep again: it answers how many.
+/// Shows gdb's user what is asked. The session stands then where it stood, but for the moves that its
+/// keeper refused to keep again: it answers how many.
 pub(crate) fn show_origin<K: Keeper, W: Write>(
+    alloc: Global,
     session: &mut Session<K>,
     wanted: &mut Wanted,
     asked: Result<Option<What>, WhatFault>,
-    moves: u64,
+    manners: Manners<'_>,
     body: &mut Body,
     writer: &mut Counted<W>,
     so_far: Result<(), WriteFault>,
 ) -> (Result<(), WriteFault>, u64)
     ensures { (text told : List ℕ) × Shows text told
-        × TellsOrigin K.holds K.refused K.room asked session.old session.new moves result.1 text
+        × TellsOrigin K.holds K.refused K.room manners.entry asked session.old session.new result.1 text
         × WritesAfter W.contents writer.old so_far writer.new result.0 told }
 {
     match asked {
-        Ok(what) => show_answer(session, wanted, what, moves, body, writer, so_far),
+        Ok(what) => show_answer(alloc, session, wanted, what, manners, body, writer, so_far),
         Err(fault) => {
             let told = show_refused(
                 b"refused V",
@@ -175,20 +180,23 @@ pub(crate) fn show_origin<K: Keeper, W: Write>(
 /// Shows the answer about what is asked, as `show_origin` does.
 #[inline(never)]
 fn show_answer<K: Keeper, W: Write>(
+    alloc: Global,
     session: &mut Session<K>,
     wanted: &mut Wanted,
     what: Option<What>,
-    moves: u64,
+    manners: Manners<'_>,
     body: &mut Body,
     writer: &mut Counted<W>,
     so_far: Result<(), WriteFault>,
 ) -> (Result<(), WriteFault>, u64)
     ensures { (text told : List ℕ) × Shows text told
-        × TellsOrigin K.holds K.refused K.room (Ok what) session.old session.new moves result.1 text
+        × TellsOrigin K.holds K.refused K.room manners.entry (Ok what) session.old session.new result.1 text
         × WritesAfter W.contents writer.old so_far writer.new result.0 told }
 {
-    let answered = answer_text(session, wanted, what, moves);
-    let told = show_text(
+    let answered = answer_text(session, wanted, what, manners.moves);
+    let told = show_told(
+        alloc,
+        manners.target.names,
         answered.text.as_slice(),
         &answered.written,
         body,
@@ -196,6 +204,55 @@ fn show_answer<K: Keeper, W: Write>(
         so_far,
     );
     (told, answered.left)
+}
+
+/// Shows gdb's user a text, if it was written whole, with the names of the places that it tells where
+/// these are known; or that it is too long.
+pub(crate) fn show_told<W: Write>(
+    alloc: Global,
+    names: Option<&Names<'_>>,
+    text: &[u8],
+    written: &Result<(), WriteFault>,
+    body: &mut Body,
+    writer: &mut Counted<W>,
+    so_far: Result<(), WriteFault>,
+) -> Result<(), WriteFault>
+    ensures { (shown told : List ℕ) × Shows shown told
+        × MatchResult written.now (λ _. FitsNamed names.entry text.now shown)
+        (λ _. shown ≡ too_long)
+        × WritesAfter W.contents writer.old so_far writer.new result told }
+{
+    match names {
+        None => show_text(text, written, body, writer, so_far),
+        Some(names) => match written {
+            Ok(()) => show_named(alloc, names, text, body, writer, so_far),
+            Err(_) => show_text(text, written, body, writer, so_far),
+        },
+    }
+}
+
+/// Shows gdb's user a text with the names of the places that it tells, or without them where there is
+/// no memory for that.
+fn show_named<W: Write>(
+    alloc: Global,
+    names: &Names<'_>,
+    text: &[u8],
+    body: &mut Body,
+    writer: &mut Counted<W>,
+    so_far: Result<(), WriteFault>,
+) -> Result<(), WriteFault>
+    ensures { (shown told : List ℕ) × Shows shown told
+        × ((shown ≡ named_text names.now text.now) ⊎ (shown ≡ text.now))
+        × WritesAfter W.contents writer.old so_far writer.new result told }
+{
+    let mut named = Counted::new(Vec::new(alloc));
+    match put_named(&mut named, Ok(()), names, text) {
+        Ok(()) => {
+            let named = named.into_inner();
+            show(named.as_slice(), body, writer, so_far)
+        }
+        Err(WriteFault) => show(text, body, writer, so_far),
+    }
 }
 
 /// Shows gdb's user the line of a refusal, behind its first words and its letter.
@@ -218,7 +275,7 @@ pub(crate) fn show_refused<W: Write>(
 }
 
 /// Shows gdb's user a text, if it was written whole, or that it is too long.
-pub(crate) fn show_text<W: Write>(
+fn show_text<W: Write>(
     text: &[u8],
     written: &Result<(), WriteFault>,
     body: &mut Body,

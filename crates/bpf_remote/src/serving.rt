@@ -12,7 +12,6 @@ ghost use Rattle.bpf_remote.specs.Whynots.{IsAimed};
 
 use crate::answer::append_answer;
 use crate::body::Body;
-use crate::layout::Layout;
 use crate::manners::Manners;
 use crate::number::behind;
 use crate::obeying::{
@@ -24,6 +23,7 @@ use crate::packet::put_packet;
 use crate::parser::request_of;
 use crate::remark::{Remark, remark_of};
 use crate::stream::{Item, next_item};
+use crate::target::Target;
 use crate::whynot::{aim_in, show_why};
 use bpf_agent::Conditions;
 use bpf_journal::Keeper;
@@ -37,11 +37,11 @@ use std::io::{Read, Write};
 
 /// Serves a connection: answers each packet of a stream, up to its end or until gdb leaves. The
 /// writer is flushed after each answer. `wanted` has the memory for answers where a value came from;
-/// more is taken only while it is answered why a slot was not come to. `gdb` is the machine that gdb
-/// is told of.
+/// more is taken only while one is told with names (without them, where it isn't there), and while it
+/// is answered why a slot was not come to. `gdb` is what gdb is told of.
 pub fn serve<K: Keeper, R: Read, W: Write>(
     alloc: Global,
-    gdb: Layout,
+    gdb: Target<'_>,
     session: &mut Session<K>,
     wanted: &mut Wanted,
     reader: &mut Counted<R>,
@@ -49,7 +49,7 @@ pub fn serve<K: Keeper, R: Read, W: Write>(
 ) -> Result<(), RunFault>
     ensures ok { OnOk result (Serves K.holds K.refused K.room R.remaining W.contents
         (record {
-          gdb = gdb;
+          gdb = gdb.entry;
           from = session.old;
           to = session.new;
           reader = reader.old;
@@ -59,7 +59,7 @@ pub fn serve<K: Keeper, R: Read, W: Write>(
         })) }
     ensures err { IfErr result (λ why. Breaks K.holds K.refused K.room R.remaining W.contents why
         (record {
-          gdb = gdb;
+          gdb = gdb.entry;
           from = session.old;
           to = session.new;
           reader = reader.old;
@@ -71,7 +71,7 @@ pub fn serve<K: Keeper, R: Read, W: Write>(
     let mut manners = Manners {
         acknowledges: true,
         swbreak: false,
-        layout: gdb,
+        target: gdb,
         moves: 0,
     };
     let mut conditions = Conditions::new();
@@ -110,7 +110,7 @@ fn take_turn<K: Keeper, W: Write>(
     alloc: Global,
     session: &mut Session<K>,
     wanted: &mut Wanted,
-    manners: &mut Manners,
+    manners: &mut Manners<'_>,
     conditions: &mut Conditions,
     item: Item,
     request: &Body,
@@ -168,7 +168,7 @@ fn answer_item<K: Keeper, W: Write>(
     alloc: Global,
     session: &mut Session<K>,
     wanted: &mut Wanted,
-    manners: &mut Manners,
+    manners: &mut Manners<'_>,
     conditions: &mut Conditions,
     item: Item,
     request: &Body,
@@ -211,7 +211,7 @@ fn answer_body<K: Keeper, W: Write>(
     alloc: Global,
     session: &mut Session<K>,
     wanted: &mut Wanted,
-    manners: &mut Manners,
+    manners: &mut Manners<'_>,
     conditions: &mut Conditions,
     body: &[u8],
     answer: &mut Body,
@@ -253,7 +253,7 @@ fn answer_line<K: Keeper, W: Write>(
     alloc: Global,
     session: &mut Session<K>,
     wanted: &mut Wanted,
-    manners: &mut Manners,
+    manners: &mut Manners<'_>,
     digits: &[u8],
     answer: &mut Body,
     writer: &mut Counted<W>,
@@ -274,16 +274,17 @@ fn answer_line<K: Keeper, W: Write>(
         }) result digits.now }
 {
     match aim_in(alloc, session.cpu().program(), digits) {
-        Some(aimed) => answer_why(session, wanted, manners, &aimed, answer, writer),
-        None => answer_other(session, wanted, manners, digits, answer, writer),
+        Some(aimed) => answer_why(alloc, session, wanted, manners, &aimed, answer, writer),
+        None => answer_other(alloc, session, wanted, manners, digits, answer, writer),
     }
 }
 
 /// Answers why the program did not come to some slots.
 fn answer_why<K: Keeper, W: Write>(
+    alloc: Global,
     session: &mut Session<K>,
     wanted: &mut Wanted,
-    manners: &mut Manners,
+    manners: &mut Manners<'_>,
     aimed: &Result<Aim, AimFault>,
     answer: &mut Body,
     writer: &mut Counted<W>,
@@ -305,7 +306,9 @@ fn answer_why<K: Keeper, W: Write>(
         }) result (Some asked, digits) }
 {
     let begun = acknowledge(*manners, writer);
-    let (told, left) = show_why(session, wanted, aimed, manners.moves, answer, writer, begun);
+    let (told, left) = show_why(
+        alloc, session, wanted, aimed, *manners, answer, writer, begun,
+    );
     let moves = manners.moves.saturating_sub(left);
     *manners = with_moves(moves, *manners);
     answer.clear();
@@ -315,9 +318,10 @@ fn answer_why<K: Keeper, W: Write>(
 
 /// Answers a line that doesn't ask that, which hexadecimal digits spell.
 fn answer_other<K: Keeper, W: Write>(
+    alloc: Global,
     session: &mut Session<K>,
     wanted: &mut Wanted,
-    manners: &mut Manners,
+    manners: &mut Manners<'_>,
     digits: &[u8],
     answer: &mut Body,
     writer: &mut Counted<W>,
@@ -338,16 +342,17 @@ fn answer_other<K: Keeper, W: Write>(
         }) result (None, digits.now) }
 {
     match asked_in(session.cpu(), digits) {
-        Some(asked) => answer_asked(session, wanted, manners, asked, answer, writer),
+        Some(asked) => answer_asked(alloc, session, wanted, manners, asked, answer, writer),
         None => answer_script(session, manners, digits, answer, writer),
     }
 }
 
 /// Answers where a value came from.
 fn answer_asked<K: Keeper, W: Write>(
+    alloc: Global,
     session: &mut Session<K>,
     wanted: &mut Wanted,
-    manners: &mut Manners,
+    manners: &mut Manners<'_>,
     asked: Result<Option<What>, WhatFault>,
     answer: &mut Body,
     writer: &mut Counted<W>,
@@ -368,7 +373,9 @@ fn answer_asked<K: Keeper, W: Write>(
         }) result (Some asked, digits) }
 {
     let begun = acknowledge(*manners, writer);
-    let (told, left) = show_origin(session, wanted, asked, manners.moves, answer, writer, begun);
+    let (told, left) = show_origin(
+        alloc, session, wanted, asked, *manners, answer, writer, begun,
+    );
     *manners = with_moves(manners.moves.saturating_sub(left), *manners);
     answer.clear();
     answer.append(b"OK");
@@ -378,7 +385,7 @@ fn answer_asked<K: Keeper, W: Write>(
 /// Answers a line of a script, which hexadecimal digits spell.
 fn answer_script<K: Keeper, W: Write>(
     session: &mut Session<K>,
-    manners: &mut Manners,
+    manners: &mut Manners<'_>,
     digits: &[u8],
     answer: &mut Body,
     writer: &mut Counted<W>,
@@ -408,7 +415,7 @@ fn answer_script<K: Keeper, W: Write>(
 /// Answers a request.
 fn answer_request<K: Keeper, W: Write>(
     session: &mut Session<K>,
-    manners: &mut Manners,
+    manners: &mut Manners<'_>,
     conditions: &mut Conditions,
     body: &[u8],
     answer: &mut Body,
@@ -471,8 +478,8 @@ fn put_console<W: Write>(
 }
 
 /// Acknowledges a packet, where that is wanted.
-fn acknowledge<W: Write>(manners: Manners, writer: &mut Counted<W>) -> Result<(), WriteFault>
-    ensures { Writes W.contents writer.old writer.new result (acknowledgement manners) }
+fn acknowledge<W: Write>(manners: Manners<'_>, writer: &mut Counted<W>) -> Result<(), WriteFault>
+    ensures { Writes W.contents writer.old writer.new result (acknowledgement manners.entry) }
 {
     if manners.acknowledges {
         write_text(writer, b"+")

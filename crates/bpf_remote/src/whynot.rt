@@ -13,8 +13,9 @@ ghost use Rattle.counted_io.specs.Writing.{WritesAfter};
 ghost use Rattle.hex.specs.Hex.{decode_of};
 
 use crate::body::{Body, LONGEST_BODY};
+use crate::manners::Manners;
 use crate::number::behind;
-use crate::origin::{Answered, MOST_LINES, show_refused, show_text};
+use crate::origin::{Answered, MOST_LINES, show_refused, show_told};
 use crate::parser::is;
 use arrayvec::ArrayVec;
 use bpf_isa::Program;
@@ -64,25 +65,26 @@ fn aim_by(alloc: Global, program: &Program, digits: &[u8]) -> Option<Result<Aim,
     }
 }
 
-/// Shows gdb's user why the program did not come to what is asked about, or why there is no answer,
-/// before whose state so many moves lie. The session stands then where it stood, but for the moves
-/// that its keeper refused to keep again: it answers how many.
+/// Shows gdb's user why the program did not come to what is asked about, or why there is no answer.
+/// The session stands then where it stood, but for the moves that its keeper refused to keep again:
+/// it answers how many.
 pub(crate) fn show_why<K: Keeper, W: Write>(
+    alloc: Global,
     session: &mut Session<K>,
     wanted: &mut Wanted,
     aimed: &Result<Aim, AimFault>,
-    moves: u64,
+    manners: Manners<'_>,
     body: &mut Body,
     writer: &mut Counted<W>,
     so_far: Result<(), WriteFault>,
 ) -> (Result<(), WriteFault>, u64)
     ensures { (asked : List ℕ) → IsAimed session.old.moment.state.program asked aimed.now →
         (text told : List ℕ) × Shows text told
-        × TellsWhynot K.holds K.refused K.room asked session.old session.new moves result.1 text
+        × TellsWhynot K.holds K.refused K.room manners.entry asked session.old session.new result.1 text
         × WritesAfter W.contents writer.old so_far writer.new result.0 told }
 {
     match aimed {
-        Ok(aim) => show_goals(session, wanted, aim, moves, body, writer, so_far),
+        Ok(aim) => show_goals(alloc, session, wanted, aim, manners, body, writer, so_far),
         Err(fault) => (show_aim_refusal(*fault, body, writer, so_far), 0),
     }
 }
@@ -120,21 +122,24 @@ fn show_aim_refusal<W: Write>(
 /// Shows the answer about some slots, as `show_why` does.
 #[inline(never)]
 fn show_goals<K: Keeper, W: Write>(
+    alloc: Global,
     session: &mut Session<K>,
     wanted: &mut Wanted,
     aim: &Aim,
-    moves: u64,
+    manners: Manners<'_>,
     body: &mut Body,
     writer: &mut Counted<W>,
     so_far: Result<(), WriteFault>,
 ) -> (Result<(), WriteFault>, u64)
     ensures { (asked : List ℕ) → IsAim session.old.moment.state.program asked aim.now →
         (text told : List ℕ) × Shows text told
-        × TellsWhynot K.holds K.refused K.room asked session.old session.new moves result.1 text
+        × TellsWhynot K.holds K.refused K.room manners.entry asked session.old session.new result.1 text
         × WritesAfter W.contents writer.old so_far writer.new result.0 told }
 {
-    let answered = why_text(session, wanted, aim, moves);
-    let told = show_text(
+    let answered = why_text(session, wanted, aim, manners.moves);
+    let told = show_told(
+        alloc,
+        manners.target.names,
         answered.text.as_slice(),
         &answered.written,
         body,

@@ -8,11 +8,15 @@ use Rattle.bpf_whynot.specs.Answers.{Query, why_not}
 use Rattle.bpf_whynot.specs.Asked.{goals_in}
 use Rattle.bpf_whynot.specs.Reach.{TellsReach}
 use Rattle.bpf_whynot.specs.declared.fault.GoalFault.{GoalFault}
-use Rattle.std.specs.Prelude.{Result}
+use Rattle.std.specs.Borrow.{Bor}
+use Rattle.std.specs.Prelude.{Option, Result}
+use Rattle.bpf_link.specs.declared.fault.LinkFault.{LinkFault}
+use Rattle.bpf_lines.specs.declared.place_names.Names.{Names}
 use Rattle.bpf_isa.specs.Programs.{Checked}
 use Rattle.bpf_whynot.specs.declared.fault.GoalFault.TheVariants.{NoSlot}
-use Rattle.bpfdb_jobs.specs.Jobs.{AreAsked, AsksGoals, Prints, asked_of, origin_print}
+use Rattle.bpfdb_jobs.specs.Jobs.{AreAsked, AsksGoals, Prints, asked_of, named_print, section_of}
 use Rattle.bpfdb_jobs.specs.Openings.{HasArrived}
+use Rattle.bpfdb_jobs.specs.Origins.{AreNamesOf, RefusesNames}
 use Rattle.bpfdb_jobs.specs.Refusals.{RefusesAs, RefusesWhynot, lacks_place}
 use Rattle.bpfdb_jobs.specs.Whynots.{IsRefusalOf, RefusesGoals}
 use Rattle.bpfdb_jobs.specs.declared.job.Job.{Job}
@@ -55,19 +59,28 @@ module _ (job : Job) (moment : Moment RingKeeper) (n : ℕ) (a : HasArrived job 
   -- the answer about it is printed
   pub whynot-prints : (s : Query) (goals : List ℕ) (can : ℕ → List ℕ → Bool) → s ≡ search job goals a.at.point.history n
       → AsksGoals job moment.state.program (Ok goals) → TellsReach moment.state.program goals can
-      → Prints Whynot job (origin_print moment.state (why_not can s a.at.point.history moment.state))
-  whynot-prints s goals can asks named tells = (
+      → (names : Option Names) → AreNamesOf job.object (section_of job) names
+      → Prints Whynot job (named_print names moment.state (why_not can s a.at.point.history moment.state))
+  whynot-prints s goals can asks named tells names known = (
     a.code,
     a.at,
     goals,
     can,
+    names,
     a.opens,
     a.arrives,
     subst (λ (x : State). AsksGoals job x.program (Ok goals)) a.state named,
     subst (λ (x : State). TellsReach x.program goals can) a.state tells,
-    ap (λ (z : Query). origin_print moment.state (why_not can z a.at.point.history moment.state)) (asks ∙ ap (search job goals a.at.point.history) a.counted)
-        ∙ ap (λ (x : State). origin_print x (why_not can (search job goals a.at.point.history a.at.moves) a.at.point.history x)) a.state,
+    known,
+    ap (λ (z : Query). named_print names moment.state (why_not can z a.at.point.history moment.state)) (asks ∙ ap (search job goals a.at.point.history) a.counted)
+        ∙ ap (λ (x : State). named_print names x (why_not can (search job goals a.at.point.history a.at.moves) a.at.point.history x)) a.state,
   )
+
+  -- nothing is known of the names in maps
+  pub names-lack : (goals : List ℕ) → AsksGoals job moment.state.program (Ok goals) → (fault : LinkFault) (name : Bor (List ℕ))
+      → RefusesNames job.object (section_of job) fault name.now → RefusesAs Whynot job (Object fault name)
+  names-lack goals named fault name lacks =
+      (a.code, a.at, goals, a.opens, a.arrives, subst (λ (x : State). AsksGoals job x.program (Ok goals)) a.state named, lacks)
 
   -- and so is what it refuses
   at-goals : (goals : Result (List ℕ) GoalFault) → AsksGoals job moment.state.program goals → AsksGoals job a.at.point.state.program goals

@@ -1,16 +1,21 @@
 -- What serving gdb leaves: a session of the job was served, to the connection's end or until a read or a write failed.
-use Rattle.std.specs.Prelude.{ℕ}
+use Rattle.std.specs.Prelude.{ℕ, ◌≡◌, ◌⊎◌, Option, None}
+use Rattle.std.specs.Option.{option_map}
 use Rattle.bpf_isa.specs.Programs.{Checked}
 use Rattle.bpf_journal.specs.Tracks.{RingHolds, ring_room}
+use Rattle.bpf_lines.specs.declared.place_names.Names.{Names}
+use Rattle.bpf_link.specs.declared.fault.LinkFault.{LinkFault}
 use Rattle.bpf_ring.specs.declared.keeper.RingKeeper.{RingKeeper}
 use Rattle.bpf_remote.specs.Serving.{Breaks, Ends, Serves}
 use Rattle.bpf_remote.specs.declared.layout.Layout.{Layout}
 use Rattle.bpf_remote.specs.declared.layout.Layout.TheVariants as layout
+use Rattle.bpf_remote.specs.declared.target.Target.{Target}
 use Rattle.bpf_session.specs.Runs.{HasStanding}
 use Rattle.bpf_session.specs.Sessions.{SessionValue}
 use Rattle.bpf_session.specs.declared.fault.RunFault.{RunFault}
 use Rattle.bpfdb_faults.specs.Streams.{Stream}
-use Rattle.bpfdb_jobs.specs.Jobs.{start_of}
+use Rattle.bpfdb_jobs.specs.Jobs.{section_of, start_of}
+use Rattle.bpfdb_jobs.specs.Origins.{AreNamesOf, LacksNames}
 use Rattle.bpfdb_jobs.specs.declared.job.Job.{Job}
 use Rattle.bpfdb_options.specs.declared.registers.Registers.{Registers}
 use Rattle.bpfdb_options.specs.declared.registers.Registers.TheVariants as registers
@@ -21,6 +26,15 @@ layout_of registers.Bpf = layout.Bpf
 layout_of registers.X86 = layout.X86
 layout_of registers.Riscv = layout.Riscv
 
+-- The names that gdb is told: those in the maps of the object that the words come from; none where these can't be known.
+abbrev pub KnowsNames : Job → Option Names → Type 0
+KnowsNames job names =
+    AreNamesOf job.object (section_of job) names ⊎ ((names ≡ None) × (why : LinkFault) × LacksNames job.object (section_of job) why)
+
+pub record IsTarget (job : Job) (gdb : Target) : Type 0 where
+  pub layout : gdb.layout ≡ layout_of job.options.registers
+  pub names : KnowsNames job (option_map (λ n. n.now) gdb.names)
+
 -- A ring refuses no push.
 abbrev pub ring_refusals : RingKeeper → ℕ
 ring_refusals ring = 0
@@ -30,9 +44,9 @@ abbrev pub Begins : Job → Checked → SessionValue RingKeeper → Type 0
 Begins job code session = HasStanding RingHolds ring_refusals ring_room session (start_of job code)
 
 -- What was known of the streams and of the session before it was served and after it.
-abbrev pub ends : {R W : Type 0} → Job → SessionValue RingKeeper → SessionValue RingKeeper → Stream R → Stream W → Ends RingKeeper R W
-ends job from to reader writer = record {
-  gdb = layout_of job.options.registers;
+abbrev pub ends : {R W : Type 0} → Target → SessionValue RingKeeper → SessionValue RingKeeper → Stream R → Stream W → Ends RingKeeper R W
+ends gdb from to reader writer = record {
+  gdb = gdb;
   from = from;
   to = to;
   reader = reader.old;
@@ -44,14 +58,18 @@ ends job from to reader writer = record {
 module _ {R W : Type 0} (job : Job) (reader : Stream R) (writer : Stream W) where
   -- It was served to the connection's end.
   pub record ServesConnection (code : Checked) : Type 0 where
+    pub gdb : Target
+    pub target : IsTarget job gdb
     pub from : SessionValue RingKeeper
     pub to : SessionValue RingKeeper
     pub begins : Begins job code from
-    pub serves : Serves RingHolds ring_refusals ring_room reader.bytes writer.bytes (ends job from to reader writer)
+    pub serves : Serves RingHolds ring_refusals ring_room reader.bytes writer.bytes (ends gdb from to reader writer)
 
   -- It was served until a read or a write failed.
   pub record BreaksConnection (code : Checked) (why : RunFault) : Type 0 where
+    pub gdb : Target
+    pub target : IsTarget job gdb
     pub from : SessionValue RingKeeper
     pub to : SessionValue RingKeeper
     pub begins : Begins job code from
-    pub breaks : Breaks RingHolds ring_refusals ring_room reader.bytes writer.bytes why (ends job from to reader writer)
+    pub breaks : Breaks RingHolds ring_refusals ring_room reader.bytes writer.bytes why (ends gdb from to reader writer)

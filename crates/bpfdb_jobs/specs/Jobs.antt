@@ -222,9 +222,6 @@ trace_or_stopped (Some read) job x end = record { out = Some (trace_until read (
 abbrev pub arrival_of : Job → Checked → Result Arrival Refusal
 arrival_of job code = arrival job.other job.options (initial code job.context.now)
 
-abbrev pub origin_print : State → Answer → Print
-origin_print end answer = record (printed (found_text end answer)) { status = status_of_extent answer.extent }
-
 abbrev pub named_print : Option Names → State → Answer → Print
 named_print names end answer = record (printed (named_by names (found_text end answer))) { status = status_of_extent answer.extent }
 
@@ -256,8 +253,8 @@ query_of job goals at = record {
   places = job.places;
 }
 
-abbrev pub whynot_print : Job → List ℕ → (ℕ → List ℕ → Bool) → Arrival → Print
-whynot_print job goals can at = origin_print at.point.state (why_not can (query_of job goals at) at.point.history at.point.state)
+abbrev pub whynot_print : Option Names → Job → List ℕ → (ℕ → List ℕ → Bool) → Arrival → Print
+whynot_print names job goals can at = named_print names at.point.state (why_not can (query_of job goals at) at.point.history at.point.state)
 
 -- `diff`: the job of the other run, which has the bytes of the other file for its program, or for its context.
 abbrev pub other_bytes : Option (Bor (List ℕ)) → List ℕ
@@ -359,9 +356,9 @@ Prints Origin job a = (code : Checked) × (at : Arrival) × (what : Option What)
     × (arrival_of job code ≡ Ok at) × Asks job.options.what at.point.state what
     × IsTail job.options.only_branches (branches_by job.places job.options at) (parts_asked at.point.state what) at.point tail
     × AreNamesOf job.object (section_of job) names × (a ≡ named_print names at.point.state (followed_by (answer_by job.options what at) tail))
-Prints Whynot job a = (code : Checked) × (at : Arrival) × (goals : List ℕ) × (can : ℕ → List ℕ → Bool) × OpensSession job code
-    × (arrival_of job code ≡ Ok at) × AsksGoals job at.point.state.program (Ok goals)
-    × TellsReach at.point.state.program goals can × (a ≡ whynot_print job goals can at)
+Prints Whynot job a = (code : Checked) × (at : Arrival) × (goals : List ℕ) × (can : ℕ → List ℕ → Bool) × (names : Option Names)
+    × OpensSession job code × (arrival_of job code ≡ Ok at) × AsksGoals job at.point.state.program (Ok goals)
+    × TellsReach at.point.state.program goals can × AreNamesOf job.object (section_of job) names × (a ≡ whynot_print names job goals can at)
 Prints Diff job a = DiffPrints job.options.other_is_trace job a
 Prints Gdb job a = ⊥
 Prints Test job a = ⊥

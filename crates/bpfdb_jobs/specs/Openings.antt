@@ -1,5 +1,5 @@
 -- Scaffolding: a session, or a machine with its journal, that was just opened for a job.
-use Rattle.std.specs.Prelude.{ℕ, ◌≡◌, List, [], Option, Ok, false, option_map, true}
+use Rattle.std.specs.Prelude.{ℕ, ◌≡◌, Bool, List, [], Option, Ok, false, option_map, true}
 use Rattle.std.specs.Borrow.{Bor}
 use Rattle.bpf_isa.specs.Programs.{Checked}
 use Rattle.bpf_journal.specs.Histories.{Record, StandsFor}
@@ -15,6 +15,7 @@ use Rattle.bpf_origin.specs.declared.what.What.{What}
 use Rattle.bpf_lines.specs.declared.place_names.Names.{Names}
 use Rattle.bpf_steps.specs.State.{State, initial}
 use Rattle.bpf_session.specs.Sessions.{SessionValue}
+use Rattle.bpf_whynot.specs.Answers.{Query, why_not}
 use Rattle.bpfdb_jobs.specs.Connections.{Begins}
 use Rattle.bpfdb_jobs.specs.Jobs.{IsOtherRun, Opens, OpensSession, arrival_of}
 use Rattle.bpfdb_jobs.specs.Origins.{Arrival, Asks, IsTail, branches_by, followed_by, found_text, named_by}
@@ -71,3 +72,7 @@ asked_text q parts h x tail = found_text x (followed_by (answer_about q parts h 
 -- With the names of places in maps, where they are known.
 abbrev pub told_text : Option (Bor Names) → Question → List Part → List Record → State → List ℕ → List ℕ
 told_text names q parts h x tail = named_by (option_map (λ n. n.now) names) (asked_text q parts h x tail)
+
+-- What is written of why the program did not come to some slots, with those names.
+abbrev pub why_text : Option (Bor Names) → (ℕ → List ℕ → Bool) → Query → List Record → State → List ℕ
+why_text names can q h x = named_by (option_map (λ n. n.now) names) (found_text x (why_not can q h x))

@@ -77,8 +77,7 @@ abbrev pub RefusesMachine : Job → JobRefusal → Type 0
 RefusesMachine job (Journal fault) = ⊥
 RefusesMachine job refusal = Refuses job refusal
 
--- `origin` and `whynot` look at a session's, then at the lines of its script, and then at what is asked about there; `origin` last at the names in
--- maps.
+-- `origin` and `whynot` look at a session's, then at the lines of its script, then at what is asked about there, and last at the names in maps.
 abbrev pub RefusesArrival : Job → JobRefusal → Type 0
 RefusesArrival job (Script refusal) = (code : Checked) × OpensSession job code × (arrival_of job code ≡ Err refusal)
 RefusesArrival job refusal = Refuses job refusal
@@ -102,6 +101,8 @@ RefusesGoal job fault lacks = (code : Checked) × (at : Arrival) × OpensSession
 abbrev pub RefusesWhynot : Job → JobRefusal → Type 0
 RefusesWhynot job (Goal fault) = RefusesGoal job fault false
 RefusesWhynot job (NoPlace name) = (name.now ≡ asked_of job) × RefusesGoal job NoSlot true
+RefusesWhynot job (Object fault name) = (code : Checked) × (at : Arrival) × (goals : List ℕ) × OpensSession job code
+    × (arrival_of job code ≡ Ok at) × AsksGoals job at.point.state.program (Ok goals) × RefusesNames job.object (section_of job) fault name.now
 RefusesWhynot job refusal = RefusesArrival job refusal
 
 -- `diff` looks at FILE's machine, and then at that of the other run.

@@ -1,6 +1,6 @@
 //! What a job of `gdb` does.
 ghost use Rattle.std.specs.Prelude.{◌≡◌, ◌≤◌};
-ghost use Rattle.bpfdb_jobs.specs.Connections.{layout_of};
+ghost use Rattle.bpfdb_jobs.specs.Connections.{KnowsNames, layout_of};
 ghost use Rattle.bpfdb_jobs.specs.Done.{ServesGdb};
 ghost use Rattle.bpfdb_limits.specs.Limits.{IsLimit};
 ghost use Rattle.bpfdb_faults.specs.Streams.{stream};
@@ -8,7 +8,9 @@ ghost use Rattle.bpfdb_faults.specs.Streams.{stream};
 use crate::ending::session_ended;
 use crate::job::Job;
 use crate::opening::{session_of, wanted_of};
-use bpf_remote::{Layout, serve};
+use crate::origin::names_of;
+use bpf_lines::Names;
+use bpf_remote::{Layout, Target, serve};
 use bpfdb_faults::{JobFault, give_up};
 use bpfdb_options::Registers;
 use counted_io::Counted;
@@ -39,9 +41,24 @@ pub fn gdb_job<R: Read, W: Write, E: Write>(
         Ok(wanted) => wanted,
         Err(refusal) => return give_up(errors, &JobFault::Refused(refusal)),
     };
-    let gdb = layout_of(job.options.registers);
+    let names = known_names(alloc, job);
+    let gdb = Target {
+        layout: layout_of(job.options.registers),
+        names: names.as_ref(),
+    };
     let served = serve(alloc, gdb, &mut session, &mut wanted, reader, writer);
     session_ended(served, errors)
+}
+
+/// The names in the maps of the object that the job's words come from, where they are known: gdb is
+/// served without them where there is no memory for them.
+fn known_names<'a>(alloc: Global, job: &Job<'a>) -> Option<Names<'a>>
+    ensures { KnowsNames job.now result }
+{
+    match names_of(alloc, job) {
+        Ok(names) => names,
+        Err(_) => None,
+    }
 }
 
 /// The machine that gdb is told of.

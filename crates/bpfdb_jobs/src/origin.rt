@@ -51,9 +51,9 @@ struct Tail<'a> {
 
 /// An answer in memory, and what is told of it.
 #[derive(Drop)]
-struct FoundText {
-    text: Vec<u8>,
-    told: Told,
+pub(crate) struct FoundText {
+    pub(crate) text: Vec<u8>,
+    pub(crate) told: Told,
 }
 
 /// Runs the program to its end or to the limit, or obeys the script where there is one, and writes
@@ -278,7 +278,7 @@ fn tell<W: Write, E: Write>(
 /// The names in the maps of the object that the job's words come from, if they come from one. What
 /// that needs of the stack is given back before the answer is looked for.
 #[inline(never)]
-fn names_of<'a>(alloc: Global, job: &Job<'a>) -> Result<Option<Names<'a>>, LinkFault>
+pub(crate) fn names_of<'a>(alloc: Global, job: &Job<'a>) -> Result<Option<Names<'a>>, LinkFault>
     ensures ok { IfOk result (AreNamesOf job.now.object (section_of job.now)) }
     ensures err { IfErr result (LacksNames job.now.object (section_of job.now)) }
 {
@@ -299,7 +299,7 @@ fn names_of<'a>(alloc: Global, job: &Job<'a>) -> Result<Option<Names<'a>>, LinkF
 }
 
 /// The bytes of that object: none where there isn't one.
-fn bytes_of<'a>(job: &Job<'a>) -> &'a [u8]
+pub(crate) fn bytes_of<'a>(job: &Job<'a>) -> &'a [u8]
     ensures { result.now ≡ bytes_of job.now.object }
 {
     match job.object {

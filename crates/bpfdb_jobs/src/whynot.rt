@@ -1,7 +1,8 @@
 //! What a job of `whynot` does.
-ghost use Rattle.std.specs.Prelude.{◌≡◌, ◌≤◌, ℕ, IfErr, IfOk, List};
+ghost use Rattle.std.specs.Prelude.{◌≡◌, ◌≤◌, ℕ, IfErr, IfOk, List, OnErr};
 ghost use Rattle.bpf_isa.specs.Programs.{Checked};
 ghost use Rattle.bpf_journal.specs.Histories.{Record, StandsFor};
+ghost use Rattle.bpf_journal.specs.Tracks.{RingHolds};
 ghost use Rattle.bpf_whynot.specs.Aims.{IsAim};
 ghost use Rattle.bpf_whynot.specs.Answers.{why_not};
 ghost use Rattle.bpf_whynot.specs.Asking.{query};
@@ -9,7 +10,7 @@ ghost use Rattle.bpf_whynot.specs.Tables.{AreGoals, told_by};
 ghost use Rattle.counted_io.specs.Writing.{Writes};
 ghost use Rattle.bpfdb_jobs.specs.Endings.{EndsPrinted};
 ghost use Rattle.bpfdb_jobs.specs.Jobs.{AreAsked, asked_of};
-ghost use Rattle.bpfdb_jobs.specs.Openings.{HasArrived};
+ghost use Rattle.bpfdb_jobs.specs.Openings.{HasArrived, why_text};
 ghost use Rattle.bpfdb_jobs.specs.Origins.{found_text};
 ghost use Rattle.bpfdb_jobs.specs.Whynots.{IsRefusalOf, RefusesGoals};
 ghost use Rattle.bpfdb_limits.specs.Limits.{IsLimit};
@@ -17,16 +18,17 @@ ghost use Rattle.bpfdb_options.specs.declared.subcommand.Subcommand.TheVariants.
 ghost use Rattle.bpfdb_faults.specs.Streams.{stream};
 
 use crate::job::Job;
-use crate::origin::{Arrived, arrive, status_of};
+use crate::object::refuse;
+use crate::origin::{Arrived, FoundText, arrive, bytes_of, names_of, status_of};
 use bpf_isa::Program;
 use bpf_journal::{JournalFault, Keeper, Timeline};
-use bpf_lines::{is_place, listing_slots};
+use bpf_lines::{Names, is_place, listing_slots, put_named};
 use bpf_origin::{Question, Told, Wanted};
 use bpf_whynot::{Aim, AimFault, GoalFault, Search, put_whynot};
 use bpfdb_faults::{JobFault, JobRefusal, flush_after, give_up};
 use bpfdb_script::write_place;
 use counted_io::{Counted, WriteFault, put};
-use std::alloc::Global;
+use std::alloc::{AllocError, Global};
 use std::io::Write;
 
 /// Runs the program to its end or to the limit, or obeys the script where there is one, and writes
@@ -65,6 +67,10 @@ fn ask_why<W: Write, E: Write>(
         Ok(aim) => aim,
         Err(refusal) => return give_up(errors, &JobFault::Refused(refusal)),
     };
+    let names = match names_of(alloc, job) {
+        Ok(names) => names,
+        Err(why) => return refuse(job, bytes_of(job), errors, why),
+    };
     let question = Question {
         addresses: job.options.addresses,
         lines: job.options.lines,
@@ -77,10 +83,15 @@ fn ask_why<W: Write, E: Write>(
         alone: job.options.alone,
         places: job.places,
     };
-    let told = put_why(&mut arrived.timeline, &search, &mut arrived.wanted, writer);
-    match told.written {
-        Ok(()) => status_of(told.extent),
-        Err(WriteFault) => give_up(errors, &JobFault::Output),
+    match put_told(alloc, names.as_ref(), arrived, &search, writer) {
+        Ok(told) => match told.written {
+            Ok(()) => status_of(told.extent),
+            Err(WriteFault) => give_up(errors, &JobFault::Output),
+        },
+        Err(AllocError) => give_up(
+            errors,
+            &JobFault::Refused(JobRefusal::Journal(JournalFault::OutOfMemory)),
+        ),
     }
 }
 
@@ -174,5 +185,77 @@ fn put_why<K: Keeper, W: Write>(
         written: flush_after(writer, told.written),
         extent: told.extent,
         moves: told.moves,
+    }
+}
+
+/// Writes the same with the names of places in maps, where these are known. Then the text is in
+/// memory before anything is written.
+fn put_told<W: Write>(
+    alloc: Global,
+    names: Option<&Names<'_>>,
+    arrived: &mut Arrived,
+    search: &Search<'_>,
+    writer: &mut Counted<W>,
+) -> Result<Told, AllocError>
+    ensures text { (program : Checked) (goals : List ℕ) (h : List Record) →
+        AreGoals program goals search.now.goals.now →
+        StandsFor RingHolds arrived.old.timeline.keeper arrived.old.timeline.state h →
+        IfOk result (λ told. Writes W.contents writer.old writer.new told.written
+        (why_text names.entry (told_by search.now.reach.now) (query search.now goals) h
+        arrived.old.timeline.state)) }
+    ensures extent { (program : Checked) (goals : List ℕ) (h : List Record) →
+        AreGoals program goals search.now.goals.now →
+        StandsFor RingHolds arrived.old.timeline.keeper arrived.old.timeline.state h →
+        IfOk result (λ told. told.extent
+        ≡ (why_not (told_by search.now.reach.now) (query search.now goals) h
+        arrived.old.timeline.state).extent) }
+    ensures same { OnErr result (writer.new ≡ writer.old) }
+{
+    let names = match names {
+        Some(names) => names,
+        None => {
+            let timeline = &mut arrived.timeline;
+            return Ok(put_why(timeline, search, &mut arrived.wanted, writer));
+        }
+    };
+    let found = match why_found(alloc, &mut arrived.timeline, search, &mut arrived.wanted) {
+        Ok(found) => found,
+        Err(error) => return Err(error),
+    };
+    let named = put_named(writer, Ok(()), names, found.text.as_slice());
+    Ok(Told {
+        written: flush_after(writer, named),
+        extent: found.told.extent,
+        moves: found.told.moves,
+    })
+}
+
+/// The same without names, in memory.
+fn why_found<K: Keeper>(
+    alloc: Global,
+    timeline: &mut Timeline<K>,
+    search: &Search<'_>,
+    wanted: &mut Wanted,
+) -> Result<FoundText, AllocError>
+    ensures text { (program : Checked) (goals : List ℕ) (h : List Record) →
+        AreGoals program goals search.now.goals.now →
+        StandsFor K.holds timeline.old.keeper timeline.old.state h →
+        IfOk result (λ found. found.text.items ≡ found_text timeline.old.state
+        (why_not (told_by search.now.reach.now) (query search.now goals) h timeline.old.state)) }
+    ensures extent { (program : Checked) (goals : List ℕ) (h : List Record) →
+        AreGoals program goals search.now.goals.now →
+        StandsFor K.holds timeline.old.keeper timeline.old.state h →
+        IfOk result (λ found. found.told.extent
+        ≡ (why_not (told_by search.now.reach.now) (query search.now goals) h
+        timeline.old.state).extent) }
+{
+    let mut writer = Counted::new(Vec::new(alloc));
+    let told = put_why(timeline, search, wanted, &mut writer);
+    match told.written {
+        Ok(()) => Ok(FoundText {
+            text: writer.into_inner(),
+            told,
+        }),
+        Err(WriteFault) => Err(AllocError),
     }
 }

@@ -19,7 +19,7 @@ use crate::word;
 use bpf_isa::{MapTable, Reg, check};
 use bpf_journal::{Keeper, ListKeeper, RingKeeper};
 use bpf_machine::{Cpu, Ended};
-use bpf_remote::{Layout, Wanted, serve};
+use bpf_remote::{Layout, Target, Wanted, serve};
 use bpf_session::{Count, RunFault, Session, run};
 use bpfdb_files::{FileKind, read_kind};
 use counted_io::{Counted, put};
@@ -296,7 +296,10 @@ fn play_packets<K: Keeper, W: Write>(
     };
     let served = serve(
         rt.alloc(),
-        Layout::Bpf,
+        Target {
+            layout: Layout::Bpf,
+            names: None,
+        },
         session,
         &mut wanted,
         &mut Counted::new(rt.reader()),

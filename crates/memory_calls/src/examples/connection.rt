@@ -1,6 +1,6 @@
 //! A session is served to gdb over any reader and any writer.
 use bpf_journal::RingKeeper;
-use bpf_remote::{Layout, Wanted, serve};
+use bpf_remote::{Layout, Target, Wanted, serve};
 use bpf_session::{Counted, Session};
 use std::alloc::Global;
 
@@ -15,7 +15,10 @@ pub fn answers(
     let mut packets = Counted::new(packets);
     serve(
         alloc,
-        Layout::X86,
+        Target {
+            layout: Layout::X86,
+            names: None,
+        },
         session,
         &mut wanted,
         &mut packets,

@@ -3,12 +3,12 @@ use Rattle.bpf_remote.proofs.whynot.show_goals.Goals as goal
 
 pub returns : goal.returns
 returns g c = λ asked aims.
-    let s = c.show_text-told.ensures in
+    let s = c.show_told-told.ensures in
     let answered = c.why_text-answered in (
       s.0,
       s.1,
       s.2,
-      tells-goals _ _ _ (λ _. answered.result.text.items) answered.result.written asked _ _ c.args.aim.now _ _ _ aims
+      tells-goals _ _ _ (λ _. answered.result.text.items) answered.result.written c.args.manners asked _ _ c.args.aim.now _ _ aims
           (answered.ensures.back asked aims) (answered.ensures.text asked aims) (rw c.as_slice.ensures.value at s.3),
       s.4,
     )

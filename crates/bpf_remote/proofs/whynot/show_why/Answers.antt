@@ -7,4 +7,4 @@ returns-in-Ok g c = λ asked aimed. c.show_goals.ensures asked (rw c.in-Ok.is at
 pub returns-in-Err : goal.returns-in-Err
 returns-in-Err g c = λ asked aimed.
     let s = c.show_aim_refusal.ensures in
-    (s.0, s.1, s.2, tells-none _ _ _ c.in-Err.fault asked _ _ _ (rw c.in-Err.is at aimed) s.3, s.4)
+    (s.0, s.1, s.2, tells-none _ _ _ c.in-Err.fault c.args.manners asked _ _ (rw c.in-Err.is at aimed) s.3, s.4)

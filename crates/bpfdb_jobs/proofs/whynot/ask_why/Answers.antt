@@ -1,11 +1,14 @@
--- The answer is printed, or a beginning of it, or what is asked about is refused.
+-- The answer is printed, or a beginning of it; or memory runs out before; or what is asked about is refused, or nothing is known of the names in maps.
 use Rattle.std.proofs.Common.{◌==◌, ◌∙◌, Bool, List, ap, refl, subst, sym, ℕ}
+use Rattle.bpf_ring.specs.declared.fault.JournalFault.TheVariants.{OutOfMemory}
 use Rattle.bpf_whynot.specs.Answers.{Query, why_not}
 use Rattle.bpf_whynot.specs.Tables.{AreGoals, told_by}
+use Rattle.bpfdb_faults.specs.declared.refusal.JobRefusal.TheVariants.{Journal, Object}
 use Rattle.bpfdb_jobs.specs.Endings.{OutLost, Printed, Refused}
-use Rattle.bpfdb_jobs.specs.Jobs.{origin_print}
+use Rattle.bpfdb_jobs.specs.Jobs.{named_print}
 use Rattle.bpfdb_jobs.specs.Origins.{status_of_extent}
-use Rattle.bpfdb_jobs.proofs.Reaching.{whynot-prints, whynot-refuses}
+use Rattle.bpfdb_jobs.proofs.Reaching.{names-lack, whynot-prints, whynot-refuses}
+use Rattle.bpfdb_jobs.proofs.Refusing.{arrival-whynot, no-places, session-arrival}
 use Rattle.bpfdb_jobs.proofs.whynot.ask_why.Goals as goal
 
 pub returns-in-Err-clause-does : goal.returns-in-Err-clause-does
@@ -14,6 +17,16 @@ returns-in-Err-clause-does g c =
     Refused c.in-Err.refusal
     (whynot-refuses c.args.job.now at.timeline at.moves c.requires c.in-Err.refusal (rw (c.program.ensures, c.cpu.ensures) at c.in-Err.ensures.err))
     refl c.give_up.ensures.told c.give_up.ensures.value
+
+pub returns-in-Err-names_of-clause-does : goal.returns-in-Err-names_of-clause-does
+returns-in-Err-names_of-clause-does g c =
+    let at = c.args.arrived.now in
+    let asked = rw (c.program.ensures, c.cpu.ensures) at c.in-Ok.ensures.ok in
+    let told = c.refuse.ensures.told in
+    Refused (Object c.in-Err-names_of.why told.0)
+    (names-lack c.args.job.now at.timeline at.moves c.requires asked.2.goals (asked.0, asked.1, asked.2.named) c.in-Err-names_of.why told.0
+    (rw c.bytes_of.ensures at told.1, c.in-Err-names_of.ensures.err))
+    refl told.2 c.refuse.ensures.value
 
 pub returns-in-Ok-written-clause-does : goal.returns-in-Ok-written-clause-does
 returns-in-Ok-written-clause-does g c =
@@ -32,14 +45,14 @@ returns-in-Ok-written-clause-does g c =
     } in
     let as-asked = ap (λ (m : ℕ). record q { question = record q.question { opening = m == at.moves } }) (c.len.ensures h c.requires.held) in
     let flags = subst (λ (flags : List Bool). AreGoals x.program p.goals flags) (sym c.as_slice.ensures.value) p.flags in
-    let w = rw c.in-Ok-written.is at c.put_why-told.ensures.text x.program p.goals h flags c.requires.held in
-    let extent = c.put_why-told.ensures.extent x.program p.goals h flags c.requires.held in
-    Printed (origin_print x (why_not can q h x))
-    (whynot-prints job at.timeline at.moves c.requires q p.goals can as-asked (asked.0, asked.1, p.named) p.tells)
+    let w = rw (c.in-Ok-written.is, c.as_ref.ensures.value) at c.in-Ok-put_told.ensures.text x.program p.goals h flags c.requires.held in
+    let extent = c.in-Ok-put_told.ensures.extent x.program p.goals h flags c.requires.held in
+    Printed (named_print c.in-Ok-names_of.names x (why_not can q h x))
+    (whynot-prints job at.timeline at.moves c.requires q p.goals can as-asked (asked.0, asked.1, p.named) p.tells c.in-Ok-names_of.names c.in-Ok-names_of.ensures.ok)
     (w.ok, w.same) refl (c.status_of.ensures ∙ ap status_of_extent extent)
 
-pub returns-clause-does : goal.returns-clause-does
-returns-clause-does g c =
+pub returns-in-Ok-put_told-clause-does : goal.returns-in-Ok-put_told-clause-does
+returns-in-Ok-put_told-clause-does g c =
     let job = c.args.job.now in
     let at = c.args.arrived.now in
     let x = at.timeline.state in
@@ -55,7 +68,14 @@ returns-clause-does g c =
     } in
     let as-asked = ap (λ (m : ℕ). record q { question = record q.question { opening = m == at.moves } }) (c.len.ensures h c.requires.held) in
     let flags = subst (λ (flags : List Bool). AreGoals x.program p.goals flags) (sym c.as_slice.ensures.value) p.flags in
-    let w = rw c.in-Err-written.is at c.put_why-told.ensures.text x.program p.goals h flags c.requires.held in
-    OutLost (origin_print x (why_not can q h x))
-    (whynot-prints job at.timeline at.moves c.requires q p.goals can as-asked (asked.0, asked.1, p.named) p.tells)
+    let w = rw (c.in-Err-written.is, c.as_ref.ensures.value) at c.in-Ok-put_told.ensures.text x.program p.goals h flags c.requires.held in
+    OutLost (named_print c.in-Ok-names_of.names x (why_not can q h x))
+    (whynot-prints job at.timeline at.moves c.requires q p.goals can as-asked (asked.0, asked.1, p.named) p.tells c.in-Ok-names_of.names c.in-Ok-names_of.ensures.ok)
     (w.err, w.fault) c.give_up-in-Err-written.ensures.told c.give_up-in-Err-written.ensures.value
+
+pub returns-clause-does : goal.returns-clause-does
+returns-clause-does g c =
+    let job = c.args.job.now in
+    let a = c.requires in
+    Refused (Journal OutOfMemory) (arrival-whynot job (Journal OutOfMemory) (session-arrival job (Journal OutOfMemory) (no-places job a.code (Journal OutOfMemory) a.opens refl)))
+    c.in-Err-put_told.ensures.same c.give_up-in-Err-put_told.ensures.told c.give_up-in-Err-put_told.ensures.value
