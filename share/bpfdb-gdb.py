@@ -488,8 +488,7 @@ class Map(Asker):
         if not name:
             raise gdb.GdbError("bpf-map NAME [INDEX]")
         number = int(gdb.parse_and_eval("&" + name)) - FIRST_TOKEN
-        shapes = re.search(r"--maps[ =](\S+)", connection().details or "") if is_connected() else None
-        shapes = shapes.group(1).split(",") if shapes else []
+        shapes = shapes_of(connection().details or "") if is_connected() else []
         if not 0 <= number < len(shapes):
             raise gdb.GdbError("%s is no map of the program that runs" % name)
         size, count = (int(part) for part in shapes[number].split("x"))
@@ -504,6 +503,12 @@ class Map(Asker):
             shown = kind.array(most)
         gdb.set_convenience_variable("bpf_map", gdb.Value(place).cast(shown.pointer()).dereference())
         gdb.execute("with print array-indexes on -- print $bpf_map")
+
+
+def shapes_of(details):
+    """The shapes of the maps of the program that a connection is to: those of its --maps, or of the object that bpf-load started so."""
+    given = re.search(r"--maps[ =](\S+)", details)
+    return given.group(1).split(",") if given else next((shapes for command, shapes in load.shapes.items() if details.endswith(command)), [])
 
 
 def value_type(name, size):
@@ -533,6 +538,8 @@ class Load(Asker):
         super().__init__("bpf-load", gdb.COMMAND_RUNNING, gdb.COMPLETE_FILENAME)
         self.words = []
         self.folder = None
+        # the shapes of the maps of objects, by the commands that started them
+        self.shapes = {}
 
     def obey(self, argument):
         words = [os.path.expanduser(word) for word in gdb.string_to_argv(argument)] or self.words
@@ -545,8 +552,10 @@ class Load(Asker):
             self.folder = tempfile.TemporaryDirectory(prefix="bpfdb-")
         # (a folder for each time, since gdb takes a file of the same name and second for the one that it knows)
         base = os.path.join(tempfile.mkdtemp(dir=self.folder.name), os.path.splitext(os.path.basename(words[0]))[0])
-        load = load_object if is_object(words[0]) else load_listing
-        options = load(words[0], words[1:], base)
+        read = load_object if is_object(words[0]) else load_listing
+        options, shapes = read(words[0], words[1:], base)
+        command = shlex.join([found("bpfdb"), "gdb", *options])
+        self.shapes[command] = shapes
         # (without a packet bpfdb ends at once, or says what it refuses)
         called("bpfdb", ["gdb", *options])
         if inferior.pid:
@@ -554,7 +563,7 @@ class Load(Asker):
         gdb.execute("with confirm off -- file " + re.sub(r"([\\\s'\"])", r"\\\1", base + ".sym"), to_string=True)
         self.words = words
         quietly = "with suppress-cli-notifications on -- "
-        gdb.execute(quietly + "target remote | " + shlex.join([found("bpfdb"), "gdb", *options]), to_string=True)
+        gdb.execute(quietly + "target remote | " + command, to_string=True)
         entry = entry_of(base + ".sym")
         if entry:
             # (before it lie a jump and, it may be, a setup of data)
@@ -579,31 +588,33 @@ def entry_of(file):
 
 
 def load_object(file, options, base):
-    """Links an object to files of this name. Answers the options with which bpfdb starts it, FILE behind them."""
+    """Makes the symbols of an object. Answers the options with which bpfdb starts it, FILE behind them, and the shapes of its maps. FILE is the
+    object as it is now, whose names bpfdb knows then; or its words, where maps are given."""
     linking = [word for word in options if word == "--as-compiled"]
     options = [word for word in options if word != "--as-compiled"]
     for name in ("--section", "--entry", "--entries", "--stub"):
         words, options = all_taken(options, name)
         linking += words
     program = called("bpfdb", ["link", *linking, file])
-    with open(base + ".bin", "wb") as output:
-        output.write(program.stdout)
     machine_words, _ = taken(options, "--registers")
     os.environ.setdefault("BPFDB", found("bpfdb"))
     symbols = called("bpfdb-symbols", [*linking, *machine_words, file, base + ".sym"])
-    said = program.stderr.decode(errors="replace")
-    if said.startswith("--maps ") and not taken(options, "--maps")[0]:
-        options = [*options, *said.split()[:2]]
     gdb.write(symbols.stderr.decode(errors="replace"), gdb.STDERR)
-    return [*options, base + ".bin"]
+    if taken(options, "--maps")[0]:
+        with open(base + ".bin", "wb") as output:
+            output.write(program.stdout)
+        return [*options, base + ".bin"], []
+    shutil.copyfile(file, base + ".o")
+    told = re.match(rb"--maps (\S+)", program.stderr)
+    return [*options, "--object", *linking, base + ".o"], told[1].decode().split(",") if told else []
 
 
 def load_listing(file, options, base):
-    """Makes the symbols of a listing. Answers the options with which bpfdb starts it, FILE behind them."""
+    """Makes the symbols of a listing. Answers the options with which bpfdb starts it, FILE behind them, and no shapes, which these have."""
     machine_words, _ = taken(options, "--registers")
     os.environ.setdefault("BPFDB", found("bpfdb"))
     called("bpfdb-symbols", ["--listing", *machine_words, file, base + ".sym"])
-    return [*options, "--listing", file]
+    return [*options, "--listing", file], []
 
 
 def taken(words, option):
@@ -694,7 +705,7 @@ gdb.events.new_objfile.connect(look_at_file)
 listing.read()
 gdb.unwinder.register_unwinder(None, Unwinder(), replace=True)
 gdb.disassembler.register_disassembler(Disassembler())
-Load()
+load = Load()
 Undo("bpf-undo")
 Redo("bpf-redo")
 LastWrite()

@@ -102,7 +102,7 @@ class Program:
             raise Hint('the program that is built in has no file')
         at = words.index('--')
         options, file = words[:at], words[at:]
-        if of == 'origin' and self.linked_of:
+        if self.linked_of:
             # (the object has its maps)
             options, file = without_maps(options), self.linked_of
         journal = [] if has(options, '--journal') else ['--journal', self.ask('info history')[0].split()[-2]]
