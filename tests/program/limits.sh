@@ -269,8 +269,8 @@ squeezed() {
 printf 'loop: add r0, 1\njlt r0, 3, loop\nexit\n' > count.s
 printf 'continue\n' > path
 little=$(seq 3000 25 4000)
-# (the stacks of gdb and of origin behind a script grow by more than the others', and what is left of 4,325 kB or so hasn't room for that)
-grown=$(seq 4325 25 4450)
+# (the stacks of gdb and of origin behind a script grow by more than the others', and what is left of 4,375 kB or so hasn't room for that)
+grown=$(seq 4375 25 4500)
 more='6000 8000 10000 12000 14000 16000 18000 20000 25000 30000 40000 50000'
 # (the words of a row are without blanks; gdb is asked to continue, for the line `origin r9`, and to detach)
 printf '$c#63$qRcmd,6f726967696e207239#45$D#44' > asked

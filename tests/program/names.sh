@@ -79,6 +79,23 @@ for compiler in $compilers; do
         printf 'continue\norigin 0x300000104:4\n' | BPFDB=$program python3 "$top/share/bpfdb-shell" $(sed -n '1p' told) places.o > found/out 2> found/err
         grep -q '^-[0-9]* 0x300000104:4 = 0xf; [^;]*; from r[0-9]$' found/out || complain "the shell with maps: $(cat found/out found/err)"
     fi
+    # `whynot` tells them of what a branch compared, and so does the shell, with the places of branches.
+    "$compiler" -g -O2 -target bpf -c "$parts/names/branch.c" -o branch.o 2> found/err || complain "branch.c: $(cat found/err)"
+    branch='^-[0-9]* [0-9]*: j[a-z]* r[0-9], 3, L[0-9]*; r[0-9] = 0x2; [a-z ]*[0-9]*; in entry (branch\.c:13)$'
+    "$program" whynot --object branch.o drop > found/out 2> found/err
+    count=$((count + 3))
+    grep -q "$branch" found/out || complain "the branch: $(cat found/out found/err)"
+    grep -q '^-[0-9]* r[0-9] = 0x2; .*; from 0x3[0-9a-f]*:8; in mode$' found/out || complain "what it compared: $(cat found/out)"
+    grep -q '^-[0-9]* 0x3[0-9a-f]*:8 = 0x2; .*; initial value of mode$' found/out || complain "what the setup gave that: $(cat found/out)"
+    "$program" whynot --json --object branch.o drop > found/out 2> found/err
+    count=$((count + 1))
+    grep -q '^{"kind":"move",.*,"name":"mode","parts":\[{"part":"r[0-9]","value":"0x2"}\]}$' found/out || complain "whynot as JSON: $(cat found/out found/err)"
+    if command -v python3 > /dev/null; then
+        count=$((count + 2))
+        printf 'continue\nwhynot branch.c:8\n' | BPFDB=$program python3 "$top/share/bpfdb-shell" branch.o > found/out 2> found/err
+        grep -q "$branch" found/out || complain "the branch in the shell: $(cat found/out found/err)"
+        grep -q '; in mode$' found/out || complain "what it compared, in the shell: $(cat found/out)"
+    fi
     # As JSON a name is a member.
     "$program" origin --json --script empty --object places.o "$(printf '0x%x' $((0x300000000 + 260)))" > found/out 2> found/err
     count=$((count + 1))

@@ -99,9 +99,9 @@ def firewall():
     hold(editor.state(), before, 'the state before it')
     hold(editor.go('continue')[0], 'exited', 'the end without it')
     hold(editor.body['description'], 'exited at 12: r0 0x2', 'XDP_PASS')
-    # (XDP_PASS is the third of the verdicts that are counted; over gdb no name is told)
+    # (XDP_PASS is the third of the verdicts that are counted)
     passed = editor.ask('bpfdb/origin', what='0x300000010:8')['lines'][0]['text']
-    hold(passed.endswith('; in verdicts[2]'), OVER == 'bpfdb', 'the name of a value of a map')
+    hold(passed.endswith('; in verdicts[2]'), True, 'the name of a value of a map')
     hold(editor.go('reverseContinue')[::2], ('breakpoint', 54), 'back to the breakpoint')
     hold(editor.state(), before, 'the same state')
     left(editor)
@@ -113,7 +113,7 @@ def whynot():
     editor, _ = started('firewall.o', section='xdp', entry='bpfdb', context='ipv6.bin')
     hold(editor.go('continue')[0], 'exited', 'the end')
     before = editor.state()
-    branch = '-14 31: jne r5, 8, L52; r5 = 0xdd86; jumped to 52'
+    branch = '-14 31: jne r5, 8, L52; r5 = 0xdd86; jumped to 52' + ('; in firewall (firewall.c:47)' if OVER == 'bpfdb' else '')
     for what in ('44', '44,44', 'firewall.c:54'):
         lines = editor.ask('bpfdb/whynot', what=what)['lines']
         hold(lines[0]['text'], branch, f'the branch, of {what}')
