@@ -96,6 +96,16 @@ wants() {
     said "$name $*" "$lines"
 }
 
+# packet BODY: a packet of gdb's with this body.
+packet() {
+    printf '$%s#%02x' "$1" "$(printf '%s' "$1" | od -An -v -tu1 | awk '{ for (i = 1; i <= NF; i++) sum += $i } END { print sum % 256 }')"
+}
+
+# hexadecimal TEXT: its bytes, in two digits each.
+hexadecimal() {
+    printf '%s' "$1" | od -An -v -tx1 | tr -d ' \n'
+}
+
 # Each subcommand, with and without a listing, and with its other ends; help; and a command line that is none.
 plain='out of memory\n'
 a7='refused A7: out of memory\n'
@@ -417,9 +427,9 @@ done
 {
     for body in '?' g s bs c bc p0 pb 'P0=0700000000000000' 'm2000001f8,8' 'M2000001f8,2:0102' 'Z0,10,1' 'Z2,2000001f8,4' c 'z2,2000001f8,4' 'z0,10,1' 'vCont?' 'vCont;s:1' \
         'qSupported:swbreak+' 'qXfer:features:read:target.xml:0,fff' Hg0 qAttached 'qRcmd,7374657069' 'qRcmd,756e646f' 'qRcmd,7265646f' 'qRcmd,66726f62' nothing; do
-        printf '$%s#%02x' "$body" "$(printf '%s' "$body" | od -An -v -tu1 | awk '{ for (i = 1; i <= NF; i++) sum += $i } END { print sum % 256 }')"
+        packet "$body"
     done
-    printf '$D#44'
+    packet D
 } > packets
 mv packets all
 for size in 1024 65536; do
@@ -427,28 +437,53 @@ for size in 1024 65536; do
 done
 : > script
 
-# `monitor whynot` alone takes memory behind the opening. Where a request for it is refused the answer is Q15, and the session goes on.
+# served WHAT LEAST ARGUMENT..: gdb's server with each request for memory refused in turn. It answers $whole; or $short, which it does in at least LEAST
+# of the runs, and the session goes on; or its opening is refused.
+served() {
+    what=$1 least=$2
+    shift 2
+    : > met
+    request=1 lacked=0
+    while [ "$request" -le "$most" ]; do
+        for how in '' all; do
+            refuse "$request" "$how" "$@"
+            case $found:$(cat found/out) in
+                "0:$whole") count=$((count + 1)) ;;
+                "0:$short") count=$((count + 1)) lacked=$((lacked + 1)) ;;
+                *) lacks "$what: request $request for memory refused" ;;
+            esac
+        done
+        [ "$(cat found/out)" != "$whole" ] || break
+        request=$((request + 1))
+    done
+    check "$what: there is no request for memory after $((request - 1))" 0 "$whole" ''
+    [ "$lacked" -ge "$least" ] || complain "$what: $lacked refused requests for its memory"
+    : > script
+}
+
+# `monitor whynot` takes memory behind the opening. Where a request for it is refused the answer is Q15.
 told='+$T05thread:0;0a:0002000002000000;0b:0800000000000000;40:0100000000000000;#c9+'
 printf '%s' '$s#73$qRcmd,7768796e6f742030#d6$p0#a0$qRcmd,7265646f#fd$D#44' > script
 whole="$told"'$O69742077617320726561636865642031206d6f766573206261636b0a#76$OK#9a+$2a00000000000000#33+$72656675736564205131333a206e6f7468696e6720746f207265646f0a#30+$OK#9a'
 short="$told"'$O72656675736564205131353a206f7574206f66206d656d6f72790a#a8$OK#9a+$2a00000000000000#33+$72656675736564205131333a206e6f7468696e6720746f207265646f0a#30+$OK#9a'
-: > met
-request=1 lacked=0
-while [ "$request" -le "$most" ]; do
-    for how in '' all; do
-        refuse "$request" "$how" gdb --journal 1024 --listing program.s
-        case $found:$(cat found/out) in
-            "0:$whole") count=$((count + 1)) ;;
-            "0:$short") count=$((count + 1)) lacked=$((lacked + 1)) ;;
-            *) lacks "monitor whynot: request $request for memory refused" ;;
-        esac
-    done
-    [ "$(cat found/out)" != "$whole" ] || break
-    request=$((request + 1))
-done
-check "monitor whynot: there is no request for memory after $((request - 1))" 0 "$whole" ''
-[ "$lacked" -ge 20 ] || complain "monitor whynot: $lacked refused requests for its memory are answered by Q15"
-: > script
+served 'monitor whynot' 20 gdb --journal 1024 --listing program.s
+
+# Names of an object do so, too: where a request for what is known of them is refused, or one for the text with them, they are left out.
+if has_clang 'names in gdb where memory is refused'; then
+    clang -g -O2 -target bpf -c "$parts/names/branch.c" -o branch.o 2> found/err || complain "branch.c: $(cat found/err)"
+    { packet c; packet "qRcmd,$(hexadecimal 'origin 0x300000000:8')"; packet D; } > script
+    stop='+'$(packet "O$(hexadecimal 'exited at 7: r0 0x7
+')")$(packet 'T05replaylog:end;thread:0;0a:0002000002000000;0b:3800000000000000;40:0c00000000000000;')'+'
+    store='-9 0x300000000:8 = 0x2; 17: stxdw [r3+0], r4; from r4' load='-10 r4 = 0x2; 15: lddw r4, 0x2'
+    whole=$stop$(packet "O$(hexadecimal "$store; initial value of mode
+$load
+")")$(packet OK)'+'$(packet OK)
+    short=$stop$(packet "O$(hexadecimal "$store
+$load
+")")$(packet OK)'+'$(packet OK)
+    served 'names in gdb' 4 gdb --journal 1024 --object branch.o
+    said 'names in gdb' "$plain$e26$c13$o2$j2"
+fi
 
 # The calls of the libraries, in crates/memory_calls: each answers by its own number, or by `out of memory` where it has none.
 # `rt ci` builds that program too.
