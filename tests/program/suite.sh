@@ -117,6 +117,31 @@ sed 's/^0 0 00$/0 0 01/' many > wrong
 )
 failures=$((failures + $?))
 count=$((count + 2))
+# Bytes of a context, what is to be left of them, and lines about registers are read once, too.
+spaces=$(head -c 200000 /dev/zero | tr '\0' ' ')
+{
+    printf -- '-- listing\nmov r0, r3\nexit\n-- mem\n%s07\n-- mem-after\n%s07\n-- result\n5\n-- regs\n' "$spaces" "$spaces"
+    yes 'r3 = 4' | head -n 20000
+    printf 'r3 = 5\n'
+    awk 'BEGIN { for (i = 1; i <= 20000; i++) print "-- name\nx" }'
+} > many
+{
+    printf -- '-- listing\nmov r0, r2\nexit\n-- result\n65536\n-- mem\n'
+    head -c 131072 /dev/zero | tr '\0' 0
+    awk 'BEGIN { for (i = 1; i <= 40000; i++) print "\n-- name\nx" }'
+} > wide
+awk 'BEGIN { print "1..40000"; for (i = 1; i <= 40000; i++) print "ok " i " - x" }' > most
+(
+    ulimit -t 3
+    failures=0
+    awk 'BEGIN { print "1..20000"; for (i = 1; i <= 20000; i++) print "ok " i " - x" }' > wanted/out
+    tested 'bpfdb test of 20,000 tests that share a long mem, mem-after and regs' 0 many
+    cp most wanted/out
+    tested 'bpfdb test of 40,000 tests that share a context of 65,536 bytes' 0 wide
+    exit "$failures"
+)
+failures=$((failures + $?))
+count=$((count + 2))
 {
     printf -- "$head"
     yes '0 0 00' | head -n 300000

@@ -14,7 +14,7 @@ use Rattle.bpf_session.specs.Plain.{plain_end}
 use Rattle.bpf_suite.specs.Cells.{cell_of}
 use Rattle.bpf_suite.specs.Images.{IsImageOf, Makes, with_runs}
 use Rattle.bpf_suite.specs.Outcomes.{Ends, IsProgramOf, Refuses, RefusesCells, edit_of, is_there, missing, with_cells}
-use Rattle.bpf_suite.specs.Regs.{reg_lines, with_regs}
+use Rattle.bpf_suite.specs.Regs.{with_regs}
 use Rattle.bpf_suite.specs.declared.cells.Cell.{Cell}
 use Rattle.bpf_suite.specs.declared.cells.CellLine.{CellLine}
 use Rattle.bpf_suite.specs.declared.image.Image.{Image}
@@ -79,14 +79,9 @@ refuses-opened t code (NoCell map index) is short r = (code, record { program = 
 
 -- or it ends
 pub ends-opened : (t : Setting) (code : Checked) (x y z : State) → IsProgramOf t code → length t.context ≤ context_limit → x ≡ initial code t.context
-    → missing code.maps t.cells ≡ None → y ≡ with_cells t.cells x → z ≡ plain_end t.limit (with_regs (reg_lines t.regs) y) → Ends t z
+    → missing code.maps t.cells ≡ None → y ≡ with_cells t.cells x → z ≡ plain_end t.limit (with_regs t.regs y) → Ends t z
 ends-opened t code x y z is short opened none given ran =
-    (code, record { program = is; short = short }, none, ran ∙ ap (λ s. plain_end t.limit (with_regs (reg_lines t.regs) s)) (given ∙ ap (with_cells t.cells) opened))
-
--- or memory ran out behind that
-pub refuses-memory : (t : Setting) (code : Checked) (refusal : Refusal) → IsProgramOf t code → length t.context ≤ context_limit → refusal ≡ Open unopened.OutOfMemory
-    → Refuses t refusal
-refuses-memory t code refusal is short e = subst (Refuses t) (sym e) (code, is, short)
+    (code, record { program = is; short = short }, none, ran ∙ ap (λ s. plain_end t.limit (with_regs t.regs s)) (given ∙ ap (with_cells t.cells) opened))
 
 -- the same by an image
 module _ (t : Setting) (code : Checked) (image : Image) (is : IsProgramOf t code) (short : length t.context ≤ context_limit) (of : IsImageOf t.cells image)
@@ -94,7 +89,7 @@ module _ (t : Setting) (code : Checked) (image : Image) (is : IsProgramOf t code
   makes : Makes t.cells code.maps image.runs
   makes = of code.maps (subst (λ (m : Option (List ℕ)). Rattle.bpf_suite.specs.Outcomes.HasMaps m code.maps) (sym maps) is.maps)
 
-  pub ends-by-image : (x y z : State) (runs : List Run) → image.runs ≡ Ok runs → x ≡ initial code t.context → y ≡ with_runs runs x → z ≡ plain_end t.limit (with_regs (reg_lines t.regs) y) → Ends t z
+  pub ends-by-image : (x y z : State) (runs : List Run) → image.runs ≡ Ok runs → x ≡ initial code t.context → y ≡ with_runs runs x → z ≡ plain_end t.limit (with_regs t.regs y) → Ends t z
   ends-by-image x y z runs here opened given ran =
       let made = subst (Makes t.cells code.maps) here makes in
       ends-opened t code x y z is short opened made.0

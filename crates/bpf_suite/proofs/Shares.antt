@@ -88,6 +88,13 @@ find-in-front p (x ∷ xs) ys e = go (p x) refl e (find-in-front p xs ys) where
   go true here any rest = rw here refl
   go false here any rest = rw here (rest any)
 
+-- a part stands among a test's own sections, or among those that are shared
+pub placed_own : (p : Part) (own shared : List Section) → has_part p own ≡ true → section_for p own ≡ section_for p (own ++ shared)
+placed_own p own shared e = sym (find-in-front (λ section. is_part p section.kind) own shared e)
+
+pub placed_shared : (p : Part) (own shared : List Section) → has_part p own ≡ false → section_for p shared ≡ section_for p (own ++ shared)
+placed_shared p own shared e = sym (section_for-behind p own shared e)
+
 body_for-own : (p : Part) (own shared : List Section) → has_part p own ≡ true → body_for p (own ++ shared) ≡ body_for p own
 body_for-own p own shared e = ap (λ found. option_map_or (λ section. section.body) found []) (find-in-front (λ section. is_part p section.kind) own shared e)
 
@@ -106,19 +113,17 @@ wrong-chosen own shared has mine theirs lines outcome e is other here =
     ap (λ ls. wrong_lines ls outcome) (lines-chosen part.CellsAfter own shared has mine theirs lines e is other here)
 
 -- the image of the cells that tests share is that of a test's cells, where it has none of its own
-pub cells-shared : {n : ℕ} (own shared : List Section) (has : Bool) (t : Setting) → has ≡ has_part part.Cells own → has ≡ false → t ≡ limited n (setting (own ++ shared)) → cells shared ≡ t.cells
-cells-shared own shared has t is none same =
-    ap cells_of (sym (body_for-shared part.Cells own shared (sym is ∙ none))) ∙ ap (λ (u : Setting). u.cells) (sym same)
+pub cells-shared : {n : ℕ} (own shared : List Section) (t : Setting) → has_part part.Cells own ≡ false → t ≡ limited n (setting (own ++ shared)) → cells shared ≡ t.cells
+cells-shared own shared t none same =
+    ap cells_of (sym (body_for-shared part.Cells own shared none)) ∙ ap (λ (u : Setting). u.cells) (sym same)
 
 -- a bench behind a test that was run on it
-pub bench-after : {n : ℕ} (own shared : List Section) (read : List ℕ) (words words' : Result (List ℕ) AsmFault) (given after : List CellLine) (kept kept' : Option Image)
+pub bench-after : {n : ℕ} (own shared : List Section) (words words' : Result (List ℕ) AsmFault) (after : List CellLine) (kept kept' : Option Image)
     (before mine : Option (List ℕ)) (old new : Outcome) (t : Setting)
-    → shares_program own ≡ true → IsBench shared read words given after kept before old → HasImage (cells shared) kept' → mine ≡ maps own → t ≡ limited n (setting (own ++ shared))
-    → Loads t new → words' ≡ words → IsBench shared read words' given after kept' mine new
-bench-after {n = n} own shared read words words' given after kept kept' before mine old new t e bench image is same loads alike = record {
-  text = bench.text;
+    → shares_program own ≡ true → IsBench shared words after kept before old → HasImage (cells shared) kept' → mine ≡ maps own → t ≡ limited n (setting (own ++ shared))
+    → Loads t new → words' ≡ words → IsBench shared words' after kept' mine new
+bench-after {n = n} own shared words words' after kept kept' before mine old new t e bench image is same loads alike = record {
   reads = subst (Reads (has_listing shared) (program shared)) (sym alike) bench.reads;
-  values = bench.values;
   wanted = bench.wanted;
   image = image;
   loads = subst (λ (m : Option (List ℕ)). Loads (with_maps m (setting shared)) new) (sym is)
@@ -126,42 +131,38 @@ bench-after {n = n} own shared read words words' given after kept kept' before m
 }
 
 -- or behind one with a program of its own
-pub bench-alone : (shared : List Section) (read : List ℕ) (words : Result (List ℕ) AsmFault) (given after : List CellLine) (kept kept' : Option Image)
-    (before : Option (List ℕ)) (machine : Outcome) → IsBench shared read words given after kept before machine → HasImage (cells shared) kept'
-    → IsBench shared read words given after kept' before machine
-bench-alone shared read words given after kept kept' before machine bench image = record {
-  text = bench.text;
+pub bench-alone : (shared : List Section) (words : Result (List ℕ) AsmFault) (after : List CellLine) (kept kept' : Option Image)
+    (before : Option (List ℕ)) (machine : Outcome) → IsBench shared words after kept before machine → HasImage (cells shared) kept'
+    → IsBench shared words after kept' before machine
+bench-alone shared words after kept kept' before machine bench image = record {
   reads = bench.reads;
-  values = bench.values;
   wanted = bench.wanted;
   image = image;
   loads = bench.loads;
 }
 
 -- the machine of the test before is that of a test, where both have the same maps of their own
-pub loads-again : {n : ℕ} (own shared : List Section) (read : List ℕ) (words : Result (List ℕ) AsmFault) (given after : List CellLine) (kept : Option Image)
+pub loads-again : {n : ℕ} (own shared : List Section) (words : Result (List ℕ) AsmFault) (after : List CellLine) (kept : Option Image)
     (before mine : Option (List ℕ)) (machine : Outcome) (t : Setting)
-    → shares_program own ≡ true → IsBench shared read words given after kept before machine → before ≡ mine → mine ≡ maps own
+    → shares_program own ≡ true → IsBench shared words after kept before machine → before ≡ mine → mine ≡ maps own
     → t ≡ limited n (setting (own ++ shared)) → Loads t machine
-loads-again {n = n} own shared read words given after kept before mine machine t e bench alike is same =
+loads-again {n = n} own shared words after kept before mine machine t e bench alike is same =
     subst (λ (u : Setting). Loads u machine) (sym same)
     (limited-Loads n (setting (own ++ shared)) machine (loads-own own shared machine e (subst (λ (m : Option (List ℕ)). Loads (with_maps m (setting shared)) machine) (alike ∙ is) bench.loads)))
 
 -- the words of its program
-pub words-again : {n : ℕ} (own shared : List Section) (read : List ℕ) (words : Result (List ℕ) AsmFault) (given after : List CellLine) (kept : Option Image)
+pub words-again : {n : ℕ} (own shared : List Section) (words : Result (List ℕ) AsmFault) (after : List CellLine) (kept : Option Image)
     (before : Option (List ℕ)) (machine : Outcome) (t : Setting)
-    → shares_program own ≡ true → IsBench shared read words given after kept before machine → t ≡ limited n (setting (own ++ shared)) → Reads t.is_listing t.program words
-words-again own shared read words given after kept before machine t e bench same =
+    → shares_program own ≡ true → IsBench shared words after kept before machine → t ≡ limited n (setting (own ++ shared)) → Reads t.is_listing t.program words
+words-again own shared words after kept before machine t e bench same =
     subst (λ (u : Setting). Reads u.is_listing u.program words) (sym same) (reads-own own shared words e bench.reads)
 
 -- a bench whose machine went on
-pub bench-gone-on : (shared : List Section) (read : List ℕ) (words : Result (List ℕ) AsmFault) (given after : List CellLine) (kept : Option Image)
-    (before : Option (List ℕ)) (old new : Outcome) → IsBench shared read words given after kept before old → ((t : Setting) → Loads t old → Loads t new)
-    → IsBench shared read words given after kept before new
-bench-gone-on shared read words given after kept before old new bench on = record {
-  text = bench.text;
+pub bench-gone-on : (shared : List Section) (words : Result (List ℕ) AsmFault) (after : List CellLine) (kept : Option Image)
+    (before : Option (List ℕ)) (old new : Outcome) → IsBench shared words after kept before old → ((t : Setting) → Loads t old → Loads t new)
+    → IsBench shared words after kept before new
+bench-gone-on shared words after kept before old new bench on = record {
   reads = bench.reads;
-  values = bench.values;
   wanted = bench.wanted;
   image = bench.image;
   loads = on (with_maps before (setting shared)) bench.loads;

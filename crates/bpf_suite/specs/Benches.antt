@@ -47,11 +47,9 @@ pub record Shared : Type 0 where
   pub machine : Outcome
 
 -- The machine is that of a test with the shared program and these maps of its own, if it has some.
-pub record IsBench (sections : List Section) (read : List ℕ) (words : Result (List ℕ) AsmFault) (given after : List CellLine) (kept : Option Image)
-    (own : Option (List ℕ)) (machine : Outcome) : Type 0 where
-  pub text : read ≡ program sections
+pub record IsBench (sections : List Section) (words : Result (List ℕ) AsmFault) (after : List CellLine) (kept : Option Image) (own : Option (List ℕ))
+    (machine : Outcome) : Type 0 where
   pub reads : Reads (has_listing sections) (program sections) words
-  pub values : given ≡ cell_lines (body_for part.Cells sections)
   pub wanted : after ≡ cell_lines (body_for part.CellsAfter sections)
   pub image : HasImage (cells sections) kept
   pub loads : Loads (with_maps own (setting sections)) machine

@@ -8,6 +8,7 @@ pub mod Files
 pub mod Images
 pub mod Kinds
 pub mod Outcomes
+pub mod Readings
 pub mod Refusals
 pub mod Regs
 pub mod Reports

@@ -20,7 +20,7 @@ use Rattle.bpf_entries.specs.declared.status.Status.TheVariants as status
 use Rattle.bpf_session.specs.Plain.{plain_end}
 use Rattle.bpfdb_script.specs.Texts.{place}
 use Rattle.bpf_suite.specs.Refusals.{refusal_text}
-use Rattle.bpf_suite.specs.Regs.{reg_lines, with_regs}
+use Rattle.bpf_suite.specs.Regs.{with_regs}
 use Rattle.bpf_suite.specs.declared.cells.Cell.{Cell}
 use Rattle.bpf_suite.specs.declared.refusal.Refusal.{Refusal}
 use Rattle.bpf_suite.specs.declared.refusal.Refusal.TheVariants.{Maps, Listing, Load, Open, NoCell}
@@ -109,7 +109,7 @@ is_memory _ = false
 -- The state in which a program ends, or has taken as many steps as it may, from the opening with its cells and its registers set.
 abbrev pub Ends : Setting → State → Type 0
 Ends t x = (code : Checked) × IsOpened t code × (missing code.maps t.cells ≡ None)
-    × (x ≡ plain_end t.limit (with_regs (reg_lines t.regs) (with_cells t.cells (initial code t.context))))
+    × (x ≡ plain_end t.limit (with_regs t.regs (with_cells t.cells (initial code t.context))))
 
 -- An outcome: that state, or why the program is refused.
 abbrev pub Outcome : Type 0

@@ -1,6 +1,6 @@
 -- Registers before the first step, as a section sets them: a line each, as `r3 = 5`. bpfdb's own choice.
-use Rattle.std.specs.Prelude.{ℕ, Bool, ◌==◌, ◌||◌, nat_lt, if◌then◌else◌, List, [], ◌∷◌, length, filter_map, Option, Some, None, is_some}
-use Rattle.std.specs.List.{list_all}
+use Rattle.std.specs.Prelude.{ℕ, ◌≡◌, Bool, ◌==◌, ◌||◌, nat_lt, if◌then◌else◌, List, [], ◌∷◌, length, filter_map, Option, Some, None, is_some}
+use Rattle.std.specs.List.{list_all, list_any}
 use Rattle.std.specs.Option.{option_and_then, option_map}
 use Rattle.counted_io.specs.Cuts.{after, before}
 use Rattle.counted_io.specs.Lines.{trim_start}
@@ -43,3 +43,15 @@ with_reg line x = if nat_lt line.register 10 then edited x (edit.Register line.r
 abbrev pub with_regs : List RegLine → State → State
 with_regs [] x = x
 with_regs (line ∷ more) x = with_regs more (with_reg line x)
+
+-- The lines that count: of each register the last.
+abbrev pub names_again : RegLine → List RegLine → Bool
+names_again line more = list_any (λ other. other.register == line.register) more
+
+abbrev pub last_lines : List RegLine → List RegLine
+last_lines [] = []
+last_lines (line ∷ more) = if names_again line more then last_lines more else line ∷ last_lines more
+
+-- By these registers get the same numbers as by all lines (law).
+abbrev pub LastLinesCount : Type 0
+LastLinesCount = (lines : List RegLine) (x : State) → with_regs (last_lines lines) x ≡ with_regs lines x

@@ -7,7 +7,7 @@ use Rattle.bpfdb_limits.specs.Limits.{default_limit}
 use Rattle.bpf_suite.specs.Bodies.{bytes_of, limit_of, trimmed}
 use Rattle.bpf_suite.specs.Cells.{cells_of}
 use Rattle.bpf_suite.specs.Kinds.{is_part}
-use Rattle.bpf_suite.specs.Regs.{reg_lines}
+use Rattle.bpf_suite.specs.Regs.{last_lines, reg_lines}
 use Rattle.bpf_suite.specs.declared.cells.Cell.{Cell}
 use Rattle.bpf_suite.specs.declared.kind.Kind.{Kind}
 use Rattle.bpf_suite.specs.declared.kind.Kind.TheVariants as kind
@@ -84,7 +84,7 @@ setting sections = record {
   program = program sections;
   context = context sections;
   cells = cells sections;
-  regs = body_for part.Registers sections;
+  regs = last_lines (regs sections);
   limit = limit sections;
 }
 

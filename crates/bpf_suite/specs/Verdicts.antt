@@ -87,13 +87,13 @@ is_met test outcome = option_map_or (λ section. meets section.kind section.body
 abbrev pub context_after : ℕ → State → List ℕ
 context_after n x = if n == 0 then [] else unwrap_or (run_at x.memory context_base n) []
 
--- All of them fit a pattern.
-abbrev pub leaves : List Section → List ℕ → Outcome → Bool
-leaves test body (Ok x) = fits (solid body) (context_after (length (context test)) x)
-leaves test body (Err refusal) = false
+-- All of them fit the digits of a pattern.
+abbrev pub leaves : List ℕ → ℕ → Outcome → Bool
+leaves digits n (Ok x) = fits digits (context_after n x)
+leaves digits n (Err refusal) = false
 
 abbrev pub is_left : List Section → Outcome → Bool
-is_left test outcome = option_map_or (λ section. leaves test section.body outcome) (section_for part.After test) true
+is_left test outcome = option_map_or (λ section. leaves (solid section.body) (length (context test)) outcome) (section_for part.After test) true
 
 -- How many bytes a value of a map has, where the map has a cell of this index.
 abbrev pub size_in : ℕ → MapShape → Option ℕ

@@ -1,34 +1,35 @@
 //! The program that tests of a file share, and the machine that they run on, one after another.
-ghost use Rattle.std.specs.Prelude.{◌≡◌, ◌++◌, IfOk, List, None, Ok, Option, OnOk, filter_map, false, if◌then◌else◌, true, unwrap_or};
+ghost use Rattle.std.specs.Prelude.{◌≡◌, ◌++◌, IfOk, List, None, Ok, Option, OnOk, false, true, unwrap_or};
 ghost use Rattle.bpf_isa.specs.Programs.{Checked};
 ghost use Rattle.bpf_steps.specs.State.{State};
 ghost use Rattle.bpf_cover.specs.Coverage.{covered};
 ghost use Rattle.bpf_suite.specs.Benches.{IsReady, Loads, ReasonOf, outcome_by, shares_program};
-ghost use Rattle.bpf_suite.specs.Cells.{cell_lines, cell_of};
+ghost use Rattle.bpf_suite.specs.Cells.{cell_lines};
 ghost use Rattle.bpf_suite.specs.Covers.{Finds, IsFound, Notes};
+ghost use Rattle.bpf_suite.specs.Faults.{has_part};
 ghost use Rattle.bpf_suite.specs.Images.{HasImage};
 ghost use Rattle.bpf_suite.specs.Outcomes.{Comes, Reads};
 ghost use Rattle.bpf_suite.specs.Reports.{AreTold};
 ghost use Rattle.bpf_suite.specs.Stocks.{Brings, IsToBring};
-ghost use Rattle.bpf_suite.specs.Tests.{body_for, cells as cells_of, has_listing, limit, limited, program as program_of, program_line, setting};
-ghost use Rattle.bpf_suite.specs.Verdicts.{wrong_cells};
+ghost use Rattle.bpf_suite.specs.Tests.{body_for, limit, limited, program_line, setting};
+ghost use Rattle.bpf_suite.specs.Verdicts.{is_left, wrong_cells};
 ghost use Rattle.bpf_suite.specs.declared.cells.Cell.{Cell};
 ghost use Rattle.bpf_suite.specs.declared.kind.Part.TheVariants as part;
 ghost use Rattle.bpf_suite.specs.declared.section.Section.{Section};
 ghost use Rattle.bpf_suite.specs.declared.setting.Setting.{Setting};
 
-use crate::cells::{CellLine, Cells};
 use crate::ending::Wanted;
 use crate::image::{Image, image_for};
 use crate::kind::Part;
-use crate::list::Own;
 use crate::outcome::{loaded, outcome_by_image, outcome_on};
+use crate::reading::{Reading, place_of, test_of};
 use crate::refusal::Refusal;
 use crate::section::{Section, Text, are_same};
 use crate::setting::{Setting, setting_of};
 use crate::stock::Stock;
-use crate::test::{Test, has_part, lines_in, maps_in};
+use crate::test::{Test, has_part, lines_in};
 use crate::values::{WrongCells, wrong_cells};
+use crate::verdict::is_left;
 use crate::words::{Words, words_of};
 use bpf_cover::Coverage;
 use bpf_isa::Program;
@@ -41,13 +42,10 @@ use std::marker::Model;
 /// or why there is none. Contracts see the sections and the machine.
 #[derive(Drop)]
 pub struct Bench<'b, 'a> {
-    shared: &'b [Section<'a>],
-    /// A listing, or the bytes of words.
-    program: Vec<u8>,
-    /// Its words.
+    shared: Reading<'b, 'a>,
+    /// The words of their program.
     stock: Stock,
-    /// The cells that get values, and what is wanted of cells.
-    cells: Vec<CellLine<'a>>,
+    /// What is wanted of cells.
     wanted: Wanted<'a>,
     /// What these cells made of the maps of the last test without cells of its own.
     image: Option<Image<'a>>,
@@ -64,10 +62,9 @@ impl<'b, 'a> Model for Bench<'b, 'a> {
 
     ghost Value = { Shared };
 
-    ghost view = { λ b. record { sections = b.shared.now; machine = b.machine } };
+    ghost view = { λ b. record { sections = b.shared; machine = b.machine } };
 
-    ghost invariant = { λ b. IsBench b.shared.now b.program.items b.stock b.cells.items
-        b.wanted b.image b.maps b.machine };
+    ghost invariant = { λ b. IsBench b.shared b.stock b.wanted b.image b.maps b.machine };
 }
 
 impl<'b, 'a> Bench<'b, 'a> {
@@ -75,17 +72,15 @@ impl<'b, 'a> Bench<'b, 'a> {
     pub fn of(alloc: Global, shared: &'b [Section<'a>]) -> Result<Bench<'b, 'a>, AllocError>
         ensures { IfOk result (λ bench. bench.sections ≡ shared.now) }
     {
-        let test = Test { own: &[], shared };
-        let program = test.program(alloc)?;
-        let words = words_of(alloc, test.has_listing(), program.as_slice())?;
-        let cells = lines_in(alloc, shared, Part::Cells)?;
+        let read = Reading::of(alloc, shared)?;
+        let none = Reading::of(alloc, &[])?;
+        let setting = setting_of(&none, &read, read.limit());
+        let words = words_of(alloc, setting.is_listing, setting.program.bytes)?;
         let wanted = lines_in(alloc, shared, Part::CellsAfter)?;
-        let machine = machine_of(alloc, &test, program.as_slice(), cells.as_slice(), &words)?;
+        let machine = loaded(alloc, &setting, &words)?;
         Ok(Bench {
-            shared,
-            program,
+            shared: read,
             stock: Stock::of(words),
-            cells,
             wanted: Wanted::of(wanted),
             image: None,
             maps: None,
@@ -94,13 +89,17 @@ impl<'b, 'a> Bench<'b, 'a> {
     }
 
     /// A test with these sections of its own.
-    pub fn test(&self, own: &Own<'b, 'a>) -> Test<'b, 'a>
+    pub fn test(&self, own: &Reading<'b, 'a>) -> Test<'b, 'a>
         ensures { result ≡ own.now ++ self.now.sections }
     {
-        Test {
-            own: own.sections,
-            shared: self.shared,
-        }
+        test_of(own, &self.shared)
+    }
+
+    /// Whether the context that a test leaves is what it expects.
+    pub fn is_left(&self, own: &Reading<'b, 'a>, outcome: &Result<Cpu, Refusal>) -> bool
+        ensures { result ≡ is_left (own.now ++ self.now.sections) outcome.now }
+    {
+        is_left(own, &self.shared, outcome)
     }
 
     /// The machine, or why there is none.
@@ -114,7 +113,7 @@ impl<'b, 'a> Bench<'b, 'a> {
     pub fn wrong_cells(
         &mut self,
         alloc: Global,
-        own: &Own<'b, 'a>,
+        own: &Reading<'b, 'a>,
         outcome: &Result<Cpu, Refusal>,
     ) -> Result<WrongCells<'a>, AllocError>
         ensures wrong { IfOk result
@@ -128,7 +127,7 @@ impl<'b, 'a> Bench<'b, 'a> {
     pub fn wrong_here(
         &mut self,
         alloc: Global,
-        own: &Own<'b, 'a>,
+        own: &Reading<'b, 'a>,
     ) -> Result<WrongCells<'a>, AllocError>
         ensures wrong { IfOk result
             (AreTold (wrong_cells (own.now ++ self.old.sections) self.old.machine)) }
@@ -139,7 +138,11 @@ impl<'b, 'a> Bench<'b, 'a> {
 
     /// Runs a test of the shared program on the machine. Answers why the test is refused, if it is
     /// and others aren't; else the machine is what it came to.
-    pub fn run(&mut self, alloc: Global, own: &Own<'b, 'a>) -> Result<Option<Refusal>, AllocError>
+    pub fn run(
+        &mut self,
+        alloc: Global,
+        own: &Reading<'b, 'a>,
+    ) -> Result<Option<Refusal>, AllocError>
         requires { shares_program own.now ≡ true }
         ensures comes { IfOk result (λ refusal.
             Comes (setting (own.now ++ self.old.sections)) (outcome_by self.new.machine refusal)) }
@@ -153,7 +156,7 @@ impl<'b, 'a> Bench<'b, 'a> {
     pub fn run_alone(
         &mut self,
         alloc: Global,
-        own: &Own<'b, 'a>,
+        own: &Reading<'b, 'a>,
     ) -> Result<Result<Cpu, Refusal>, AllocError>
         ensures comes { IfOk result (Comes (setting (own.now ++ self.old.sections))) }
         ensures sections { self.new.sections ≡ self.old.sections }
@@ -163,14 +166,14 @@ impl<'b, 'a> Bench<'b, 'a> {
     }
 
     /// The most steps that a test takes.
-    fn limit(&self, own: &Own<'b, 'a>) -> u64
+    fn limit(&self, own: &Reading<'b, 'a>) -> u64
         ensures { result ≡ limit (own.now ++ self.now.sections) }
     {
-        self.test(own).limit()
+        place_of(Part::Steps, own, &self.shared).limit()
     }
 
     /// The line of the section in which a test's program stands.
-    pub fn program_line(&self, own: &Own<'b, 'a>) -> usize
+    pub fn program_line(&self, own: &Reading<'b, 'a>) -> usize
         ensures { result ≡ program_line (own.now ++ self.now.sections) }
     {
         self.test(own).program_line()
@@ -181,7 +184,7 @@ impl<'b, 'a> Bench<'b, 'a> {
     pub fn cover(
         &mut self,
         alloc: Global,
-        own: &Own<'b, 'a>,
+        own: &Reading<'b, 'a>,
         found: &mut Option<Coverage>,
     ) -> Result<(), AllocError>
         requires { shares_program own.now ≡ true }
@@ -201,7 +204,7 @@ impl<'b, 'a> Bench<'b, 'a> {
     pub fn cover_alone(
         &mut self,
         alloc: Global,
-        own: &Own<'b, 'a>,
+        own: &Reading<'b, 'a>,
     ) -> Result<Option<Coverage>, AllocError>
         ensures found { IfOk result (Finds (own.now ++ self.old.sections) None) }
         ensures sections { self.new.sections ≡ self.old.sections }
@@ -218,7 +221,7 @@ impl<'b, 'a> Bench<'b, 'a> {
     fn run_for(
         &mut self,
         alloc: Global,
-        own: &Own<'b, 'a>,
+        own: &Reading<'b, 'a>,
         limit: u64,
     ) -> Result<Option<Refusal>, AllocError>
         requires { shares_program own.now ≡ true }
@@ -227,24 +230,12 @@ impl<'b, 'a> Bench<'b, 'a> {
             (outcome_by self.new.machine refusal)) }
         ensures sections { self.new.sections ≡ self.old.sections }
     {
-        let test = self.test(own);
-        let context = test.context(alloc)?;
-        let has_own = has_part(own.sections, Part::Cells);
-        let own_cells = lines_in(alloc, own.sections, Part::Cells)?;
-        let lines = chosen(has_own, own_cells.as_slice(), self.cells.as_slice());
-        let cells = Cells { lines };
-        let setting = setting_of(
-            &test,
-            self.program.as_slice(),
-            context.as_slice(),
-            cells,
-            limit,
-        );
-        let maps = maps_in(own.sections);
+        let setting = setting_of(own, &self.shared, limit);
+        let maps = own.maps();
         let stands = are_same(&self.maps, &maps);
         bring(alloc, &mut self.machine, stands, &setting, &mut self.stock)?;
         self.maps = maps;
-        let shares = gets_shared(has_own, self.cells.as_slice());
+        let shares = gets_shared(own, &self.shared);
         run_on(alloc, &mut self.machine, &setting, shares, &mut self.image)
     }
 
@@ -252,23 +243,16 @@ impl<'b, 'a> Bench<'b, 'a> {
     fn run_alone_for(
         &mut self,
         alloc: Global,
-        own: &Own<'b, 'a>,
+        own: &Reading<'b, 'a>,
         limit: u64,
     ) -> Result<Result<Cpu, Refusal>, AllocError>
         ensures comes { IfOk result
             (Comes (limited limit (setting (own.now ++ self.old.sections)))) }
         ensures sections { self.new.sections ≡ self.old.sections }
     {
-        let test = self.test(own);
-        let program = test.program(alloc)?;
-        let words = words_of(alloc, test.has_listing(), program.as_slice())?;
-        let context = test.context(alloc)?;
-        let has_own = has_part(own.sections, Part::Cells);
-        let own_cells = lines_in(alloc, own.sections, Part::Cells)?;
-        let lines = chosen(has_own, own_cells.as_slice(), self.cells.as_slice());
-        let cells = Cells { lines };
-        let setting = setting_of(&test, program.as_slice(), context.as_slice(), cells, limit);
-        let shares = gets_shared(has_own, self.cells.as_slice());
+        let setting = setting_of(own, &self.shared, limit);
+        let words = words_of(alloc, setting.is_listing, setting.program.bytes)?;
+        let shares = gets_shared(own, &self.shared);
         outcome_of(alloc, &setting, &words, shares, &mut self.image)
     }
 }
@@ -328,28 +312,17 @@ pub fn shares_program(own: &[Section<'_>]) -> bool
 }
 
 /// Whether a test gets cells that tests share, since it has none of its own.
-fn gets_shared(has_own: bool, shared: &[CellLine<'_>]) -> bool
-    ensures { result ≡ true → has_own ≡ false }
+fn gets_shared(own: &Reading<'_, '_>, shared: &Reading<'_, '_>) -> bool
+    ensures { result ≡ true → has_part part.Cells own.now ≡ false }
 {
-    !has_own && !shared.is_empty()
-}
-
-/// The lines of a test about cells: its own, if it has some, else the shared ones.
-fn chosen<'x, 'a>(
-    has_own: bool,
-    own: &'x [CellLine<'a>],
-    shared: &'x [CellLine<'a>],
-) -> &'x [CellLine<'a>]
-    ensures { result.now ≡ (if has_own then own.now else shared.now) }
-{
-    if has_own { own } else { shared }
+    !has_part(own.sections(), Part::Cells) && !shared.cells().is_empty()
 }
 
 /// What the lines of a test say of cells that they don't hold: its own, if it has some, else those
 /// that are shared.
 fn wrong_for<'a>(
     alloc: Global,
-    own: &Own<'_, 'a>,
+    own: &Reading<'_, 'a>,
     wanted: &mut Wanted<'a>,
     outcome: &Result<Cpu, Refusal>,
 ) -> Result<WrongCells<'a>, AllocError>
@@ -358,30 +331,11 @@ fn wrong_for<'a>(
         → IfOk result (AreTold (wrong_cells (own.now ++ shared) outcome.now)) }
     ensures lines { wanted.new ≡ wanted.old }
 {
-    if has_part(own.sections, Part::CellsAfter) {
-        let lines = lines_in(alloc, own.sections, Part::CellsAfter)?;
+    if has_part(own.sections(), Part::CellsAfter) {
+        let lines = lines_in(alloc, own.sections(), Part::CellsAfter)?;
         return wrong_cells(alloc, lines.as_slice(), outcome);
     }
     wanted.wrong_cells(alloc, outcome)
-}
-
-/// A machine that stands on the program of a test, or why there is none.
-fn machine_of(
-    alloc: Global,
-    test: &Test<'_, '_>,
-    program: &[u8],
-    lines: &[CellLine<'_>],
-    words: &Result<Words, AsmFault>,
-) -> Result<Result<Cpu, Refusal>, AllocError>
-    requires program { program.now ≡ program_of test.now }
-    requires cells { filter_map cell_of lines.now ≡ cells_of test.now }
-    requires words { Reads (has_listing test.now) program.now words.now }
-    ensures { IfOk result (Loads (setting test.now)) }
-{
-    let context = test.context(alloc)?;
-    let limit = test.limit();
-    let setting = setting_of(test, program, context.as_slice(), Cells { lines }, limit);
-    loaded(alloc, &setting, words)
 }
 
 /// Brings a machine onto a program, where it doesn't stand on it.

@@ -11,6 +11,7 @@ ghost use Rattle.bpf_suite.specs.declared.kind.Part.TheVariants as part;
 use crate::bench::{Bench, shares_program};
 use crate::kind::Part;
 use crate::list::Own;
+use crate::reading::Reading;
 use crate::section::Section;
 use crate::test::Test;
 use bpf_cover::Coverage;
@@ -81,7 +82,8 @@ fn cover_next<'b, 'a>(
     ensures sections { bench.new.sections ≡ bench.old.sections }
 {
     if shares_program(own.sections) {
-        bench.cover(alloc, own, found)
+        let read = Reading::of(alloc, own.sections)?;
+        bench.cover(alloc, &read, found)
     } else {
         Ok(())
     }
@@ -145,7 +147,8 @@ fn put_alone<'b, 'a, W: Write>(
         × WritesAfter W.contents writer.old so_far writer.new told text) }
     ensures sections { bench.new.sections ≡ bench.old.sections }
 {
-    let found = bench.cover_alone(alloc, own)?;
+    let read = Reading::of(alloc, own.sections)?;
+    let found = bench.cover_alone(alloc, &read)?;
     let alone = Test {
         own: &[],
         shared: own.sections,

@@ -7,9 +7,7 @@ ghost use Rattle.counted_io.specs.Writing.{WritesAfter};
 ghost use Rattle.bpf_suite.specs.Benches.{Loads, RefusesProgram};
 ghost use Rattle.bpf_suite.specs.Cells.{cell_of};
 ghost use Rattle.bpf_suite.specs.Images.{IsImageFor};
-ghost use Rattle.bpf_suite.specs.Regs.{reg_lines, with_regs};
-ghost use Rattle.bpf_suite.specs.declared.refusal.Refusal.TheVariants.{Open};
-ghost use Rattle.bpf_steps.specs.declared.fault.OpenFault.TheVariants as unopened;
+ghost use Rattle.bpf_suite.specs.Regs.{with_regs};
 ghost use Rattle.bpf_suite.specs.Outcomes.{Ends, GivesCell, GivesCells, HasMaps, HasWords, IsProgramOf, Reads, Refuses, limit_word, outcome_text};
 
 use crate::cells::{Cell, CellLine, cell_of};
@@ -161,18 +159,13 @@ fn open_again(alloc: Global, cpu: &mut Cpu, setting: &Setting<'_, '_>) -> Result
 }
 
 /// Gives registers their numbers, and runs a program to its end, or as many steps as it may take.
-fn run(alloc: Global, cpu: &mut Cpu, setting: &Setting<'_, '_>) -> Result<(), Refusal>
-    ensures next { OnOk result (cpu.new
-        ≡ plain_end setting.now.limit (with_regs (reg_lines setting.now.regs) cpu.old)) }
-    ensures err { IfErr result (λ refusal. refusal ≡ Open unopened.OutOfMemory) }
+fn run(cpu: &mut Cpu, setting: &Setting<'_, '_>)
+    ensures next { cpu.new
+        ≡ plain_end setting.now.limit (with_regs setting.now.regs cpu.old) }
     ensures program { cpu.new.program ≡ cpu.old.program }
 {
-    match set_regs(alloc, cpu, setting.regs.bytes) {
-        Ok(()) => {}
-        Err(_) => return Err(Refusal::Open(OpenFault::OutOfMemory)),
-    }
+    set_regs(cpu, &setting.regs);
     let _ending = run_plain(cpu, setting.limit, &mut Counted::new(sink()));
-    Ok(())
 }
 
 /// What comes of a program on a machine that stands on it, whatever that did before: cells get
@@ -191,10 +184,8 @@ pub fn outcome_on(alloc: Global, cpu: &mut Cpu, setting: &Setting<'_, '_>) -> Re
         Ok(()) => {}
         Err(refusal) => return Err(refusal),
     }
-    match run(alloc, cpu, setting) {
-        Ok(()) => Ok(()),
-        Err(refusal) => Err(refusal),
-    }
+    run(cpu, setting);
+    Ok(())
 }
 
 /// The same, where it is known what its cells make of its maps.
@@ -217,10 +208,8 @@ pub fn outcome_by_image(
         Ok(runs) => put_runs(cpu, runs),
         Err(refusal) => return Err(*refusal),
     }
-    match run(alloc, cpu, setting) {
-        Ok(()) => Ok(()),
-        Err(refusal) => Err(refusal),
-    }
+    run(cpu, setting);
+    Ok(())
 }
 
 /// Writes an outcome.

@@ -1,18 +1,34 @@
 //! Registers before the first step, as sections set them: a line each.
-ghost use Rattle.std.specs.Prelude.{◌≡◌, IfOk, OnOk};
-ghost use Rattle.bpf_suite.specs.Regs.{are_regs, is_reg_line, reg_line, reg_lines, reg_of, register_in, with_reg, with_regs};
+ghost use Rattle.std.specs.Prelude.{◌≡◌, ◌==◌, ◌∷◌, ◌++◌, IfOk, OnOk, [], filter, not};
+ghost use Rattle.bpf_suite.specs.Regs.{are_regs, is_reg_line, last_lines, reg_line, reg_lines, reg_of, register_in, with_reg, with_regs};
 
 use crate::body::{number_of, trimmed};
 use bpf_isa::Reg;
 use bpf_machine::{Cpu, Edit};
 use counted_io::{sides, trim_start};
 use std::alloc::{AllocError, Global};
+use std::marker::Model;
 
 /// A register, and the number that it gets.
 #[derive(Clone, Copy)]
 pub struct RegLine {
     pub register: Reg,
     pub value: u64,
+}
+
+/// Registers with their numbers, by the lines that give them. Contracts see these as a list.
+#[derive(Drop)]
+pub struct Regs<'x> {
+    pub lines: &'x [RegLine],
+}
+
+impl<'x> Model for Regs<'x> {
+    ghost use Rattle.std.specs.Prelude.{List};
+    ghost use Rattle.bpf_suite.specs.declared.regs.RegLine.{RegLine};
+
+    ghost Value = { List RegLine };
+
+    ghost view = { λ r. r.lines.now };
 }
 
 /// What the lines of a section set.
@@ -76,14 +92,43 @@ fn is_reg_line(line: &[u8]) -> bool
     trim_start(line).is_empty() || reg_line(line).is_some()
 }
 
-/// Gives registers their numbers, by the text of a section.
-pub fn set_regs(alloc: Global, cpu: &mut Cpu, body: &[u8]) -> Result<(), AllocError>
-    ensures next { OnOk result (cpu.new ≡ with_regs (reg_lines body.now) cpu.old) }
+/// The lines that count: of each register the last.
+pub fn last_lines(alloc: Global, lines: &[RegLine]) -> Result<Vec<RegLine>, AllocError>
+    ensures { IfOk result (λ last. last.items ≡ last_lines lines.now) }
+{
+    let mut last = Vec::new(alloc);
+    for line in lines {
+        put_last(&mut last, line)?;
+    }
+    Ok(last)
+}
+
+/// Puts a line behind others, of which an earlier one of its register goes.
+fn put_last(lines: &mut Vec<RegLine>, line: &RegLine) -> Result<(), AllocError>
+    ensures { OnOk result (lines.new.items
+        ≡ filter (λ other. not (other.register == line.now.register)) lines.old.items
+        ++ line.now ∷ []) }
+{
+    lines.retain(|other| is_of_another(other, line.register));
+    match lines.push(*line) {
+        Ok(()) => Ok(()),
+        Err(_) => Err(AllocError),
+    }
+}
+
+/// Whether a line is about another register.
+fn is_of_another(line: &RegLine, register: Reg) -> bool
+    ensures { result ≡ not (line.now.register == register) }
+{
+    line.register.number() != register.number()
+}
+
+/// Gives registers their numbers.
+pub fn set_regs(cpu: &mut Cpu, regs: &Regs<'_>)
+    ensures next { cpu.new ≡ with_regs regs.now cpu.old }
     ensures program { cpu.new.program ≡ cpu.old.program }
 {
-    let lines = reg_lines(alloc, body)?;
-    set_each(cpu, lines.as_slice());
-    Ok(())
+    set_each(cpu, regs.lines);
 }
 
 /// Gives each of these registers its number.

@@ -3,7 +3,7 @@ ghost use Rattle.std.specs.Prelude.{◌≡◌, ◌&&◌, ◌++◌, List, [], IfE
 ghost use Rattle.counted_io.specs.Writing.{Writes, WritesAfter};
 ghost use Rattle.bpf_suite.specs.Files.{with_shared};
 ghost use Rattle.bpf_suite.specs.Outcomes.{Comes, Outcome};
-ghost use Rattle.bpf_suite.specs.Reports.{AreOutcomes, AreTold, BreaksAt, BreaksOff, all_pass, also, diagnosis, plan, report_text, show_line, test_text, tests_text, verdict_word, wanted, wanted_outcome};
+ghost use Rattle.bpf_suite.specs.Reports.{AreOutcomes, AreTold, BreaksAt, BreaksOff, IsSeen, all_pass, also, diagnosis, plan, report_text, show_line, test_text, tests_text, verdict_word, wanted, wanted_outcome};
 ghost use Rattle.bpf_suite.specs.Tests.{setting};
 ghost use Rattle.bpf_suite.specs.Verdicts.{passes, wrong_cells};
 
@@ -11,6 +11,7 @@ use crate::bench::{Bench, shares_program};
 use crate::kind::Part;
 use crate::list::{Own, TestList};
 use crate::outcome::put_outcome;
+use crate::reading::Reading;
 use crate::refusal::Refusal;
 use crate::shown::put_quoted;
 use crate::test::Test;
@@ -122,7 +123,31 @@ fn report<'b, 'a, W: Write>(
         (own.now ++ bench.old.sections)) }
     ensures sections { bench.new.sections ≡ bench.old.sections }
 {
-    if !shares_program(own.sections) {
+    match Reading::of(alloc, own.sections) {
+        Ok(read) => report_read(alloc, file, &read, bench, number, writer),
+        Err(_) => Err(SuiteFault::Memory),
+    }
+}
+
+/// The same, where its own sections are read.
+fn report_read<'b, 'a, W: Write>(
+    alloc: Global,
+    file: &[u8],
+    own: &Reading<'b, 'a>,
+    bench: &mut Bench<'b, 'a>,
+    number: u64,
+    writer: &mut Counted<W>,
+) -> Result<bool, SuiteFault>
+    ensures ok { IfOk result (λ passed. let test = own.now ++ bench.old.sections in
+        (outcome : Outcome) × Comes (setting test) outcome
+        × (passed ≡ passes test outcome)
+        × Writes W.contents writer.old writer.new result
+        (test_text file.now number test outcome)) }
+    ensures err { IfErr result (λ why. BreaksAt W.contents why writer.old writer.new file.now number
+        (own.now ++ bench.old.sections)) }
+    ensures sections { bench.new.sections ≡ bench.old.sections }
+{
+    if !shares_program(own.sections()) {
         return match bench.run_alone(alloc, own) {
             Ok(outcome) => tell(alloc, file, bench, own, &outcome, number, writer),
             Err(_) => Err(SuiteFault::Memory),
@@ -140,7 +165,7 @@ fn tell_here<'b, 'a, W: Write>(
     alloc: Global,
     file: &[u8],
     bench: &mut Bench<'b, 'a>,
-    own: &Own<'b, 'a>,
+    own: &Reading<'b, 'a>,
     number: u64,
     writer: &mut Counted<W>,
 ) -> Result<bool, SuiteFault>
@@ -156,7 +181,17 @@ fn tell_here<'b, 'a, W: Write>(
     match bench.wrong_here(alloc, own) {
         Ok(wrong) => {
             let test = bench.test(own);
-            say(alloc, file, &test, bench.machine(), &wrong, number, writer)
+            let left = bench.is_left(own, bench.machine());
+            say(
+                alloc,
+                file,
+                &test,
+                bench.machine(),
+                left,
+                &wrong,
+                number,
+                writer,
+            )
         }
         Err(_) => Err(SuiteFault::Memory),
     }
@@ -167,7 +202,7 @@ fn tell<'b, 'a, W: Write>(
     alloc: Global,
     file: &[u8],
     bench: &mut Bench<'b, 'a>,
-    own: &Own<'b, 'a>,
+    own: &Reading<'b, 'a>,
     outcome: &Result<Cpu, Refusal>,
     number: u64,
     writer: &mut Counted<W>,
@@ -184,31 +219,34 @@ fn tell<'b, 'a, W: Write>(
     match bench.wrong_cells(alloc, own, outcome) {
         Ok(wrong) => {
             let test = bench.test(own);
-            say(alloc, file, &test, outcome, &wrong, number, writer)
+            let left = bench.is_left(own, outcome);
+            say(alloc, file, &test, outcome, left, &wrong, number, writer)
         }
         Err(_) => Err(SuiteFault::Memory),
     }
 }
 
-/// Says what a test came to, with the cells that are wrong. Answers whether it passed.
+/// Says what a test came to, where it is known whether the context is left that it expects, and
+/// which cells are wrong. Answers whether it passed.
 fn say<W: Write>(
     alloc: Global,
     file: &[u8],
     test: &Test<'_, '_>,
     outcome: &Result<Cpu, Refusal>,
+    left: bool,
     wrong: &WrongCells<'_>,
     number: u64,
     writer: &mut Counted<W>,
 ) -> Result<bool, SuiteFault>
     requires comes { Comes (setting test.now) outcome.now }
-    requires wrong { AreTold (wrong_cells test.now outcome.now) wrong.now }
+    requires seen { IsSeen test.now outcome.now left wrong.now }
     ensures ok { IfOk result (λ passed. (passed ≡ passes test.now outcome.now)
         × Writes W.contents writer.old writer.new result
         (test_text file.now number test.now outcome.now)) }
     ensures err { IfErr result (λ why. BreaksAt W.contents why writer.old writer.new file.now number
         test.now) }
 {
-    let passed = match passes(alloc, test, outcome, wrong) {
+    let passed = match passes(alloc, test, outcome, left, wrong) {
         Ok(passed) => passed,
         Err(_) => return Err(SuiteFault::Memory),
     };

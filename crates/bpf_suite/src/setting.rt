@@ -1,11 +1,12 @@
 //! What a test says of its program.
-ghost use Rattle.std.specs.Prelude.{◌≡◌};
-ghost use Rattle.bpf_suite.specs.Tests.{cells as cells_of, context as context_of, program as program_of, limited, setting};
+ghost use Rattle.std.specs.Prelude.{◌≡◌, ◌++◌};
+ghost use Rattle.bpf_suite.specs.Tests.{limited, setting};
 
 use crate::cells::Cells;
 use crate::kind::Part;
+use crate::reading::{Reading, place_of, test_of};
+use crate::regs::Regs;
 use crate::section::Text;
-use crate::test::Test;
 
 /// A program, and what it runs on: the text of a file, and what was read of it.
 #[derive(Drop)]
@@ -18,34 +19,33 @@ pub struct Setting<'a, 'x> {
     pub context: Text<'x>,
     /// The cells of maps that have a value before the first step.
     pub cells: Cells<'x, 'a>,
-    /// The lines that set registers before the first step.
-    pub regs: Text<'a>,
+    /// The registers that get numbers before the first step, once each.
+    pub regs: Regs<'x>,
     /// The most steps.
     pub limit: u64,
 }
 
-/// What a test says of its program, by what was read of it, with another limit.
-pub fn setting_of<'a, 'x>(
-    test: &Test<'_, 'a>,
-    program: &'x [u8],
-    context: &'x [u8],
-    cells: Cells<'x, 'a>,
+/// What a test says of its program, by what was read of its own sections and of those that it
+/// shares, with another limit.
+pub fn setting_of<'b, 'a, 'x>(
+    own: &'x Reading<'b, 'a>,
+    shared: &'x Reading<'b, 'a>,
     limit: u64,
 ) -> Setting<'a, 'x>
-    requires program { program.now ≡ program_of test.now }
-    requires context { context.now ≡ context_of test.now }
-    requires cells { cells ≡ cells_of test.now }
-    ensures { result ≡ limited limit (setting test.now) }
+    ensures { result ≡ limited limit (setting (own.now ++ shared.now)) }
 {
+    let maps = place_of(Part::Maps, own, shared).maps();
+    let program = place_of(Part::Program, own, shared).program();
+    let context = place_of(Part::Context, own, shared).context();
+    let cells = place_of(Part::Cells, own, shared).cells();
+    let regs = place_of(Part::Registers, own, shared).regs();
     Setting {
-        maps: test.maps(),
-        is_listing: test.has_listing(),
+        maps,
+        is_listing: test_of(own, shared).has_listing(),
         program: Text { bytes: program },
         context: Text { bytes: context },
-        cells,
-        regs: Text {
-            bytes: test.text(Part::Registers),
-        },
+        cells: Cells { lines: cells },
+        regs: Regs { lines: regs },
         limit,
     }
 }

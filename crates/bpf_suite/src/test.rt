@@ -51,13 +51,6 @@ pub fn has_part(sections: &[Section<'_>], part: Part) -> bool
     sections.iter().any(|section| section.kind.is(part))
 }
 
-/// The text of the maps that these sections have.
-pub fn maps_in<'a>(sections: &[Section<'a>]) -> Option<Text<'a>>
-    ensures { result ≡ maps sections.now }
-{
-    trimmed_body(section_in(sections, Part::Maps))
-}
-
 /// The lines about cells that these sections have as a part; none where they don't have it.
 pub fn lines_in<'a>(
     alloc: Global,

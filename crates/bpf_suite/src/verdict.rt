@@ -1,16 +1,17 @@
 //! Whether a test passes.
-ghost use Rattle.std.specs.Prelude.{◌≡◌, IfOk, false};
+ghost use Rattle.std.specs.Prelude.{◌≡◌, ◌++◌, IfOk, false};
 ghost use Rattle.std.specs.Option.{option_map_or};
 ghost use Rattle.counted_io.specs.Writing.{WritesAfter};
 ghost use Rattle.bpf_suite.specs.Bodies.{number_of};
 ghost use Rattle.bpf_suite.specs.Outcomes.{outcome_text};
-ghost use Rattle.bpf_suite.specs.Reports.{AreTold};
+ghost use Rattle.bpf_suite.specs.Reports.{AreTold, IsSeen};
 ghost use Rattle.bpf_suite.specs.Verdicts.{cells_left, context_after, expected_text, fault_text, has_exited, is_left, is_met, is_stop, kind_of_fault, lead, leaves, meets, passes, results, tells, tells_fault, tells_outcome, wrong_cells};
 ghost use Rattle.bpf_suite.specs.declared.kind.Kind.TheVariants as kinds;
 
-use crate::body::{fits, number_of, solid, trimmed};
+use crate::body::{fits, number_of, trimmed};
 use crate::kind::{Kind, Part};
 use crate::outcome::put_outcome;
+use crate::reading::{Reading, place_of, test_of};
 use crate::refusal::Refusal;
 use crate::test::Test;
 use crate::values::WrongCells;
@@ -23,18 +24,19 @@ use std::io::Write;
 /// The address of the context's first byte.
 const CONTEXT_BASE: u64 = 0x1_0000_0000;
 
-/// Whether a test passes with this outcome, and with these cells that are wrong.
+/// Whether a test passes with this outcome, where it is known whether the context is left that it
+/// expects, and which cells are wrong.
 pub fn passes(
     alloc: Global,
     test: &Test<'_, '_>,
     outcome: &Result<Cpu, Refusal>,
+    left: bool,
     wrong: &WrongCells<'_>,
 ) -> Result<bool, AllocError>
-    requires { AreTold (wrong_cells test.now outcome.now) wrong.now }
+    requires { IsSeen test.now outcome.now left wrong.now }
     ensures { IfOk result (λ passed. passed ≡ passes test.now outcome.now) }
 {
     let met = is_met(alloc, test, outcome)?;
-    let left = is_left(alloc, test, outcome)?;
     Ok(met && left && cells_left(test, outcome, wrong))
 }
 
@@ -63,37 +65,34 @@ fn is_met(
     }
 }
 
-/// Whether the context that is left is what a test expects.
-fn is_left(
-    alloc: Global,
-    test: &Test<'_, '_>,
+/// Whether the context that is left is what a test expects, by what was read of its own sections and
+/// of those that it shares.
+pub fn is_left(
+    own: &Reading<'_, '_>,
+    shared: &Reading<'_, '_>,
     outcome: &Result<Cpu, Refusal>,
-) -> Result<bool, AllocError>
-    ensures { IfOk result (λ left. left ≡ is_left test.now outcome.now) }
+) -> bool
+    ensures { result ≡ is_left (own.now ++ shared.now) outcome.now }
 {
-    match test.section(Part::After) {
-        Some(section) => leaves(alloc, test, section.text(), outcome),
-        None => Ok(true),
+    match test_of(own, shared).section(Part::After) {
+        Some(_) => {
+            let digits = place_of(Part::After, own, shared).digits();
+            let context = place_of(Part::Context, own, shared).context();
+            leaves(digits, context.len(), outcome)
+        }
+        None => true,
     }
 }
 
-/// Whether the context that is left fits a pattern.
-fn leaves(
-    alloc: Global,
-    test: &Test<'_, '_>,
-    body: &[u8],
-    outcome: &Result<Cpu, Refusal>,
-) -> Result<bool, AllocError>
-    ensures { IfOk result (λ left. left ≡ leaves test.now body.now outcome.now) }
+/// Whether the context that is left, of n bytes, fits the digits of a pattern.
+fn leaves(digits: &[u8], n: usize, outcome: &Result<Cpu, Refusal>) -> bool
+    ensures { result ≡ leaves digits.now n outcome.now }
 {
-    match outcome {
-        Ok(cpu) => {
-            let context = test.context(alloc)?;
-            let digits = solid(alloc, body)?;
-            Ok(fits(digits.as_slice(), context_after(context.len(), cpu)))
-        }
-        Err(_) => Ok(false),
-    }
+    let cpu = match outcome {
+        Ok(cpu) => cpu,
+        Err(_) => return false,
+    };
+    fits(digits, context_after(n, cpu))
 }
 
 /// The bytes of a context of n bytes, where the program has ended.

@@ -4,4 +4,4 @@ use Rattle.bpf_suite.proofs.RegValues.{regs-program}
 use Rattle.bpf_suite.proofs.regs.set_regs.Goals as goal
 
 pub returns-clause-program : goal.returns-clause-program
-returns-clause-program c = ap (λ (y : State). y.program) c.set_each.ensures ∙ regs-program c.as_slice.result.now c.args.cpu.now
+returns-clause-program c = ap (λ (y : State). y.program) c.set_each.ensures ∙ regs-program c.regs.inside.lines.now c.args.cpu.now

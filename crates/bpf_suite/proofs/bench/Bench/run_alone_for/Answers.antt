@@ -1,43 +1,28 @@
-use Rattle.std.proofs.Common.{◌≡◌, ◌++◌, sym, ap, subst, ◌∙◌}
-use Rattle.std.specs.List.{filter_map}
+use Rattle.std.proofs.Common.{◌≡◌, ◌++◌, ap, subst, ◌∙◌}
+use Rattle.std.specs.Prelude.{IfOk}
 use Rattle.bpf_suite.specs.Benches.{Shared}
-use Rattle.bpf_suite.specs.Cells.{cell_lines, cell_of}
-use Rattle.bpf_suite.specs.Faults.{has_part}
 use Rattle.bpf_suite.specs.Images.{HasImage}
-use Rattle.bpf_suite.specs.Tests.{body_for, cells, limited, setting}
-use Rattle.bpf_suite.specs.declared.kind.Part.TheVariants as part
-use Rattle.bpf_suite.proofs.Shares.{bench-alone, cells-shared, lines-chosen}
+use Rattle.bpf_suite.specs.Outcomes.{Comes}
+use Rattle.bpf_suite.specs.Tests.{cells, limited, setting}
+use Rattle.bpf_suite.proofs.Shares.{bench-alone, cells-shared}
 use Rattle.bpf_suite.proofs.bench.Bench.run_alone_for.Goals as goal
-
-pub setting_of-setting-requires-clause-cells : goal.setting_of-setting-requires-clause-cells
-setting_of-setting-requires-clause-cells c =
-    let own = c.args.own.now in
-    let shared = c.self.inside.shared.now in
-    let here : shared ≡ c.args.self.now.sections = ap (λ (b : Shared). b.sections) c.self.view_is in
-    let test : c.test-test.result ≡ own ++ shared = c.test-test.ensures ∙ ap (λ s. own ++ s) (sym here) in
-    let has = c.has_part-has_own.ensures ∙ ap (has_part part.Cells) c.own.view_is in
-    let mine = c.as_slice-2.ensures.value ∙ c.in_ok-own_cells.ensures ∙ ap (λ s. cell_lines (body_for part.Cells s)) c.own.view_is in
-    let lines = lines-chosen part.Cells own shared c.has_part-has_own.result c.as_slice-2.result.now c.as_slice-3.result.now c.chosen-lines.result.now
-    has mine (c.as_slice-3.ensures.value ∙ c.self.invariant.values) c.chosen-lines.ensures in
-    ap (filter_map cell_of) lines ∙ ap cells (sym test)
 
 pub outcome_of-requires-clause-image : goal.outcome_of-requires-clause-image
 outcome_of-requires-clause-image c =
-    let own = c.args.own.now in
-    let shared = c.self.inside.shared.now in
-    let here : shared ≡ c.args.self.now.sections = ap (λ (b : Shared). b.sections) c.self.view_is in
-    let test : c.test-test.result ≡ own ++ shared = c.test-test.ensures ∙ ap (λ s. own ++ s) (sym here) in
-    let has = c.has_part-has_own.ensures ∙ ap (has_part part.Cells) c.own.view_is in
-    let same = c.setting_of-setting.ensures ∙ ap (λ s. limited c.args.limit (setting s)) test in
-    λ yes. subst (λ cs. HasImage cs c.self.inside.image) (cells-shared own shared _ _ has (c.gets_shared-shares.ensures yes) same) c.self.invariant.image
+    λ yes. subst (λ cs. HasImage cs c.self.inside.image)
+    (cells-shared c.args.own.now c.self.inside.shared _ (c.gets_shared-shares.ensures yes) c.setting_of-setting.ensures) c.self.invariant.image
 
 pub invariant_of-self : goal.invariant_of-self
 invariant_of-self c =
     let own = c.args.own.now in
-    let shared = c.self.inside.shared.now in
-    let here : shared ≡ c.args.self.now.sections = ap (λ (b : Shared). b.sections) c.self.view_is in
-    let test : c.test-test.result ≡ own ++ shared = c.test-test.ensures ∙ ap (λ s. own ++ s) (sym here) in
-    let has = c.has_part-has_own.ensures ∙ ap (has_part part.Cells) c.own.view_is in
-    let same = c.setting_of-setting.ensures ∙ ap (λ s. limited c.args.limit (setting s)) test in
-    let image = c.outcome_of.ensures.image (cells shared) (λ yes. cells-shared own shared _ _ has (c.gets_shared-shares.ensures yes) same) c.self.invariant.image in
-    bench-alone shared _ _ _ _ _ _ _ _ c.self.invariant image
+    let shared = c.self.inside.shared in
+    let image = c.outcome_of.ensures.image (cells shared)
+    (λ yes. cells-shared own shared _ (c.gets_shared-shares.ensures yes) c.setting_of-setting.ensures) c.self.invariant.image in
+    bench-alone shared _ _ _ _ _ _ c.self.invariant image
+
+pub returns-clause-comes : goal.returns-clause-comes
+returns-clause-comes c =
+    let own = c.args.own.now in
+    let here : c.self.inside.shared ≡ c.args.self.now.sections = ap (λ (b : Shared). b.sections) c.self.view_is in
+    let same = c.setting_of-setting.ensures ∙ ap (λ s. limited c.args.limit (setting (own ++ s))) here in
+    subst (λ t. IfOk c.outcome_of.result (Comes t)) same c.outcome_of.ensures.comes
