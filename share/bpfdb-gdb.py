@@ -488,7 +488,7 @@ class Map(Asker):
         if not name:
             raise gdb.GdbError("bpf-map NAME [INDEX]")
         number = int(gdb.parse_and_eval("&" + name)) - FIRST_TOKEN
-        shapes = shapes_of(connection().details or "") if is_connected() else []
+        shapes = shapes_of(shlex.split((connection().details or "").lstrip("|"))) if is_connected() else []
         if not 0 <= number < len(shapes):
             raise gdb.GdbError("%s is no map of the program that runs" % name)
         size, count = (int(part) for part in shapes[number].split("x"))
@@ -505,10 +505,16 @@ class Map(Asker):
         gdb.execute("with print array-indexes on -- print $bpf_map")
 
 
-def shapes_of(details):
-    """The shapes of the maps of the program that a connection is to: those of its --maps, or of the object that bpf-load started so."""
-    given = re.search(r"--maps[ =](\S+)", details)
-    return given.group(1).split(",") if given else next((shapes for command, shapes in load.shapes.items() if details.endswith(command)), [])
+def shapes_of(words):
+    """The shapes of the maps of a program that is started by these words: those of --maps, or of its object."""
+    given, others = taken(words, "--maps")
+    if "--object" in words:
+        linking, others = for_link(others)
+        for name in ("-m", "--journal", "--steps", "--registers"):
+            _, others = all_taken(others, name)
+        files = [word for word in others[2:] if not word.startswith("-")]
+        given = called("bpfdb", ["link", *linking, *files]).stderr.decode(errors="replace").split()[:2]
+    return given[-1].removeprefix("--maps=").split(",") if given and given[0].startswith("--maps") else []
 
 
 def value_type(name, size):
@@ -538,8 +544,6 @@ class Load(Asker):
         super().__init__("bpf-load", gdb.COMMAND_RUNNING, gdb.COMPLETE_FILENAME)
         self.words = []
         self.folder = None
-        # the shapes of the maps of objects, by the commands that started them
-        self.shapes = {}
 
     def obey(self, argument):
         words = [os.path.expanduser(word) for word in gdb.string_to_argv(argument)] or self.words
@@ -552,10 +556,8 @@ class Load(Asker):
             self.folder = tempfile.TemporaryDirectory(prefix="bpfdb-")
         # (a folder for each time, since gdb takes a file of the same name and second for the one that it knows)
         base = os.path.join(tempfile.mkdtemp(dir=self.folder.name), os.path.splitext(os.path.basename(words[0]))[0])
-        read = load_object if is_object(words[0]) else load_listing
-        options, shapes = read(words[0], words[1:], base)
-        command = shlex.join([found("bpfdb"), "gdb", *options])
-        self.shapes[command] = shapes
+        load = load_object if is_object(words[0]) else load_listing
+        options = load(words[0], words[1:], base)
         # (without a packet bpfdb ends at once, or says what it refuses)
         called("bpfdb", ["gdb", *options])
         if inferior.pid:
@@ -563,7 +565,7 @@ class Load(Asker):
         gdb.execute("with confirm off -- file " + re.sub(r"([\\\s'\"])", r"\\\1", base + ".sym"), to_string=True)
         self.words = words
         quietly = "with suppress-cli-notifications on -- "
-        gdb.execute(quietly + "target remote | " + command, to_string=True)
+        gdb.execute(quietly + "target remote | " + shlex.join([found("bpfdb"), "gdb", *options]), to_string=True)
         entry = entry_of(base + ".sym")
         if entry:
             # (before it lie a jump and, it may be, a setup of data)
@@ -588,13 +590,9 @@ def entry_of(file):
 
 
 def load_object(file, options, base):
-    """Makes the symbols of an object. Answers the options with which bpfdb starts it, FILE behind them, and the shapes of its maps. FILE is the
-    object as it is now, whose names bpfdb knows then; or its words, where maps are given."""
-    linking = [word for word in options if word == "--as-compiled"]
-    options = [word for word in options if word != "--as-compiled"]
-    for name in ("--section", "--entry", "--entries", "--stub"):
-        words, options = all_taken(options, name)
-        linking += words
+    """Makes the symbols of an object. Answers the options with which bpfdb starts it, FILE behind them: the object as it is now, whose names it knows
+    then; or its words, where maps are given."""
+    linking, options = for_link(options)
     program = called("bpfdb", ["link", *linking, file])
     machine_words, _ = taken(options, "--registers")
     os.environ.setdefault("BPFDB", found("bpfdb"))
@@ -603,18 +601,27 @@ def load_object(file, options, base):
     if taken(options, "--maps")[0]:
         with open(base + ".bin", "wb") as output:
             output.write(program.stdout)
-        return [*options, base + ".bin"], []
+        return [*options, base + ".bin"]
     shutil.copyfile(file, base + ".o")
-    told = re.match(rb"--maps (\S+)", program.stderr)
-    return [*options, "--object", *linking, base + ".o"], told[1].decode().split(",") if told else []
+    return [*options, "--object", *linking, base + ".o"]
 
 
 def load_listing(file, options, base):
-    """Makes the symbols of a listing. Answers the options with which bpfdb starts it, FILE behind them, and no shapes, which these have."""
+    """Makes the symbols of a listing. Answers the options with which bpfdb starts it, FILE behind them."""
     machine_words, _ = taken(options, "--registers")
     os.environ.setdefault("BPFDB", found("bpfdb"))
     called("bpfdb-symbols", ["--listing", *machine_words, file, base + ".sym"])
-    return [*options, "--listing", file], []
+    return [*options, "--listing", file]
+
+
+def for_link(words):
+    """The words that tell how an object is linked, and the others."""
+    linking = [word for word in words if word == "--as-compiled"]
+    others = [word for word in words if word != "--as-compiled"]
+    for name in ("--section", "--entry", "--entries", "--stub"):
+        own, others = all_taken(others, name)
+        linking += own
+    return linking, others
 
 
 def taken(words, option):
@@ -705,7 +712,7 @@ gdb.events.new_objfile.connect(look_at_file)
 listing.read()
 gdb.unwinder.register_unwinder(None, Unwinder(), replace=True)
 gdb.disassembler.register_disassembler(Disassembler())
-load = Load()
+Load()
 Undo("bpf-undo")
 Redo("bpf-redo")
 LastWrite()
