@@ -557,7 +557,8 @@ class Load(Asker):
         # (a folder for each time, since gdb takes a file of the same name and second for the one that it knows)
         base = os.path.join(tempfile.mkdtemp(dir=self.folder.name), os.path.splitext(os.path.basename(words[0]))[0])
         load = load_object if is_object(words[0]) else load_listing
-        options = load(words[0], words[1:], base)
+        # (what kind of file it is is seen)
+        options = load(words[0], [word for word in words[1:] if word not in ("--object", "--listing")], base)
         # (without a packet bpfdb ends at once, or says what it refuses)
         called("bpfdb", ["gdb", *options])
         if inferior.pid:
