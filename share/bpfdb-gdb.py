@@ -488,7 +488,7 @@ class Map(Asker):
         if not name:
             raise gdb.GdbError("bpf-map NAME [INDEX]")
         number = int(gdb.parse_and_eval("&" + name)) - FIRST_TOKEN
-        shapes = shapes_of(shlex.split((connection().details or "").lstrip("|"))) if is_connected() else []
+        shapes = shapes_of(connection().details or "") if is_connected() else []
         if not 0 <= number < len(shapes):
             raise gdb.GdbError("%s is no map of the program that runs" % name)
         size, count = (int(part) for part in shapes[number].split("x"))
@@ -505,16 +505,20 @@ class Map(Asker):
         gdb.execute("with print array-indexes on -- print $bpf_map")
 
 
-def shapes_of(words):
-    """The shapes of the maps of a program that is started by these words: those of --maps, or of its object."""
-    given, others = taken(words, "--maps")
-    if "--object" in words:
-        linking, others = for_link(others)
-        for name in ("-m", "--journal", "--steps", "--registers"):
-            _, others = all_taken(others, name)
-        files = [word for word in others[2:] if not word.startswith("-")]
-        given = called("bpfdb", ["link", *linking, *files]).stderr.decode(errors="replace").split()[:2]
-    return given[-1].removeprefix("--maps=").split(",") if given and given[0].startswith("--maps") else []
+def shapes_of(details):
+    """The shapes of the maps of the program that a command starts: those of its --maps, or of its object."""
+    given = re.search(r"--maps[ =](\S+)", details)
+    if given:
+        return given.group(1).split(",")
+    words = shlex.split(details.lstrip("|"))
+    if "--object" not in words or "gdb" not in words:
+        return []
+    linking, others = for_link(words[words.index("gdb") + 1:])
+    for name in ("-m", "--journal", "--steps", "--registers"):
+        _, others = all_taken(others, name)
+    files = [word for word in others if not word.startswith("-")]
+    told = called("bpfdb", ["link", *linking, *files]).stderr.decode(errors="replace").split()
+    return told[1].split(",") if told[:1] == ["--maps"] else []
 
 
 def value_type(name, size):
@@ -557,7 +561,7 @@ class Load(Asker):
         # (a folder for each time, since gdb takes a file of the same name and second for the one that it knows)
         base = os.path.join(tempfile.mkdtemp(dir=self.folder.name), os.path.splitext(os.path.basename(words[0]))[0])
         load = load_object if is_object(words[0]) else load_listing
-        # (what kind of file it is is seen)
+        # (bpfdb is told by load what kind of file it is)
         options = load(words[0], [word for word in words[1:] if word not in ("--object", "--listing")], base)
         # (without a packet bpfdb ends at once, or says what it refuses)
         called("bpfdb", ["gdb", *options])
