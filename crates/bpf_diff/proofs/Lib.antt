@@ -6,6 +6,7 @@ pub mod Latest
 pub mod Writes
 pub mod Leaving
 pub mod Outcomes
+pub mod Valuing
 pub mod AgainstTelling
 pub mod Tracing
 pub mod TraceLines

@@ -3,6 +3,7 @@ pub mod Ends
 pub mod Differences
 pub mod Seen
 pub mod Outputs
+pub mod Values
 pub mod Following
 pub mod Laws
 pub mod Writers

@@ -2,36 +2,44 @@
 ghost use Rattle.std.specs.Prelude.{◌≡◌, ◌==◌, ◌&&◌};
 ghost use Rattle.bpf_entries.specs.Status.{has_ended};
 ghost use Rattle.bpf_trace.specs.Runs.{steps_of};
-ghost use Rattle.bpf_diff.specs.Differences.{alike_for, diff_text, end_alike, first_otherwise, together_for};
+ghost use Rattle.bpf_diff.specs.Differences.{alike_for, first_otherwise, together_for};
 ghost use Rattle.bpf_diff.specs.Ends.{same_end as same_end_of};
 ghost use Rattle.bpf_diff.specs.Following.{Along};
 ghost use Rattle.bpf_diff.specs.Alike.{same_slot};
+ghost use Rattle.bpf_diff.specs.Values.{Finds, by_steps, pair_of, values_of_steps};
 ghost use Rattle.counted_io.specs.Writing.{WritesAfter};
 
 use crate::end::same_end;
 use crate::follow::{go_alike, go_together};
 use crate::lines::{put_ends, put_otherwise};
 use crate::parting::put_parting;
+use crate::values::{Values, values_written};
 use bpf_machine::Cpu;
 use counted_io::{Counted, WriteFault};
 use std::io::Write;
 
 /// Two runs that were compared.
-#[derive(Clone, Copy)]
+#[derive(Drop)]
 pub struct Compared {
     /// Whether it could be told.
     pub written: Result<(), WriteFault>,
-    /// They are the same to their end.
+    /// They are the same to their end, or leave the same.
     pub is_same: bool,
+    /// The values in which they differ, of the first and of the second, if it is values: those that
+    /// the first step wrote that wrote otherwise, or those at the first place at which they end
+    /// otherwise.
+    pub values: Option<(Values, Values)>,
 }
 
 /// Steps of two runs that were taken together.
-#[derive(Clone, Copy)]
+#[derive(Drop)]
 struct Begun {
     written: Result<(), WriteFault>,
     steps: u64,
     /// No step that stood at one slot wrote otherwise.
     is_alike: bool,
+    /// What the step wrote in each that did.
+    values: Option<(Values, Values)>,
 }
 
 /// Runs two machines in step, each to its end or to a limit of steps, and writes the first step that
@@ -47,8 +55,9 @@ pub fn put_diff<W: Write>(
     limit: u64,
 ) -> Compared
     ensures text { WritesAfter W.contents writer.old so_far writer.new result.written
-        (diff_text limit first.old second.old) }
-    ensures same { result.is_same ≡ end_alike limit first.old second.old }
+        (by_steps limit first.old second.old).text }
+    ensures finds { Finds result (by_steps limit first.old second.old) }
+    ensures programs { (first.new.program ≡ first.old.program) × (second.new.program ≡ second.old.program) }
 {
     let begun = put_begun(writer, so_far, first, second, limit);
     let more = go_together(first, second, limit - begun.steps);
@@ -59,6 +68,7 @@ pub fn put_diff<W: Write>(
     Compared {
         written,
         is_same: is_over(same, first),
+        values: begun.values,
     }
 }
 
@@ -90,6 +100,7 @@ fn put_begun<W: Write>(
     ensures along { Along same_slot limit first.old second.old first.new second.new result.steps }
     ensures alike { result.is_alike ≡ (alike_for (steps_of limit first.old) (steps_of limit second.old)
         == together_for (steps_of limit first.old) (steps_of limit second.old)) }
+    ensures values { pair_of result.values ≡ values_of_steps (steps_of limit first.old) (steps_of limit second.old) }
 {
     let agreed = go_alike(first, second, limit);
     let steps = agreed.steps;
@@ -99,14 +110,18 @@ fn put_begun<W: Write>(
             written: so_far,
             steps,
             is_alike: true,
+            values: None,
         },
         Some(parted) => {
             let number = steps + 1;
             let written = put_otherwise(writer, so_far, number, &parted, first, second);
+            let one = values_written(first, &parted.first, number);
+            let another = values_written(second, &parted.second, number);
             Begun {
                 written,
                 steps: number,
                 is_alike: false,
+                values: Some((one, another)),
             }
         }
     }

@@ -11,13 +11,17 @@ mod end;
 mod follow;
 pub mod laws;
 mod lines;
+mod marked;
 mod outputs;
 mod parting;
 mod seen;
 mod told_writers;
+mod values;
 mod writer;
 mod wrote;
 
 pub use against::{Against, put_against};
 pub use diff::{Compared, put_diff};
+pub use marked::put_marked;
 pub use outputs::put_writes;
+pub use values::Values;

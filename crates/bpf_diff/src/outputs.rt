@@ -1,5 +1,5 @@
 //! Two runs, compared by what they leave for one who looks from outside.
-ghost use Rattle.std.specs.Prelude.{◌≡◌, ◌≤◌, ◌&&◌, ◌++◌, IfErr, IfOk, codes, false};
+ghost use Rattle.std.specs.Prelude.{◌≡◌, ◌≤◌, ◌&&◌, ◌++◌, IfErr, IfOk, None, codes, false};
 ghost use Rattle.bpf_entries.specs.Status.{has_ended};
 ghost use Rattle.bpf_session.specs.Plain.{plain_end};
 ghost use Rattle.bpf_steps.specs.State.{initial};
@@ -8,13 +8,15 @@ ghost use Rattle.bpf_trace.specs.Traces.{end_line};
 ghost use Rattle.bpf_diff.specs.Differences.{ends_text};
 ghost use Rattle.bpf_diff.specs.Ends.{same_status as same_status_of};
 ghost use Rattle.bpf_diff.specs.Outputs as spec;
-ghost use Rattle.bpf_diff.specs.Outputs.{write_alike, writer_line, writes_text};
+ghost use Rattle.bpf_diff.specs.Outputs.{writer_line};
+ghost use Rattle.bpf_diff.specs.Values.{Finds, by_writes};
 ghost use Rattle.counted_io.specs.Writing.{WritesAfter};
 
 use crate::diff::Compared;
 use crate::end::same_status;
 use crate::lines::put_ends;
 use crate::seen::{first_place, seen};
+use crate::values::value_left;
 use crate::writer::{find_writer, put_writer};
 use bpf_machine::Cpu;
 use bpf_origin::Place;
@@ -50,9 +52,11 @@ pub fn put_writes<W: Write>(
     requires second { second.old ≡ initial second.old.program other.now }
     ensures text { IfOk result (λ compared. WritesAfter W.contents writer.old so_far writer.new
         compared.written
-        (writes_text limit context.now other.now first.old second.old)) }
-    ensures same { IfOk result (λ compared. compared.is_same
-        ≡ write_alike limit context.now other.now first.old second.old) }
+        (by_writes limit context.now other.now first.old second.old).text) }
+    ensures finds { IfOk result (λ compared. Finds compared
+        (by_writes limit context.now other.now first.old second.old)) }
+    ensures programs { IfOk result (λ compared. (first.new.program ≡ first.old.program)
+        × (second.new.program ≡ second.old.program)) }
     ensures err { IfErr result (λ fault. writer.new ≡ writer.old) }
 {
     let _one = first.run(limit);
@@ -76,9 +80,12 @@ pub fn put_writes<W: Write>(
         values: (value, other_value),
         writers: (one, another),
     };
+    let left = value_left(place, value, one);
+    let other_left = value_left(place, other_value, another);
     Ok(Compared {
         written: put_difference(writer, so_far, first, second, &difference, limit),
         is_same: false,
+        values: Some((left, other_left)),
     })
 }
 
@@ -95,11 +102,13 @@ fn put_same<W: Write>(
         ++ ends_text false 0 (end_line limit first.now) (end_line limit second.now)) }
     ensures same { result.is_same ≡ same_status_of first.now.status second.now.status
         && has_ended first.now.status }
+    ensures values { result.values ≡ None }
 {
     let told = put(writer, so_far, b"same writes\n");
     Compared {
         written: put_ends(writer, told, false, 0, limit, first, second),
         is_same: end_alike(first, second),
+        values: None,
     }
 }
 
@@ -123,7 +132,8 @@ fn put_difference<W: Write>(
 ) -> Result<(), WriteFault>
     requires first { difference.now.writers.0 ≤ limit }
     requires second { difference.now.writers.1 ≤ limit }
-    ensures { WritesAfter W.contents writer.old so_far writer.new result
+    ensures programs { (first.new.program ≡ first.old.program) × (second.new.program ≡ second.old.program) }
+    ensures text { WritesAfter W.contents writer.old so_far writer.new result
         ((spec.place_line difference.now.place difference.now.values.0 difference.now.values.1
         ++ (writer_line (codes "< ") difference.now.writers.0 (steps_of limit first.old)
         ++ writer_line (codes "> ") difference.now.writers.1 (steps_of limit second.old)))

@@ -1,7 +1,10 @@
+use Rattle.std.proofs.Common.{◌∙◌, ap₂, Some}
 use Rattle.counted_io.proofs.Appending.{WritesAfter-text}
 use Rattle.bpf_diff.proofs.Comparing.{along-some, alike-none, alike-some}
 use Rattle.bpf_diff.proofs.Following.{took-start}
 use Rattle.bpf_diff.proofs.Telling.{begun-none, begun-some, nothing-more}
+use Rattle.bpf_diff.proofs.Valuing.{no-values, some-values}
+use Rattle.bpf_diff.specs.Values.{Value}
 use Rattle.bpf_diff.proofs.diff.put_begun.Goals as goal
 
 pub put_otherwise-written-requires-clause-first : goal.put_otherwise-written-requires-clause-first
@@ -40,3 +43,14 @@ pub returns-in-Some-clause-alike : goal.returns-in-Some-clause-alike
 returns-in-Some-clause-alike g c =
     let p = rw c.in-Some.is at c.go_alike-agreed.ensures in
     alike-some c.args.limit c.go_alike-agreed.result.steps c.args.first.now c.args.second.now c.go_alike-agreed.new.first c.go_alike-agreed.new.second c.in-Some.parted p
+
+pub returns-in-None-clause-values : goal.returns-in-None-clause-values
+returns-in-None-clause-values g c =
+    let p = rw c.in-None.is at c.go_alike-agreed.ensures in
+    no-values c.args.limit c.go_alike-agreed.result.steps c.args.first.now c.args.second.now c.go_alike-agreed.new.first c.go_alike-agreed.new.second p.0 p.1
+
+pub returns-in-Some-clause-values : goal.returns-in-Some-clause-values
+returns-in-Some-clause-values g c =
+    let p = rw c.in-Some.is at c.go_alike-agreed.ensures in
+    ap₂ (λ (v w : Value). Some (v, w)) (c.values_written-one.ensures p.p p.first) (c.values_written-another.ensures p.q p.second)
+    ∙ some-values c.args.limit c.go_alike-agreed.result.steps c.args.first.now c.args.second.now c.go_alike-agreed.new.first c.go_alike-agreed.new.second c.in-Some.parted p

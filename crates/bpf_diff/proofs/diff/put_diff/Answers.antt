@@ -3,6 +3,7 @@ use Rattle.std.specs.Prelude.{◌&&◌}
 use Rattle.counted_io.proofs.Appending.{WritesAfter-WritesAfter, WritesAfter-text}
 use Rattle.bpf_entries.specs.Status.{has_ended}
 use Rattle.bpf_steps.specs.State.{State}
+use Rattle.bpf_trace.proofs.Stepping.{Steps-program}
 use Rattle.bpf_diff.specs.Differences.{are_same}
 use Rattle.bpf_diff.specs.Ends.{same_end}
 use Rattle.bpf_diff.proofs.Comparing.{end-first, ends-whole, parting-whole, same-whole}
@@ -34,8 +35,8 @@ returns-clause-text g c =
     let two = WritesAfter-WritesAfter g.W.Write.contents _ _ _ _ _ _ _ _ _ begun.text told refl in
     WritesAfter-WritesAfter g.W.Write.contents _ _ _ _ _ _ _ _ _ two ended refl
 
-pub returns-clause-same : goal.returns-clause-same
-returns-clause-same g c =
+pub returns-clause-finds : goal.returns-clause-finds
+returns-clause-finds g c =
     let limit = c.args.limit in
     let n = c.put_begun-begun.result.steps in
     let m = c.go_together-more.result in
@@ -54,5 +55,17 @@ returns-clause-same g c =
     let same : c.is_same-same.result ≡ are_same limit x y =
     c.is_same-same.ensures
     ∙ same-whole limit n m ends.0 ends.1 x y a b p q v w begun.along more ends.2 ends.3 _ _ (same_end v w) begun.alike parted.none refl in
-    c.is_over.ensures
-    ∙ ap₂ (λ (s : Bool) (z : State). s && has_ended z.status) same (end-first limit n m ends.0 ends.1 x y a b p q v w begun.along more ends.2 ends.3)
+    record {
+      same = c.is_over.ensures
+          ∙ ap₂ (λ (s : Bool) (z : State). s && has_ended z.status) same (end-first limit n m ends.0 ends.1 x y a b p q v w begun.along more ends.2 ends.3);
+      values = begun.values;
+    }
+
+pub returns-clause-programs : goal.returns-clause-programs
+returns-clause-programs g c =
+    let begun = c.put_begun-begun.ensures in
+    let more = c.go_together-more.ensures in
+    let ends = c.put_parting-parting.ensures.ends in (
+      Steps-program _ _ _ ends.2.steps ∙ Steps-program _ _ _ more.along.first ∙ Steps-program _ _ _ begun.along.first,
+      Steps-program _ _ _ ends.3.steps ∙ Steps-program _ _ _ more.along.second ∙ Steps-program _ _ _ begun.along.second,
+    )
