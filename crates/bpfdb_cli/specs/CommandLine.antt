@@ -248,8 +248,8 @@ whynot_app = with_rule (with_rule (with_rule (with_rule (with_rule (with_rule (w
 
 -- `diff` runs two programs, or one on two contexts or along a trace, as `run` does.
 abbrev pub diff_app : App
-diff_app = with_rule (with_rule (with_rule (with_file_kinds (with_rule (with_rule (with_rule (with_rule (with_rule (with_rule (new_app (codes "diff"))
-    mem_rule) other_mem_rule) other_trace_rule) maps_rule) steps_rule) writes_rule)) json_rule) other_rule) file_rule
+diff_app = with_rule (with_rule (with_rule (with_rule (with_rule (with_rule (with_file_kinds (with_rule (with_rule (with_rule (with_rule (with_rule (with_rule (with_rule (new_app (codes "diff"))
+    mem_rule) other_mem_rule) other_trace_rule) maps_rule) gdb_journal_rule) steps_rule) writes_rule)) lines_rule) addresses_rule) alone_rule) json_rule) other_rule) file_rule
 
 -- `batch` runs cases as `run` does.
 abbrev pub batch_app : App

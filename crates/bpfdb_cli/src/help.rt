@@ -181,6 +181,10 @@ and both end alike, it says after how many steps and how. The exit status is 0
 where they end alike without a difference, 1 where they part or come to the
 limit of steps.
 
+Unless --alone is given, it is told at the end where the values came from that
+this first step wrote, in either run: the lines that `origin` writes with
+--steps K, K the number of the step, each behind its mark.
+
 With --trace the other side is a trace of another machine, and FILE's run goes
 along it: the first step that it tells otherwise is written, both lines of it,
 and of registers both values, and which step wrote the one here. The exit status
@@ -189,7 +193,7 @@ is 0 where it tells the whole run, and nothing else.
 With --writes both runs are compared by what each leaves in the context, in the
 maps, in the traced words and in r0, as two builds of one source are: the first
 place at which they end otherwise is written, and the step of each that wrote it
-last.";
+last. Behind that stands where both values came from.";
 
 pub const DIFF_EXAMPLE: &str = "Example:
   $ bpfdb diff --listing -m four.bin --other-mem five.bin port.s
@@ -200,7 +204,13 @@ pub const DIFF_EXAMPLE: &str = "Example:
   < 3 2: mov r0, 1; r0 = 0x1
   > 3 3: exit
   < exited at 3: r0 0x1
-  > exited at 3: r0 0x0";
+  > exited at 3: r0 0x0
+  < at 1: jne r2, 4, L3
+  < -1 r2 = 0x4; 0: ldxb r2, [r1+0]; from 0x100000000:1
+  < left 0x100000000:1 = 0x4; byte 0 of the context; at the opening
+  > at 1: jne r2, 4, L3
+  > -1 r2 = 0x5; 0: ldxb r2, [r1+0]; from 0x100000000:1
+  > left 0x100000000:1 = 0x5; byte 0 of the context; at the opening";
 
 pub const ASM: &str = "Assembles a listing to raw words";
 
@@ -480,7 +490,7 @@ the last line is `cut: there are more lines`, and the exit status is
 pub const ADDRESSES: &str = "Follows the registers that make addresses, too";
 
 /// `--alone`.
-pub const ALONE: &str = "Leaves out where the compared values came from";
+pub const ALONE: &str = "Leaves out where the values came from";
 
 /// `--other-mem PATH`.
 pub const OTHER_MEM: &str = "Second context, a file of 0 to 65536 bytes";
