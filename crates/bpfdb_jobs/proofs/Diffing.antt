@@ -1,16 +1,23 @@
 -- How a job of `diff` ends.
-use Rattle.std.proofs.Common.{ℕ, ◌≡◌, Bool, true, false, List, Some, None, Result, Ok, Err, ap, ap₂, refl, subst, sym, ◌∙◌}
-use Rattle.std.specs.Prelude.{◌||◌, OnErr, OnOk}
+use Rattle.std.proofs.Common.{ℕ, ◌≡◌, Bool, true, false, List, Option, Some, None, Result, Ok, Err, ap, ap₂, subst, sym, ◌∙◌}
+use Rattle.std.specs.Borrow.{Bor}
+use Rattle.std.specs.Prelude.{OnErr, OnOk, is_some}
 use Rattle.bpf_isa.specs.Programs.{Checked}
 use Rattle.bpf_steps.specs.State.{State, initial}
+use Rattle.bpf_lines.specs.declared.place_names.Names.{Names}
+use Rattle.bpf_link.specs.declared.fault.LinkFault.{LinkFault}
+use Rattle.bpf_ring.specs.Opening.{RefusesSize}
+use Rattle.bpf_ring.specs.declared.fault.JournalFault.{JournalFault}
 use Rattle.counted_io.specs.Writing.{Writes}
 use Rattle.bpfdb_faults.specs.Faults.{output_line}
 use Rattle.bpfdb_faults.specs.Streams.{Stream, Told}
 use Rattle.bpfdb_faults.specs.declared.refusal.JobRefusal.{JobRefusal}
 use Rattle.bpfdb_faults.specs.declared.refusal.JobRefusal.TheVariants.{Maps, Listing, Load, Open, OtherRun, TraceLine, Journal, What, Goal, NoPlace, Object, Functions, Tests, NoTest, ManyTests, Script}
 use Rattle.bpfdb_jobs.specs.Endings.{EndsPrinted, OutLost, Printed}
-use Rattle.bpfdb_jobs.specs.Jobs.{AgainstPrints, DiffPrints, IsOtherRun, Opens, Print, Prints, RunsPrint, against_print, diff_print, diff_status, other_bytes, runs_print, writes_print}
-use Rattle.bpfdb_jobs.specs.Openings.{OpensAs}
+use Rattle.bpfdb_jobs.specs.Jobs.{AgainstPrints, DiffPrints, IsOtherRun, Opens, Print, Prints, RunsPrint, against_print, compared_print, comparison_of, diff_status, other_bytes, runs_told, section_of}
+use Rattle.bpfdb_jobs.specs.Openings.{OpensAs, OpensRuns}
+use Rattle.bpfdb_jobs.specs.Origins.{RefusesNames}
+use Rattle.bpfdb_jobs.specs.Sources.{sources}
 use Rattle.bpfdb_jobs.specs.Refusals.{RefusesAgainst, RefusesDiff, RefusesEither, RefusesMachine, RefusesRuns}
 use Rattle.bpfdb_jobs.specs.declared.job.Job.{Job}
 use Rattle.bpfdb_options.specs.declared.subcommand.Subcommand.TheVariants.{Diff}
@@ -26,12 +33,12 @@ machine-diff job (Load fault) p = p
 machine-diff job (Open fault) p = p
 machine-diff job (OtherRun refusal) p = absurd p
 machine-diff job (TraceLine fault line) p = absurd p
-machine-diff job (Journal fault) p = p
+machine-diff job (Journal fault) p = absurd p
 machine-diff job (Script refusal) p = p
 machine-diff job (What fault) p = p
 machine-diff job (Goal fault) p = p
 machine-diff job (NoPlace name) p = p
-machine-diff job (Object fault name) p = p
+machine-diff job (Object fault name) p = absurd p
 machine-diff job (Functions fault index name) p = p
 machine-diff job (Tests fault line) p = p
 machine-diff job (NoTest name) p = p
@@ -50,24 +57,43 @@ runs-refuse job refusal e is = subst (λ (b : Bool). RefusesEither b job refusal
 pub against-refuses : (job : Job) (refusal : JobRefusal) → job.options.other_is_trace ≡ true → RefusesAgainst job refusal → RefusesDiff job refusal
 against-refuses job refusal e is = subst (λ (b : Bool). RefusesEither b job refusal) (sym e) is
 
+-- a refusal of the names in maps
+pub names-refused : (job other : Job) (x y : State) → job.options.other_is_trace ≡ false → OpensAs job x → IsOtherRun job other → OpensAs other y
+    → (fault : LinkFault) (name : Bor (List ℕ)) → job.options.alone ≡ false → RefusesNames job.object (section_of job) fault name.now
+    → RefusesDiff job (Object fault name)
+names-refused job other x y runs o is t fault name asked refuses =
+    runs-refuse job (Object fault name) runs (o.0, other, t.0, (o.1, is, t.1), asked, refuses)
+
 -- what is printed, of the machines that were opened
-module _ (job other : Job) (x y : State) (runs : job.options.other_is_trace ≡ false) (o : OpensAs job x) (is : IsOtherRun job other) (t : OpensAs other y) where
-  prints : Prints Diff job (runs_print job.options.compares_writes job.options.limit job.context.now other.context.now x y)
-  prints =
-      runs-diff job (runs_print job.options.compares_writes job.options.limit job.context.now other.context.now x y) runs
-      (o.0, other, t.0, o.1, is, t.1, ap₂ (runs_print job.options.compares_writes job.options.limit job.context.now other.context.now) o.2 t.2)
+module _ (job other : Job) (x y : State) (names : Option Names) (o : OpensRuns job other x y names) where
+  pub compared-prints : Prints Diff job (compared_print names job other x y)
+  compared-prints = runs-diff job (compared_print names job other x y) o.runs
+      (o.first.0, other, o.second.0, names, o.first.1, o.is_other, o.second.1, o.named, ap₂ (compared_print names job other) o.first.2 o.second.2)
 
-  pub diff-prints : job.options.compares_writes ≡ false → Prints Diff job (diff_print job.options.limit x y)
-  diff-prints e = subst (λ (b : Bool). Prints Diff job (runs_print b job.options.limit job.context.now other.context.now x y)) e prints
+  pub found-prints : (text : List ℕ) (same : Bool) (first second : List ℕ) → text ≡ (comparison_of job other x y).text
+      → same ≡ (comparison_of job other x y).same → first ≡ (sources names job.options (comparison_of job other x y).values x y).0
+      → second ≡ (sources names job.options (comparison_of job other x y).values x y).1 → Prints Diff job (runs_told text same (first, second))
+  found-prints text same first second e f g h =
+      let told = comparison_of job other x y in
+      let texts = sources names job.options told.values x y in
+      subst (Prints Diff job)
+      (sym (ap₂ (λ (t : List ℕ) (s : Bool). runs_told t s (first, second)) e f
+      ∙ ap₂ (λ (p q : List ℕ). runs_told told.text told.same (p, q)) g h))
+      compared-prints
 
-  pub writes-print : job.options.compares_writes ≡ true
-      → Prints Diff job (writes_print job.options.limit job.context.now other.context.now x y)
-  writes-print e = subst (λ (b : Bool). Prints Diff job (runs_print b job.options.limit job.context.now other.context.now x y)) e prints
-
--- what is asked of a comparison of what two runs leave
-pub asked-either : (p q : Bool) → q ≡ true → (p || q) ≡ true
-asked-either true q e = refl
-asked-either false q e = e
+  -- or refused by its journal
+  pub journal-refused : (fault : JournalFault) → job.options.alone ≡ false → is_some (comparison_of job other x y).values ≡ true
+      → RefusesSize job.options.journal fault → RefusesDiff job (Journal fault)
+  journal-refused fault asked some refuses =
+      runs-refuse job (Journal fault) o.runs (
+        o.first.0,
+        other,
+        o.second.0,
+        (o.first.1, o.is_other, o.second.1),
+        asked,
+        ap₂ (λ (p q : State). is_some (comparison_of job other p q).values) (sym o.first.2) (sym o.second.2) ∙ some,
+        refuses,
+      )
 
 pub opened-initial : (job : Job) (x : State) → OpensAs job x → x ≡ initial x.program job.context.now
 opened-initial job x o = o.2 ∙ ap (λ (z : State). initial z.program job.context.now) (sym o.2)

@@ -1,5 +1,5 @@
 -- How a job ends, as it stands on reader, writer and standard error.
-use Rattle.std.specs.Prelude.{◌≡◌, ◌||◌, ℕ, List, true, ⊤}
+use Rattle.std.specs.Prelude.{◌≡◌, ℕ, List, ⊤}
 use Rattle.bpf_isa.specs.Programs.{Checked}
 use Rattle.bpf_session.specs.Runs.{FailsBy}
 use Rattle.bpf_session.specs.declared.fault.RunFault.{RunFault}
@@ -18,7 +18,7 @@ use Rattle.bpfdb_options.specs.declared.subcommand.Subcommand.TheVariants.{Diff,
 abbrev pub MayExhaust : Subcommand → Job → Type 0
 MayExhaust Disasm job = ⊤
 MayExhaust Trace job = ⊤
-MayExhaust Diff job = (job.options.other_is_trace || job.options.compares_writes) ≡ true
+MayExhaust Diff job = ⊤
 MayExhaust subcommand job = ⊥
 
 -- How a job ends that prints: all was printed; or it was refused; or memory ran out, before anything was written; or standard output failed,

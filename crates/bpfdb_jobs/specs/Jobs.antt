@@ -2,8 +2,7 @@
 use Rattle.std.specs.Prelude.{◌≡◌, ◌≤◌, ◌&&◌, ℕ, Bool, true, false, List, [], ◌∷◌, ◌++◌, Option, Some, None, Result, Ok, is_some, length, map, count_by, codes, decimal, if◌then◌else◌}
 use Rattle.std.specs.Borrow.{Bor}
 use Rattle.bpf_entries.specs.Keeping.{IsSize}
-use Rattle.bpf_diff.specs.Differences.{diff_text, end_alike}
-use Rattle.bpf_diff.specs.Outputs.{write_alike, writes_text}
+use Rattle.bpf_diff.specs.Values.{Comparison, by_steps, by_writes}
 use Rattle.bpf_diff.specs.Against.{against_text, tells_run}
 use Rattle.input_texts.specs.TraceFaults.{bad_line}
 use Rattle.input_texts.specs.TraceForms.{form_in, told}
@@ -52,6 +51,7 @@ use Rattle.bpfdb_script.specs.declared.refusal.Refusal.{Refusal}
 use Rattle.bpfdb_script.specs.Texts.{place}
 use Rattle.bpfdb_jobs.specs.MapLines.{linked_told}
 use Rattle.bpfdb_jobs.specs.Origins.{Arrival, AreNamesOf, Asks, IsTail, answer_by, arrival, branches_by, followed_by, found_text, named_by, question_by, status_of_extent}
+use Rattle.bpfdb_jobs.specs.Sources.{both_marked, sources}
 use Rattle.bpfdb_jobs.specs.declared.job.Job.{Job}
 use Rattle.bpfdb_options.specs.declared.subcommand.Subcommand.{Subcommand}
 use Rattle.bpfdb_options.specs.declared.subcommand.Subcommand.TheVariants.{Run, Trace, Debug, Origin, Whynot, Diff, Gdb, Asm, Disasm, Lines, Check, Link, Test, Batch}
@@ -272,17 +272,25 @@ IsOtherRun job other = RunsOn job.options.other_is_context job other
 abbrev pub diff_status : Bool → ℕ
 diff_status same = if same then 0 else 1
 
-abbrev pub diff_print : ℕ → State → State → Print
-diff_print limit x y = record { out = Some (diff_text limit x y); err = None; status = diff_status (end_alike limit x y) }
-
 -- Or where they end otherwise for one who looks from outside.
-abbrev pub writes_print : ℕ → List ℕ → List ℕ → State → State → Print
-writes_print limit c d x y =
-    record { out = Some (writes_text limit c d x y); err = None; status = diff_status (write_alike limit c d x y) }
+abbrev pub comparison : Bool → ℕ → List ℕ → List ℕ → State → State → Comparison
+comparison true limit c d x y = by_writes limit c d x y
+comparison false limit c d x y = by_steps limit x y
 
-abbrev pub runs_print : Bool → ℕ → List ℕ → List ℕ → State → State → Print
-runs_print true limit c d x y = writes_print limit c d x y
-runs_print false limit c d x y = diff_print limit x y
+abbrev pub comparison_of : Job → Job → State → State → Comparison
+comparison_of job other x y = comparison job.options.compares_writes job.options.limit job.context.now other.context.now x y
+
+-- Behind it stands where the values came from that differ, with the names of places in maps.
+abbrev pub runs_told : List ℕ → Bool → List ℕ × List ℕ → Print
+runs_told text same texts = record { out = Some (text ++ both_marked texts); err = None; status = diff_status same }
+
+abbrev pub runs_print : Option Names → Job → Comparison → State → State → Print
+runs_print names job told x y = runs_told told.text told.same (sources names job.options told.values x y)
+
+-- (With `--alone` no names are looked for.)
+abbrev pub AreNamesFor : Bool → Job → Option Names → Type 0
+AreNamesFor true job names = names ≡ None
+AreNamesFor false job names = AreNamesOf job.object (section_of job) names
 
 -- Or the first step that the trace of another machine, which is the other file, tells otherwise, with status 0 where it tells the whole run.
 abbrev pub against_print : Form → ℕ → State → List (List ℕ) → Print
@@ -292,10 +300,13 @@ against_print form limit x lines = record {
   status = diff_status (tells_run form limit x lines);
 }
 
+abbrev pub compared_print : Option Names → Job → Job → State → State → Print
+compared_print names job other x y = runs_print names job (comparison_of job other x y) x y
+
 abbrev pub RunsPrint : Job → Print → Type 0
-RunsPrint job a = (code : Checked) × (other : Job) × (second : Checked) × Opens job code × IsOtherRun job other × Opens other second
-    × (a ≡ runs_print job.options.compares_writes job.options.limit job.context.now other.context.now
-    (initial code job.context.now) (initial second other.context.now))
+RunsPrint job a = (code : Checked) × (other : Job) × (second : Checked) × (names : Option Names)
+    × Opens job code × IsOtherRun job other × Opens other second × AreNamesFor job.options.alone job names
+    × (a ≡ compared_print names job other (initial code job.context.now) (initial second other.context.now))
 
 pub record AgainstPrints (job : Job) (a : Print) : Type 0 where
   pub code : Checked

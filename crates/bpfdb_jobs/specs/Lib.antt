@@ -12,6 +12,7 @@ pub mod Objects
 pub mod Openings
 pub mod Origins
 pub mod Refusals
+pub mod Sources
 pub mod Scripts
 pub mod Shown
 pub mod Statuses

@@ -1,5 +1,5 @@
 -- Scaffolding: a session, or a machine with its journal, that was just opened for a job.
-use Rattle.std.specs.Prelude.{ℕ, ◌≡◌, Bool, List, [], Option, Ok, false, option_map, true}
+use Rattle.std.specs.Prelude.{ℕ, ◌≡◌, Bool, List, [], Option, Ok, false, option_map}
 use Rattle.std.specs.Borrow.{Bor}
 use Rattle.bpf_isa.specs.Programs.{Checked}
 use Rattle.bpf_journal.specs.Histories.{Record, StandsFor}
@@ -17,7 +17,13 @@ use Rattle.bpf_steps.specs.State.{State, initial}
 use Rattle.bpf_session.specs.Sessions.{SessionValue}
 use Rattle.bpf_whynot.specs.Answers.{Query, why_not}
 use Rattle.bpfdb_jobs.specs.Connections.{Begins}
-use Rattle.bpfdb_jobs.specs.Jobs.{IsOtherRun, Opens, OpensSession, arrival_of}
+use Rattle.bpf_diff.specs.Values.{Pair, pair_of}
+use Rattle.bpf_entries.specs.Keeping.{IsSize}
+use Rattle.bpfdb_jobs.specs.Jobs.{AreNamesFor, IsOtherRun, Opens, OpensSession, arrival_of, comparison_of}
+use Rattle.bpfdb_jobs.specs.Sources.{behind, sources}
+use Rattle.bpfdb_jobs.specs.declared.runs.ComparedRuns.{ComparedRuns}
+use Rattle.bpfdb_jobs.specs.declared.source.Sources.{Sources}
+use Rattle.bpfdb_options.specs.declared.options.Options.{Options}
 use Rattle.bpfdb_jobs.specs.Origins.{Arrival, Asks, IsTail, branches_by, followed_by, found_text, named_by}
 use Rattle.bpfdb_jobs.specs.declared.job.Job.{Job}
 
@@ -25,11 +31,40 @@ use Rattle.bpfdb_jobs.specs.declared.job.Job.{Job}
 abbrev pub OpensAs : Job → State → Type 0
 OpensAs job x = (code : Checked) × Opens job code × (x ≡ initial code job.context.now)
 
--- What two runs leave is compared, and this is the job of the other one.
-pub record AsksWrites (job other : Job) : Type 0 where
+-- Two machines stand at the openings of two runs that are compared, whose names in maps these are.
+pub record OpensRuns (job other : Job) (x y : State) (names : Option Names) : Type 0 where
   pub runs : job.options.other_is_trace ≡ false
-  pub writes : job.options.compares_writes ≡ true
+  pub first : OpensAs job x
   pub is_other : IsOtherRun job other
+  pub second : OpensAs other y
+  pub named : AreNamesFor job.options.alone job names
+
+-- They were compared, and each machine still has its program.
+pub record AreCompared (job other : Job) (x y : State) (found : ComparedRuns) : Type 0 where
+  pub text : found.text.items ≡ (comparison_of job other x y).text
+  pub same : found.is_same ≡ (comparison_of job other x y).same
+  pub values : pair_of found.values ≡ (comparison_of job other x y).values
+  pub first : found.first.program ≡ x.program
+  pub second : found.second.program ≡ y.program
+
+-- Of some openings, and with these names.
+pub record WereCompared (job other : Job) (names : Option (Bor Names)) (found : ComparedRuns) : Type 0 where
+  pub x : State
+  pub y : State
+  pub opens : OpensRuns job other x y (option_map (λ n. n.now) names)
+  pub are : AreCompared job other x y found
+
+-- A machine has run so many steps from an opening, and its journal holds the history of that.
+pub record HasRun (options : Options) (n : ℕ) (x : State) (moment : Moment RingKeeper) (moves : ℕ) : Type 0 where
+  pub sized : IsSize options.journal
+  pub state : moment.state ≡ (behind options n x).point.state
+  pub held : StandsFor RingHolds moment.keeper moment.state (behind options n x).point.history
+  pub counted : moves ≡ (behind options n x).moves
+
+-- What is told of the values, in memory.
+pub record AreSources (names : Option (Bor Names)) (options : Options) (values : Option Pair) (x y : State) (found : Sources) : Type 0 where
+  pub first : found.first.items ≡ (sources (option_map (λ n. n.now) names) options values x y).0
+  pub second : found.second.items ≡ (sources (option_map (λ n. n.now) names) options values x y).1
 
 -- It has the job's program, and stands where one of the job begins.
 pub record IsOpening (job : Job) (session : SessionValue RingKeeper) : Type 0 where

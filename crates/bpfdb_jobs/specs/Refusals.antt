@@ -1,6 +1,6 @@
 -- Why a job is refused, in this order: its maps, its listing, its program, its context, its journal; its script, what it asks about; its stubs,
 -- its object, the fields of that; or its tests.
-use Rattle.std.specs.Prelude.{◌≡◌, ◌⊎◌, List, [], ℕ, Option, Some, None, Ok, Err, Bool, true, false, codes}
+use Rattle.std.specs.Prelude.{◌≡◌, ◌⊎◌, List, [], ℕ, Option, Some, None, Ok, Err, Bool, true, false, codes, is_some}
 use Rattle.std.specs.Borrow.{Bor}
 use Rattle.bpf_isa.specs.Checker.{IsRefused}
 use Rattle.bpf_isa.specs.Maps.{IsFirstBadMap, IsListFault}
@@ -32,7 +32,9 @@ use Rattle.bpf_lines.specs.Places.{is_place}
 use Rattle.bpf_whynot.specs.declared.fault.GoalFault.{GoalFault}
 use Rattle.bpf_whynot.specs.declared.fault.GoalFault.TheVariants.{NoInstruction, NoSlot}
 use Rattle.input_texts.specs.TraceFaults.{bad_line}
-use Rattle.bpfdb_jobs.specs.Jobs.{AsksGoals, HasMaps, HasWords, IsObjectOf, IsProgramOf, ListsStubs, IsOtherRun, Opens, OpensSession, arrival_of, asked_of, link_of, other_bytes, others_of, section_of, stubs_of}
+use Rattle.bpf_diff.specs.Values.{Pair}
+use Rattle.bpf_steps.specs.State.{initial}
+use Rattle.bpfdb_jobs.specs.Jobs.{AsksGoals, HasMaps, HasWords, IsObjectOf, IsProgramOf, ListsStubs, IsOtherRun, Opens, OpensSession, arrival_of, asked_of, comparison_of, link_of, other_bytes, others_of, section_of, stubs_of}
 use Rattle.bpfdb_jobs.specs.Origins.{Arrival, Asks, RefusesNames, RefusesWhat}
 use Rattle.bpfdb_jobs.specs.declared.job.Job.{Job}
 use Rattle.bpfdb_faults.specs.declared.refusal.JobRefusal.{JobRefusal}
@@ -105,7 +107,7 @@ RefusesWhynot job (Object fault name) = (code : Checked) × (at : Arrival) × (g
     × (arrival_of job code ≡ Ok at) × AsksGoals job at.point.state.program (Ok goals) × RefusesNames job.object (section_of job) fault name.now
 RefusesWhynot job refusal = RefusesArrival job refusal
 
--- `diff` looks at FILE's machine, and then at that of the other run.
+-- `diff` looks at FILE's machine, and then at that of the other run; at the names in maps; and, where values differ, at the journal.
 abbrev pub RefusesOther : Job → Refusal → Type 0
 RefusesOther other (program.Maps fault) = RefusesMachine other (Maps fault)
 RefusesOther other (program.Listing fault) = RefusesMachine other (Listing fault)
@@ -113,8 +115,18 @@ RefusesOther other (program.Load fault) = RefusesMachine other (Load fault)
 RefusesOther other (program.Open fault) = RefusesMachine other (Open fault)
 RefusesOther other (program.NoCell map index) = ⊥
 
+abbrev pub differing : Job → Job → Checked → Checked → Option Pair
+differing job other code second = (comparison_of job other (initial code job.context.now) (initial second other.context.now)).values
+
+abbrev pub OpensBoth : Job → Job → Checked → Checked → Type 0
+OpensBoth job other code second = Opens job code × IsOtherRun job other × Opens other second
+
 abbrev pub RefusesRuns : Job → JobRefusal → Type 0
 RefusesRuns job (OtherRun refusal) = (code : Checked) × (other : Job) × Opens job code × IsOtherRun job other × RefusesOther other refusal
+RefusesRuns job (Object fault name) = (code : Checked) × (other : Job) × (second : Checked) × OpensBoth job other code second
+    × (job.options.alone ≡ false) × RefusesNames job.object (section_of job) fault name.now
+RefusesRuns job (Journal fault) = (code : Checked) × (other : Job) × (second : Checked) × OpensBoth job other code second
+    × (job.options.alone ≡ false) × (is_some (differing job other code second) ≡ true) × RefusesSize job.options.journal fault
 RefusesRuns job refusal = RefusesMachine job refusal
 
 -- Where the other side is a trace, it looks at that one's lines.

@@ -1,8 +1,9 @@
 //! What a job of `diff` does.
 ghost use Rattle.std.specs.Prelude.{◌≡◌, ◌≤◌, IfErr, IfOk, OnErr, OnOk, false};
 ghost use Rattle.bpfdb_jobs.specs.Endings.{EndsPrinted};
-ghost use Rattle.bpfdb_jobs.specs.Jobs.{IsOtherRun, diff_status, other_bytes};
-ghost use Rattle.bpfdb_jobs.specs.Openings.{AsksWrites, OpensAs};
+ghost use Rattle.bpfdb_jobs.specs.Jobs.{AreNamesFor, IsOtherRun, Prints, diff_status, other_bytes, runs_told, section_of};
+ghost use Rattle.bpfdb_jobs.specs.Openings.{OpensAs, WereCompared};
+ghost use Rattle.bpfdb_jobs.specs.Origins.{LacksNames};
 ghost use Rattle.bpfdb_jobs.specs.Refusals.{RefusesMachine, RefusesOther};
 ghost use Rattle.bpfdb_faults.specs.Faults.{output_line};
 ghost use Rattle.bpfdb_faults.specs.Streams.{Told, stream};
@@ -10,13 +11,19 @@ ghost use Rattle.bpfdb_options.specs.declared.subcommand.Subcommand.TheVariants.
 
 use crate::against::against_job;
 use crate::job::Job;
+use crate::object::refuse;
 use crate::opening::machine_of;
-use bpf_diff::{put_diff, put_writes};
+use crate::origin::{bytes_of as object_bytes, names_of};
+use crate::runs::{ComparedRuns, compare};
+use crate::source::{AskedRun, Sources, sources_of};
+use bpf_diff::put_marked;
+use bpf_lines::Names;
+use bpf_link::LinkFault;
 use bpf_machine::Cpu;
 use bpf_suite::Refusal;
 use bpfdb_faults::{JobFault, JobRefusal, flush_after, give_up};
-use counted_io::{Counted, WriteFault};
-use std::alloc::Global;
+use counted_io::{Counted, WriteFault, put};
+use std::alloc::{AllocError, Global};
 use std::io::Write;
 
 /// Runs two programs, or one on two contexts, step by step, and tells where they part and how they
@@ -39,8 +46,7 @@ pub fn diff_job<W: Write, E: Write>(
     }
 }
 
-/// Runs two programs, or one on two contexts, step by step, and tells where they part and how they
-/// end.
+/// Runs two programs, or one on two contexts, and tells where they part, or what they leave.
 fn runs_job<W: Write, E: Write>(
     alloc: Global,
     job: &Job<'_>,
@@ -52,64 +58,102 @@ fn runs_job<W: Write, E: Write>(
         (stream E.contents errors.old errors.new) result }
     ensures status { result ≤ 2 }
 {
-    let mut first = match machine_of(alloc, job) {
+    let first = match machine_of(alloc, job) {
         Ok(cpu) => cpu,
         Err(refusal) => return give_up(errors, &JobFault::Refused(refusal)),
     };
     let other = other_run(job);
-    let mut second = match other_machine(alloc, &other) {
+    let second = match other_machine(alloc, &other) {
         Ok(cpu) => cpu,
         Err(refusal) => {
             return give_up(errors, &JobFault::Refused(JobRefusal::OtherRun(refusal)));
         }
     };
-    if job.options.compares_writes {
-        return writes_job(alloc, job, &other, writer, errors, first, second);
+    let names = match names_for(alloc, job) {
+        Ok(names) => names,
+        Err(why) => return refuse(job, object_bytes(job), errors, why),
+    };
+    match compare(alloc, job, &other, first, second) {
+        Ok(runs) => tell_runs(alloc, job, &other, names.as_ref(), runs, writer, errors),
+        Err(AllocError) => give_up(errors, &JobFault::Memory),
     }
-    let limit = job.options.limit;
-    let compared = put_diff(writer, Ok(()), &mut first, &mut second, limit);
-    let written = flush_after(writer, compared.written);
-    end_of(written, compared.is_same, errors)
 }
 
-/// Runs two machines, and tells where they end otherwise for one who looks from outside.
-fn writes_job<W: Write, E: Write>(
+/// The names in the maps of the job's object, unless no values are asked about.
+fn names_for<'a>(alloc: Global, job: &Job<'a>) -> Result<Option<Names<'a>>, LinkFault>
+    ensures ok { IfOk result (AreNamesFor job.now.options.alone job.now) }
+    ensures err { IfErr result (λ fault. (job.now.options.alone ≡ false)
+        × LacksNames job.now.object (section_of job.now) fault) }
+{
+    if job.options.alone {
+        Ok(None)
+    } else {
+        names_of(alloc, job)
+    }
+}
+
+/// Tells what two runs that were compared came to, and where the values came from in which they
+/// differ.
+fn tell_runs<W: Write, E: Write>(
     alloc: Global,
     job: &Job<'_>,
     other: &Job<'_>,
+    names: Option<&Names<'_>>,
+    runs: ComparedRuns,
     writer: &mut Counted<W>,
     errors: &mut Counted<E>,
-    first: Cpu,
-    second: Cpu,
 ) -> u8
-    requires asked { AsksWrites job.now other.now }
-    requires first { OpensAs job.now first }
-    requires second { OpensAs other.now second }
+    requires { WereCompared job.now other.now names runs }
     ensures does { EndsPrinted Diff job.now (stream W.contents writer.old writer.new)
         (stream E.contents errors.old errors.new) result }
     ensures status { result ≤ 2 }
 {
-    let context = job.context;
-    let given = other.context;
-    let limit = job.options.limit;
-    let mut first = first;
-    let mut second = second;
-    match put_writes(
-        alloc,
-        writer,
-        Ok(()),
-        &mut first,
-        &mut second,
-        context,
-        given,
-        limit,
-    ) {
-        Ok(compared) => {
-            let written = flush_after(writer, compared.written);
-            end_of(written, compared.is_same, errors)
+    let ComparedRuns {
+        text,
+        is_same,
+        values,
+        first,
+        second,
+    } = runs;
+    let one = AskedRun {
+        cpu: first,
+        context: job.context,
+    };
+    let another = AskedRun {
+        cpu: second,
+        context: other.context,
+    };
+    match sources_of(alloc, job, names, values, one, another) {
+        Ok(sources) => {
+            let told = text.as_slice();
+            put_runs(job, told, is_same, &sources, writer, errors)
         }
-        Err(_) => give_up(errors, &JobFault::Memory),
+        Err(fault) => give_up(errors, &JobFault::Refused(JobRefusal::Journal(fault))),
     }
+}
+
+/// Writes what is told of two runs, and of the values in which they differ.
+fn put_runs<W: Write, E: Write>(
+    job: &Job<'_>,
+    text: &[u8],
+    is_same: bool,
+    sources: &Sources,
+    writer: &mut Counted<W>,
+    errors: &mut Counted<E>,
+) -> u8
+    requires { Prints Diff job.now
+        (runs_told text.now is_same (sources.now.first.items, sources.now.second.items)) }
+    ensures does { EndsPrinted Diff job.now (stream W.contents writer.old writer.new)
+        (stream E.contents errors.old errors.new) result }
+    ensures status { result ≤ 2 }
+{
+    let first = sources.first.as_slice();
+    let second = sources.second.as_slice();
+    let told = put(writer, Ok(()), text);
+    let half = put_marked(writer, told, b"< ", first);
+    let all = put_marked(writer, half, b"> ", second);
+    let written = flush_after(writer, all);
+    end_of(written, is_same, errors)
 }
 
 /// The exit status of two runs that were compared, and told or not.

@@ -154,7 +154,7 @@ fn ask_branches<W: Write, E: Write>(
 }
 
 /// How it is asked.
-fn question_of(job: &Job<'_>, arrived: &Arrived) -> Question
+pub(crate) fn question_of(job: &Job<'_>, arrived: &Arrived) -> Question
     ensures { (h : List Record) →
         StandsFor RingHolds arrived.now.timeline.keeper arrived.now.timeline.state h →
         result ≡ record {
@@ -352,7 +352,7 @@ fn put_found<K: Keeper, W: Write>(
 
 /// Writes the same with the names of places in maps, where these are known. Then the text is in
 /// memory before anything is written.
-fn put_told<W: Write>(
+pub(crate) fn put_told<W: Write>(
     alloc: Global,
     names: Option<&Names<'_>>,
     arrived: &mut Arrived,

@@ -1,5 +1,4 @@
-use Rattle.std.proofs.Common.{◌∙◌, Bool, ap, refl, sym}
-use Rattle.std.specs.Prelude.{◌||◌}
+use Rattle.std.proofs.Common.{◌∙◌, ap, refl, sym}
 use Rattle.std.proofs.lemmas.List.{append-nil}
 use Rattle.counted_io.proofs.Appending.{Writes-none, Writes-text}
 use Rattle.bpfdb_faults.specs.declared.refusal.JobRefusal.TheVariants.{TraceLine}
@@ -39,5 +38,4 @@ returns-clause-does g c =
     Exhausted (against_print c.in-Ok-form_of_trace.form c.args.job.now.options.limit c.in-Ok.cpu (told c.bytes_of-file.result.now))
     (against-prints c.args.job.now c.in-Ok.cpu c.in-Ok-form_of_trace.form c.bytes_of-file.result.now c.requires c.in-Ok.ensures.ok
     c.bytes_of-file.ensures c.in-Ok-form_of_trace.ensures.ok)
-    (ap (λ (b : Bool). b || c.args.job.now.options.compares_writes) c.requires) c.in-Err-put_against.ensures.err
-    c.give_up-in-Err-put_against.ensures.told c.give_up-in-Err-put_against.ensures.value
+    tt c.in-Err-put_against.ensures.err c.give_up-in-Err-put_against.ensures.told c.give_up-in-Err-put_against.ensures.value

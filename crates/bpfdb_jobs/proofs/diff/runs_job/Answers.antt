@@ -1,9 +1,8 @@
-use Rattle.std.proofs.Common.{refl}
-use Rattle.std.proofs.lemmas.List.{append-nil}
-use Rattle.counted_io.proofs.Appending.{Writes-none, Writes-text}
-use Rattle.bpfdb_faults.specs.declared.refusal.JobRefusal.TheVariants.{OtherRun}
-use Rattle.bpfdb_jobs.specs.Endings.{Refused}
-use Rattle.bpfdb_jobs.proofs.Diffing.{diff-prints, machine-diff, runs-refuse, told-ends}
+use Rattle.std.proofs.Common.{refl, sym}
+use Rattle.bpfdb_faults.specs.declared.refusal.JobRefusal.TheVariants.{Object, OtherRun}
+use Rattle.bpfdb_jobs.specs.Endings.{Exhausted, Refused}
+use Rattle.bpfdb_jobs.specs.Jobs.{compared_print}
+use Rattle.bpfdb_jobs.proofs.Diffing.{compared-prints, machine-diff, names-refused, runs-refuse}
 use Rattle.bpfdb_jobs.proofs.diff.runs_job.Goals as goal
 
 pub returns-in-Err-clause-does : goal.returns-in-Err-clause-does
@@ -19,11 +18,37 @@ returns-in-Err-other_machine-clause-does g c =
     (opened.0, c.other_run-other.result, opened.1, c.other_run-other.ensures, c.in-Err-other_machine.ensures.err)) refl
     c.give_up-in-Err-other_machine.ensures.told c.give_up-in-Err-other_machine.ensures.value
 
+pub returns-in-Err-names_for-clause-does : goal.returns-in-Err-names_for-clause-does
+returns-in-Err-names_for-clause-does g c =
+    let told = c.refuse.ensures.told in
+    let lacks = c.in-Err-names_for.ensures.err in
+    Refused (Object c.in-Err-names_for.why told.0)
+    (names-refused c.args.job.now c.other_run-other.result _ _ c.requires c.in-Ok.ensures.ok c.other_run-other.ensures c.in-Ok-other_machine.ensures.ok
+    c.in-Err-names_for.why told.0 lacks.0 (rw c.bytes_of.ensures at told.1, lacks.1))
+    refl told.2 c.refuse.ensures.value
+
+pub tell_runs-requires : goal.tell_runs-requires
+tell_runs-requires g c = record {
+  x = _;
+  y = _;
+  opens = record {
+    runs = c.requires;
+    first = c.in-Ok.ensures.ok;
+    is_other = c.other_run-other.ensures;
+    second = c.in-Ok-other_machine.ensures.ok;
+    named = rw (sym c.as_ref.ensures.value) at c.in-Ok-names_for.ensures.ok;
+  };
+  are = c.in-Ok-compare.ensures;
+}
+
 pub returns-clause-does : goal.returns-clause-does
 returns-clause-does g c =
-    let told = c.put_diff-compared.ensures.text _ _ (Writes-none g.W.Write.contents c.args.writer.now _) in
-    let written = Writes-text g.W.Write.contents _ _ _ _ _ (c.flush_after-written.ensures _ _ told) (append-nil _) in
-    told-ends c.args.job.now _ _ _ _ _
-    (diff-prints c.args.job.now c.other_run-other.result _ _ c.requires c.in-Ok.ensures.ok c.other_run-other.ensures c.in-Ok-other_machine.ensures.ok
-    c.if-job.false)
-    c.put_diff-compared.ensures.same written c.end_of.ensures.ok c.end_of.ensures.err
+    Exhausted (compared_print c.in-Ok-names_for.names c.args.job.now c.other_run-other.result c.in-Ok.cpu c.in-Ok-other_machine.cpu)
+    (compared-prints c.args.job.now c.other_run-other.result _ _ c.in-Ok-names_for.names (record {
+      runs = c.requires;
+      first = c.in-Ok.ensures.ok;
+      is_other = c.other_run-other.ensures;
+      second = c.in-Ok-other_machine.ensures.ok;
+      named = c.in-Ok-names_for.ensures.ok;
+    }))
+    tt refl c.give_up-in-Err-compare.ensures.told c.give_up-in-Err-compare.ensures.value

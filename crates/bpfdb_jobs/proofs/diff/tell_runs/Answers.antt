@@ -1,0 +1,29 @@
+use Rattle.std.proofs.Common.{◌≡◌, ◌∙◌, ap, refl, sym}
+use Rattle.std.specs.Prelude.{is_some}
+use Rattle.bpf_isa.specs.Programs.{Checked}
+use Rattle.bpf_steps.specs.State.{initial}
+use Rattle.bpfdb_faults.specs.declared.refusal.JobRefusal.TheVariants.{Journal}
+use Rattle.bpfdb_jobs.specs.Endings.{Refused}
+use Rattle.bpfdb_jobs.proofs.Diffing.{found-prints, journal-refused, opened-initial}
+use Rattle.bpfdb_jobs.proofs.diff.tell_runs.Goals as goal
+
+pub put_runs-requires : goal.put_runs-requires
+put_runs-requires g c =
+    let w = c.requires in
+    let job = c.args.job.now in
+    let other = c.args.other.now in
+    let one : initial c.args.runs.first.program job.context.now ≡ w.x =
+    ap (λ (p : Checked). initial p job.context.now) w.are.first ∙ sym (opened-initial job w.x w.opens.first) in
+    let another : initial c.args.runs.second.program other.context.now ≡ w.y =
+    ap (λ (p : Checked). initial p other.context.now) w.are.second ∙ sym (opened-initial other w.y w.opens.second) in
+    let found = rw (one, another, w.are.values) at c.in-Ok.ensures.ok in
+    found-prints job other w.x w.y _ w.opens _ _ _ _ (c.as_slice-told.ensures.value ∙ w.are.text) w.are.same found.first found.second
+
+pub returns-clause-does : goal.returns-clause-does
+returns-clause-does g c =
+    let w = c.requires in
+    let asked = c.in-Err.ensures.asked in
+    Refused (Journal c.in-Err.fault)
+    (journal-refused c.args.job.now c.args.other.now w.x w.y _ w.opens c.in-Err.fault asked.0
+    (ap (λ (values : _). is_some values) (sym w.are.values) ∙ asked.1) c.in-Err.ensures.err)
+    refl c.give_up.ensures.told c.give_up.ensures.value

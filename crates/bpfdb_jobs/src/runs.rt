@@ -1,0 +1,95 @@
+//! Two runs that are compared, in memory.
+ghost use Rattle.std.specs.Prelude.{◌≡◌, IfOk};
+ghost use Rattle.bpf_diff.specs.Values.{Finds};
+ghost use Rattle.bpfdb_jobs.specs.Jobs.{comparison_of};
+ghost use Rattle.bpfdb_jobs.specs.Openings.{AreCompared, OpensAs};
+ghost use Rattle.counted_io.specs.Writing.{WritesAfter};
+
+use crate::job::Job;
+use bpf_diff::{Compared, Values, put_diff, put_writes};
+use bpf_machine::Cpu;
+use counted_io::{Counted, WriteFault};
+use std::alloc::{AllocError, Global};
+use std::io::Write;
+
+/// Two runs that were compared.
+#[derive(Drop)]
+pub(crate) struct ComparedRuns {
+    /// What is told of them.
+    pub(crate) text: Vec<u8>,
+    /// They are the same, or leave the same.
+    pub(crate) is_same: bool,
+    /// The values in which they differ, if it is values.
+    pub(crate) values: Option<(Values, Values)>,
+    /// Their machines.
+    pub(crate) first: Cpu,
+    pub(crate) second: Cpu,
+}
+
+/// Runs two machines, and compares them as the job asks.
+pub(crate) fn compare(
+    alloc: Global,
+    job: &Job<'_>,
+    other: &Job<'_>,
+    first: Cpu,
+    second: Cpu,
+) -> Result<ComparedRuns, AllocError>
+    requires first { OpensAs job.now first }
+    requires second { OpensAs other.now second }
+    ensures { IfOk result (AreCompared job.now other.now first second) }
+{
+    let mut writer = Counted::new(Vec::new(alloc));
+    let mut one = first;
+    let mut another = second;
+    let compared = match put_compared(
+        alloc,
+        job,
+        other,
+        &mut writer,
+        Ok(()),
+        &mut one,
+        &mut another,
+    ) {
+        Ok(compared) => compared,
+        Err(error) => return Err(error),
+    };
+    match compared.written {
+        Ok(()) => Ok(ComparedRuns {
+            text: writer.into_inner(),
+            is_same: compared.is_same,
+            values: compared.values,
+            first: one,
+            second: another,
+        }),
+        Err(WriteFault) => Err(AllocError),
+    }
+}
+
+/// Writes what is told of two machines that are run: of their steps, or of what they leave.
+fn put_compared<W: Write>(
+    alloc: Global,
+    job: &Job<'_>,
+    other: &Job<'_>,
+    writer: &mut Counted<W>,
+    so_far: Result<(), WriteFault>,
+    first: &mut Cpu,
+    second: &mut Cpu,
+) -> Result<Compared, AllocError>
+    requires first { OpensAs job.now first.old }
+    requires second { OpensAs other.now second.old }
+    ensures text { IfOk result (λ compared. WritesAfter W.contents writer.old so_far writer.new
+        compared.written (comparison_of job.now other.now first.old second.old).text) }
+    ensures finds { IfOk result (λ compared.
+        Finds compared (comparison_of job.now other.now first.old second.old)) }
+    ensures programs { IfOk result (λ compared. (first.new.program ≡ first.old.program)
+        × (second.new.program ≡ second.old.program)) }
+{
+    let limit = job.options.limit;
+    if job.options.compares_writes {
+        let context = job.context;
+        let given = other.context;
+        put_writes(alloc, writer, so_far, first, second, context, given, limit)
+    } else {
+        Ok(put_diff(writer, so_far, first, second, limit))
+    }
+}
