@@ -1,22 +1,23 @@
-# Where two runs part: each kind of answer from both sides, what is written of it, ends and limits, and what is refused. What is wanted was worked out by
-# hand. Then pairs at random, held against a model over the traces of both, and changed traces (tests/trials/diff.py).
+# Where two runs part: each kind of answer from both sides, what is written of it, where the values came from, ends and limits, and what is refused. What is
+# wanted was worked out by hand. (With --alone where the values came from is left out.) Then pairs at random, held against a model over the traces of both and
+# against `origin`, and changed traces (tests/trials/diff.py).
 
 # One program on two contexts: a value that was read, and the branch that it decided; from the other side; on the same context.
 bytes four 04
 bytes five 05
 listing port.s 'ldxb r2, [r1+0];jne r2, 4, out;mov r0, 1;out: exit'
 tells 1 'step 1 wrote otherwise\n< 1 0: ldxb r2, [r1+0]; r2 = 0x4\n> 1 0: ldxb r2, [r1+0]; r2 = 0x5\nstep 3 went elsewhere\n< 3 2: mov r0, 1; r0 = 0x1\n> 3 3: exit\n< exited at 3: r0 0x1\n> exited at 3: r0 0x0\n' \
-    diff --listing -m four --other-mem five port.s
+    diff --alone --listing -m four --other-mem five port.s
 tells 1 'step 1 wrote otherwise\n< 1 0: ldxb r2, [r1+0]; r2 = 0x5\n> 1 0: ldxb r2, [r1+0]; r2 = 0x4\nstep 3 went elsewhere\n< 3 3: exit\n> 3 2: mov r0, 1; r0 = 0x1\n< exited at 3: r0 0x0\n> exited at 3: r0 0x1\n' \
-    diff --listing --mem=five --other-mem=four port.s
+    diff --alone --listing --mem=five --other-mem=four port.s
 tells 0 'same for 4 steps\nexited at 3: r0 0x1\n' diff --listing -m four --other-mem four port.s
 # A context that is longer is one only where its length is written; one that isn't there has no address either.
 bytes longer 04 00
 tells 0 'same for 4 steps\nexited at 3: r0 0x1\n' diff --listing -m four --other-mem longer port.s
 listing length.s 'mov r0, r2;exit'
-tells 1 'step 1 wrote otherwise\n< 1 0: mov r0, r2; r0 = 0x1\n> 1 0: mov r0, r2; r0 = 0x2\n< exited at 1: r0 0x1\n> exited at 1: r0 0x2\n' diff --listing -m four --other-mem longer length.s
+tells 1 'step 1 wrote otherwise\n< 1 0: mov r0, r2; r0 = 0x1\n> 1 0: mov r0, r2; r0 = 0x2\n< exited at 1: r0 0x1\n> exited at 1: r0 0x2\n' diff --alone --listing -m four --other-mem longer length.s
 tells 1 'step 1 wrote otherwise\n< 1 0: ldxb r2, [r1+0]; r2 = 0x4\n> 1 0: ldxb r2, [r1+0]\nstep 2 is in one run alone\n< 2 1: jne r2, 4, L3\n< exited at 3: r0 0x1\n> fault access 0x0 at 0\n' \
-    diff --listing -m four --other-mem /dev/null port.s
+    diff --alone --listing -m four --other-mem /dev/null port.s
 
 # Two programs: one instruction for another that writes the same; another value; another register; another place; one step more.
 listing one.s 'mov r0, 1;exit'
@@ -24,13 +25,13 @@ listing add.s 'add r0, 1;exit'
 listing two.s 'mov r0, 2;exit'
 listing r3.s 'mov r3, 1;exit'
 tells 0 'same for 2 steps\nexited at 1: r0 0x1\n' diff --listing one.s add.s
-tells 1 'step 1 wrote otherwise\n< 1 0: mov r0, 1; r0 = 0x1\n> 1 0: mov r0, 2; r0 = 0x2\n< exited at 1: r0 0x1\n> exited at 1: r0 0x2\n' diff --listing one.s two.s
-tells 1 'step 1 wrote otherwise\n< 1 0: mov r3, 1; r3 = 0x1\n> 1 0: mov r0, 1; r0 = 0x1\n< exited at 1: r0 0x0\n> exited at 1: r0 0x1\n' diff --listing r3.s one.s
+tells 1 'step 1 wrote otherwise\n< 1 0: mov r0, 1; r0 = 0x1\n> 1 0: mov r0, 2; r0 = 0x2\n< exited at 1: r0 0x1\n> exited at 1: r0 0x2\n' diff --alone --listing one.s two.s
+tells 1 'step 1 wrote otherwise\n< 1 0: mov r3, 1; r3 = 0x1\n> 1 0: mov r0, 1; r0 = 0x1\n< exited at 1: r0 0x0\n> exited at 1: r0 0x1\n' diff --alone --listing r3.s one.s
 listing near.s 'stxb [r10-1], r0;exit'
 listing far.s 'stxb [r10-2], r0;exit'
 listing half.s 'stxh [r10-2], r0;exit'
-tells 1 'step 1 wrote otherwise\n< 1 0: stxb [r10-1], r0; 0x2000001ff:1 = 0x0\n> 1 0: stxb [r10-2], r0; 0x2000001fe:1 = 0x0\n< exited at 1: r0 0x0\n> exited at 1: r0 0x0\n' diff --listing near.s far.s
-tells 1 'step 1 wrote otherwise\n< 1 0: stxb [r10-2], r0; 0x2000001fe:1 = 0x0\n> 1 0: stxh [r10-2], r0; 0x2000001fe:2 = 0x0\n< exited at 1: r0 0x0\n> exited at 1: r0 0x0\n' diff --listing far.s half.s
+tells 1 'step 1 wrote otherwise\n< 1 0: stxb [r10-1], r0; 0x2000001ff:1 = 0x0\n> 1 0: stxb [r10-2], r0; 0x2000001fe:1 = 0x0\n< exited at 1: r0 0x0\n> exited at 1: r0 0x0\n' diff --alone --listing near.s far.s
+tells 1 'step 1 wrote otherwise\n< 1 0: stxb [r10-2], r0; 0x2000001fe:1 = 0x0\n> 1 0: stxh [r10-2], r0; 0x2000001fe:2 = 0x0\n< exited at 1: r0 0x0\n> exited at 1: r0 0x0\n' diff --alone --listing far.s half.s
 listing more.s 'mov r0, 1;ja on;on: exit'
 tells 1 'step 3 is in one run alone\n> 3 2: exit\n< exited at 1: r0 0x1\n> exited at 2: r0 0x1\n' diff --listing one.s more.s
 tells 1 'step 3 is in one run alone\n< 3 2: exit\n< exited at 2: r0 0x1\n> exited at 1: r0 0x1\n' diff --listing more.s one.s
@@ -38,7 +39,7 @@ tells 1 'step 3 is in one run alone\n< 3 2: exit\n< exited at 2: r0 0x1\n> exite
 # The first of several differences counts, of each kind; values are compared as long as both stand at one slot.
 listing many.s 'mov r3, 1;mov r4, 1;mov r0, 1;exit'
 listing others.s 'mov r3, 1;mov r4, 2;mov r0, 2;exit'
-tells 1 'step 2 wrote otherwise\n< 2 1: mov r4, 1; r4 = 0x1\n> 2 1: mov r4, 2; r4 = 0x2\n< exited at 3: r0 0x1\n> exited at 3: r0 0x2\n' diff --listing many.s others.s
+tells 1 'step 2 wrote otherwise\n< 2 1: mov r4, 1; r4 = 0x1\n> 2 1: mov r4, 2; r4 = 0x2\n< exited at 3: r0 0x1\n> exited at 3: r0 0x2\n' diff --alone --listing many.s others.s
 listing left.s 'ja l;r: mov r0, 1;l: mov r0, 2;exit'
 listing right.s 'ja r;r: mov r0, 3;l: mov r0, 2;exit'
 tells 1 'step 2 went elsewhere\n< 2 2: mov r0, 2; r0 = 0x2\n> 2 1: mov r0, 3; r0 = 0x3\n< exited at 3: r0 0x2\n> exited at 3: r0 0x2\n' diff --listing left.s right.s
@@ -46,29 +47,29 @@ tells 1 'step 2 went elsewhere\n< 2 2: mov r0, 2; r0 = 0x2\n> 2 1: mov r0, 3; r0
 # What a call clears, registers of functions at other depths, what a fetch, an update and a trace write.
 listing called.s 'callf f;exit;f: mov r6, 1;exit'
 listing jumped.s 'ja f;exit;f: mov r6, 1;exit'
-tells 1 'step 1 wrote otherwise\n< 1 0: callf L2; 0x200000400:512\n> 1 0: ja L2\nstep 4 is in one run alone\n< 4 1: exit\n< exited at 1: r0 0x0\n> exited at 3: r0 0x0\n' diff --listing called.s jumped.s
+tells 1 'step 1 wrote otherwise\n< 1 0: callf L2; 0x200000400:512\n> 1 0: ja L2\nstep 4 is in one run alone\n< 4 1: exit\n< exited at 1: r0 0x0\n> exited at 3: r0 0x0\n' diff --alone --listing called.s jumped.s
 listing back.s 'callf f;mov r6, 1;exit;f: exit'
 listing on.s 'callf f;b: mov r6, 1;exit;f: ja b'
 tells 1 'step 3 wrote otherwise\n< 3 1: mov r6, 1; r6 = 0x1\n> 3 1: mov r6, 1; r6 at depth 1 = 0x1\nstep 5 is in one run alone\n> 5 1: mov r6, 1; r6 = 0x1\n< exited at 2: r0 0x0\n> exited at 2: r0 0x0\n' \
-    diff --listing back.s on.s
+    diff --alone --listing back.s on.s
 listing xchg.s 'mov r3, 7;atomic_xchg64 [r10-8], r3;exit'
 listing fetch.s 'mov r3, 7;atomic_fetch_add64 [r10-8], r3;exit'
 listing plus.s 'mov r3, 7;atomic_add64 [r10-8], r3;exit'
 tells 0 'same for 3 steps\nexited at 2: r0 0x0\n' diff --listing xchg.s fetch.s
 tells 1 'step 2 wrote otherwise\n< 2 1: atomic_fetch_add64 [r10-8], r3; r3 = 0x0; 0x2000001f8:8 = 0x7\n> 2 1: atomic_add64 [r10-8], r3; 0x2000001f8:8 = 0x7\n< exited at 2: r0 0x0\n> exited at 2: r0 0x0\n' \
-    diff --listing fetch.s plus.s
+    diff --alone --listing fetch.s plus.s
 bytes low 00 00 00 00 00 00 00 00 00 00 00 00 00 00 00 00 01
 bytes high 00 00 00 00 00 00 00 00 00 00 00 00 00 00 00 00 02
 listing put.s 'stw [r10-4], 0;mov r3, r1;add r3, 1;ldmap r1, 0;mov r2, r10;add r2, -4;mov r4, 0;call 2;exit'
 tells 1 'step 8 wrote otherwise\n< 8 8: call 2; r0 = 0x0; 0x300000000:16\n> 8 8: call 2; r0 = 0x0; 0x300000000:16\n< exited at 9: r0 0x0\n> exited at 9: r0 0x0\n' \
-    diff --maps 16x1 --listing -m low --other-mem high put.s
+    diff --alone --maps 16x1 --listing -m low --other-mem high put.s
 tells 0 'same for 9 steps\nexited at 9: r0 0x0\n' diff --maps 16x1 --listing -m low --other-mem low put.s
 listing word.s 'mov r1, 5;call 64;exit'
 listing other.s 'mov r1, 6;call 64;exit'
-tells 1 'step 1 wrote otherwise\n< 1 0: mov r1, 5; r1 = 0x5\n> 1 0: mov r1, 6; r1 = 0x6\n< exited at 2: r0 0x0\n> exited at 2: r0 0x0\n' diff --listing word.s other.s
+tells 1 'step 1 wrote otherwise\n< 1 0: mov r1, 5; r1 = 0x5\n> 1 0: mov r1, 6; r1 = 0x6\n< exited at 2: r0 0x0\n> exited at 2: r0 0x0\n' diff --alone --listing word.s other.s
 listing given.s 'call 64;exit'
 tells 1 'step 1 wrote otherwise\n< 1 0: call 64; r0 = 0x0; word 0 = 0x100000000\n> 1 0: call 64; r0 = 0x0; word 0 = 0x0\n< exited at 1: r0 0x0\n> exited at 1: r0 0x0\n' \
-    diff --listing -m four --other-mem /dev/null given.s
+    diff --alone --listing -m four --other-mem /dev/null given.s
 
 # Ends: at one step and slot, but for another reason; the same fault, and others; the limit, which is no end.
 listing end.s exit
@@ -96,58 +97,58 @@ listing wrong.s 'stdw [r1+0], 1;stb [r1+4], 3;mov r0, 7;exit'
 tells 0 'same writes\n< exited at 3: r0 0x7\n> exited at 5: r0 0x7\n' diff --writes --listing -m eight stores.s wide.s
 tells 0 'same writes\n< exited at 5: r0 0x7\n> exited at 3: r0 0x7\n' diff --listing -m eight wide.s stores.s --writes
 tells 1 '0x100000004:1 ends otherwise: 0x2, 0x3\n< 2 1: stw [r1+4], 2; 0x100000004:4 = 0x2\n> 2 1: stb [r1+4], 3; 0x100000004:1 = 0x3\n< exited at 3: r0 0x7\n> exited at 3: r0 0x7\n' \
-    diff --writes --listing -m eight stores.s wrong.s
+    diff --alone --writes --listing -m eight stores.s wrong.s
 tells 1 '0x100000004:1 ends otherwise: 0x3, 0x2\n< 2 1: stb [r1+4], 3; 0x100000004:1 = 0x3\n> 4 4: stxdw [r1+0], r2; 0x100000000:8 = 0x200000001\n< exited at 3: r0 0x7\n> exited at 5: r0 0x7\n' \
-    diff --writes --listing -m eight wrong.s wide.s
+    diff --alone --writes --listing -m eight wrong.s wide.s
 # A byte that one of them doesn't write is what it was: otherwise, or the same.
 listing seven.s 'mov r0, 7;exit'
 listing nine.s 'stb [r1+0], 9;mov r0, 7;exit'
 tells 1 '0x100000000:1 ends otherwise: 0x1, 0x9\n< 1 0: stw [r1+0], 1; 0x100000000:4 = 0x1\n> not written\n< exited at 3: r0 0x7\n> exited at 1: r0 0x7\n' \
-    diff --writes --listing -m eight stores.s seven.s
+    diff --alone --writes --listing -m eight stores.s seven.s
 tells 1 '0x100000000:1 ends otherwise: 0x9, 0x1\n< not written\n> 1 0: stw [r1+0], 1; 0x100000000:4 = 0x1\n< exited at 1: r0 0x7\n> exited at 3: r0 0x7\n' \
-    diff --writes --listing -m eight seven.s stores.s
+    diff --alone --writes --listing -m eight seven.s stores.s
 tells 0 'same writes\n< exited at 1: r0 0x7\n> exited at 2: r0 0x7\n' diff --writes --listing -m eight seven.s nine.s
 # The last write is told, not the first one; and where a loop writes, the last time.
 listing twice.s 'stb [r1+0], 5;stb [r1+0], 6;stb [r1+1], 6;exit'
 listing round.s 'mov r3, 3;again: stxb [r1+0], r3;add r3, 1;jne r3, 6, again;exit'
 tells 1 '0x100000000:1 ends otherwise: 0x6, 0x5\n< 2 1: stb [r1+0], 6; 0x100000000:1 = 0x6\n> 8 1: stxb [r1+0], r3; 0x100000000:1 = 0x5\n< exited at 3: r0 0x0\n> exited at 4: r0 0x0\n' \
-    diff --writes --listing -m eight twice.s round.s
+    diff --alone --writes --listing -m eight twice.s round.s
 # Behind the context maps, one after another, traced words, r0.
 listing map.s 'ldmapval r2, 0, 4;stw [r2+0], 9;exit'
 listing other-map.s 'ldmapval r2, 0, 4;stw [r2+0], 265;exit'
 listing second-map.s 'ldmapval r2, 0, 4;stw [r2+0], 9;ldmapval r2, 1, 1;stb [r2+0], 255;mov r0, 1;exit'
 listing last-byte.s 'ldmapval r2, 0, 4;stdw [r2-4], 0;stw [r2+0], 9;ldmapval r2, 1, 1;stb [r2+0], 254;mov r0, 1;exit'
 tells 1 '0x300000005:1 ends otherwise: 0x0, 0x1\n< 2 2: stw [r2+0], 9; 0x300000004:4 = 0x9\n> 2 2: stw [r2+0], 265; 0x300000004:4 = 0x109\n< exited at 3: r0 0x0\n> exited at 3: r0 0x0\n' \
-    diff --writes --maps 4x2 --listing map.s other-map.s
+    diff --alone --writes --maps 4x2 --listing map.s other-map.s
 tells 1 '0x300100001:1 ends otherwise: 0x0, 0xff\n< not written\n> 4 5: stb [r2+0], 255; 0x300100001:1 = 0xff\n< exited at 3: r0 0x0\n> exited at 7: r0 0x1\n' \
-    diff --writes --maps 4x2,2x1 --listing map.s second-map.s
+    diff --alone --writes --maps 4x2,2x1 --listing map.s second-map.s
 tells 1 '0x300100001:1 ends otherwise: 0xff, 0xfe\n< 4 5: stb [r2+0], 255; 0x300100001:1 = 0xff\n> 5 6: stb [r2+0], 254; 0x300100001:1 = 0xfe\n< exited at 7: r0 0x1\n> exited at 8: r0 0x1\n' \
-    diff --writes --maps 4x2,2x1 --listing second-map.s last-byte.s
+    diff --alone --writes --maps 4x2,2x1 --listing second-map.s last-byte.s
 tells 0 'same writes\n< exited at 3: r0 0x0\n> exited at 3: r0 0x0\n' diff --writes --maps 4x2 --listing map.s map.s
 listing words.s 'mov r1, 5;call 64;mov r1, 6;call 64;exit'
-tells 1 'word 1 ends otherwise: 0x6, none\n< 4 3: call 64; r0 = 0x0; word 1 = 0x6\n> not written\n< exited at 4: r0 0x0\n> exited at 2: r0 0x0\n' diff --writes --listing words.s word.s
-tells 1 'word 1 ends otherwise: none, 0x6\n< not written\n> 4 3: call 64; r0 = 0x0; word 1 = 0x6\n< exited at 2: r0 0x0\n> exited at 4: r0 0x0\n' diff --writes --listing word.s words.s
+tells 1 'word 1 ends otherwise: 0x6, none\n< 4 3: call 64; r0 = 0x0; word 1 = 0x6\n> not written\n< exited at 4: r0 0x0\n> exited at 2: r0 0x0\n' diff --alone --writes --listing words.s word.s
+tells 1 'word 1 ends otherwise: none, 0x6\n< not written\n> 4 3: call 64; r0 = 0x0; word 1 = 0x6\n< exited at 2: r0 0x0\n> exited at 4: r0 0x0\n' diff --alone --writes --listing word.s words.s
 tells 1 'word 0 ends otherwise: 0x5, 0x6\n< 2 1: call 64; r0 = 0x0; word 0 = 0x5\n> 2 1: call 64; r0 = 0x0; word 0 = 0x6\n< exited at 2: r0 0x0\n> exited at 2: r0 0x0\n' \
-    diff --writes --listing word.s other.s
-tells 1 'r0 ends otherwise: 0x1, 0x2\n< 1 0: mov r0, 1; r0 = 0x1\n> 1 0: mov r0, 2; r0 = 0x2\n< exited at 1: r0 0x1\n> exited at 1: r0 0x2\n' diff --writes --listing one.s two.s
+    diff --alone --writes --listing word.s other.s
+tells 1 'r0 ends otherwise: 0x1, 0x2\n< 1 0: mov r0, 1; r0 = 0x1\n> 1 0: mov r0, 2; r0 = 0x2\n< exited at 1: r0 0x1\n> exited at 1: r0 0x2\n' diff --alone --writes --listing one.s two.s
 listing end.s exit
-tells 1 'r0 ends otherwise: 0x0, 0x1\n< not written\n> 1 0: mov r0, 1; r0 = 0x1\n< exited at 0: r0 0x0\n> exited at 1: r0 0x1\n' diff --writes --listing end.s one.s
+tells 1 'r0 ends otherwise: 0x0, 0x1\n< not written\n> 1 0: mov r0, 1; r0 = 0x1\n< exited at 0: r0 0x0\n> exited at 1: r0 0x1\n' diff --alone --writes --listing end.s one.s
 # Registers, the stack, calls and slots don't count; an update does, whose line has no value.
 tells 0 'same writes\n< exited at 1: r0 0x0\n> exited at 0: r0 0x0\n' diff --writes --listing r3.s end.s
 tells 0 'same writes\n< exited at 1: r0 0x0\n> exited at 1: r0 0x0\n' diff --writes --listing near.s half.s
 tells 0 'same writes\n< exited at 1: r0 0x0\n> exited at 3: r0 0x0\n' diff --writes --listing called.s jumped.s
 tells 1 '0x30000000f:1 ends otherwise: 0x1, 0x2\n< 8 8: call 2; r0 = 0x0; 0x300000000:16\n> 8 8: call 2; r0 = 0x0; 0x300000000:16\n< exited at 9: r0 0x0\n> exited at 9: r0 0x0\n' \
-    diff --writes --maps 16x1 --listing -m low --other-mem high put.s
+    diff --alone --writes --maps 16x1 --listing -m low --other-mem high put.s
 # On two contexts: what no step wrote doesn't count, but what ends as the other one was given does not differ; a byte that one context lacks.
 listing more-by-one.s 'ldxb r2, [r1+0];add r2, 1;stxb [r1+0], r2;exit'
 listing to-five.s 'ldxb r2, [r1+0];jne r2, 4, out;stb [r1+0], 5;out: exit'
 listing behind.s 'stb [r1+1], 1;exit'
-tells 1 'r0 ends otherwise: 0x1, 0x0\n< 3 2: mov r0, 1; r0 = 0x1\n> not written\n< exited at 3: r0 0x1\n> exited at 3: r0 0x0\n' diff --writes --listing -m four --other-mem five port.s
+tells 1 'r0 ends otherwise: 0x1, 0x0\n< 3 2: mov r0, 1; r0 = 0x1\n> not written\n< exited at 3: r0 0x1\n> exited at 3: r0 0x0\n' diff --alone --writes --listing -m four --other-mem five port.s
 tells 1 '0x100000000:1 ends otherwise: 0x5, 0x6\n< 3 2: stxb [r1+0], r2; 0x100000000:1 = 0x5\n> 3 2: stxb [r1+0], r2; 0x100000000:1 = 0x6\n< exited at 3: r0 0x0\n> exited at 3: r0 0x0\n' \
-    diff --writes --listing -m four --other-mem five more-by-one.s
+    diff --alone --writes --listing -m four --other-mem five more-by-one.s
 tells 0 'same writes\n< exited at 3: r0 0x0\n> exited at 3: r0 0x0\n' diff --writes --listing -m four --other-mem five to-five.s
 tells 1 '0x100000001:1 ends otherwise: none, 0x1\n< not written\n> 1 0: stb [r1+1], 1; 0x100000001:1 = 0x1\n< fault access 0x100000001 at 0\n> exited at 1: r0 0x0\n' \
-    diff --writes --listing -m four --other-mem longer behind.s
+    diff --alone --writes --listing -m four --other-mem longer behind.s
 # Ends: the reason, and not the slot; r0 only where both exited; the limit, which is no end, and what was left up to there.
 listing null.s 'ldxb r0, [r0+0];exit'
 listing next.s 'ldxb r0, [r0+1];exit'
@@ -159,17 +160,147 @@ tells 1 'same writes\n< fault access 0x0 at 0\n> fault access 0x1 at 0\n' diff -
 tells 0 'same writes\n< fault access 0x0 at 0\n> fault access 0x0 at 1\n' diff --writes --listing null.s null-later.s
 tells 0 'same writes\n< fault access 0x0 at 0\n> fault access 0x0 at 1\n' diff --writes --listing -m four null.s null-too.s
 tells 1 '0x100000000:1 ends otherwise: 0x5, 0x4\n< 3 2: stxb [r1+0], r2; 0x100000000:1 = 0x5\n> not written\n< exited at 3: r0 0x0\n> fault access 0x0 at 1\n' \
-    diff --writes --listing -m four more-by-one.s null-too.s
+    diff --alone --writes --listing -m four more-by-one.s null-too.s
 tells 1 'same writes\n< step limit 5 reached at 0\n> step limit 5 reached at 0\n' diff --writes --steps 5 --listing loop.s loop.s
 tells 1 '0x100000000:1 ends otherwise: 0x1, 0x9\n< 1 0: stw [r1+0], 1; 0x100000000:4 = 0x1\n> not written\n< step limit 1 reached at 1\n> step limit 1 reached at 1\n' \
-    diff --writes --steps 1 --listing -m eight stores.s wide.s
+    diff --alone --writes --steps 1 --listing -m eight stores.s wide.s
 tells 0 'same writes\n< exited at 1: r0 0x1\n> exited at 1: r0 0x1\n' diff --writes --steps 2 --listing one.s add.s
+
+# Where the values came from that were written otherwise: of each run what `origin` tells behind that step. What a context gave, from both sides; up to a
+# limit; of a run that differs in nothing else.
+four_came='at 1: jne r2, 4, L3\n%s -1 r2 = 0x4; 0: ldxb r2, [r1+0]; from 0x100000000:1\n%s left 0x100000000:1 = 0x4; byte 0 of the context; at the opening\n'
+five_came='at 1: jne r2, 4, L3\n%s -1 r2 = 0x5; 0: ldxb r2, [r1+0]; from 0x100000000:1\n%s left 0x100000000:1 = 0x5; byte 0 of the context; at the opening\n'
+# came MARK TEXT: the text behind the mark of its run, which is %s in its lines but the first.
+came() { printf '%s' "%s $2" | sed "s/%s/$1/g"; }
+tells 1 "step 1 wrote otherwise\n< 1 0: ldxb r2, [r1+0]; r2 = 0x4\n> 1 0: ldxb r2, [r1+0]; r2 = 0x5\nstep 3 went elsewhere\n< 3 2: mov r0, 1; r0 = 0x1\n> 3 3: exit\n< exited at 3: r0 0x1\n> exited at 3: r0 0x0\n$(came '<' "$four_came")$(came '>' "$five_came")" \
+    diff --listing -m four --other-mem five port.s
+tells 1 "step 1 wrote otherwise\n< 1 0: ldxb r2, [r1+0]; r2 = 0x5\n> 1 0: ldxb r2, [r1+0]; r2 = 0x4\nstep 3 went elsewhere\n< 3 3: exit\n> 3 2: mov r0, 1; r0 = 0x1\n< exited at 3: r0 0x0\n> exited at 3: r0 0x1\n$(came '<' "$five_came")$(came '>' "$four_came")" \
+    diff --listing -m five --other-mem four port.s
+tells 1 "step 1 wrote otherwise\n< 1 0: ldxb r2, [r1+0]; r2 = 0x4\n> 1 0: ldxb r2, [r1+0]; r2 = 0x5\n< step limit 1 reached at 1\n> step limit 1 reached at 1\n$(came '<' "$four_came")$(came '>' "$five_came")" \
+    diff --steps 1 --listing -m four --other-mem five port.s
+tells 1 'step 1 wrote otherwise\n< 1 0: mov r0, r2; r0 = 0x1\n> 1 0: mov r0, r2; r0 = 0x2\n< exited at 1: r0 0x1\n> exited at 1: r0 0x2\n< at 1: exit\n< -1 r0 = 0x1; 0: mov r0, r2; from r2\n< left r2 = 0x1; at the opening\n> at 1: exit\n> -1 r0 = 0x2; 0: mov r0, r2; from r2\n> left r2 = 0x2; at the opening\n' \
+    diff --listing -m four --other-mem longer length.s
+# Another instruction; another register; steps before it, which both made alike; a register of a function that was called, and of none.
+sum='step 3 wrote otherwise\n< 3 2: add r0, 3; r0 = 0x6\n> 3 2: add r0, 4; r0 = 0x7\n< exited at 3: r0 0x6\n> exited at 3: r0 0x7\n'
+listing bad.s 'mov r0, 1;frob;exit'
+listing sum.s 'mov r0, 1;add r0, 2;add r0, 3;exit'
+listing other-sum.s 'mov r0, 1;add r0, 2;add r0, 4;exit'
+tells 1 'step 1 wrote otherwise\n< 1 0: mov r3, 1; r3 = 0x1\n> 1 0: mov r0, 1; r0 = 0x1\n< exited at 1: r0 0x0\n> exited at 1: r0 0x1\n< at 1: exit\n< -1 r3 = 0x1; 0: mov r3, 1\n> at 1: exit\n> -1 r0 = 0x1; 0: mov r0, 1\n' \
+    diff --listing r3.s one.s
+tells 1 "$sum< at 3: exit\n< -1 r0 = 0x6; 2: add r0, 3; from r0\n< -2 r0 = 0x3; 1: add r0, 2; from r0\n< -3 r0 = 0x1; 0: mov r0, 1\n> at 3: exit\n> -1 r0 = 0x7; 2: add r0, 4; from r0\n> -2 r0 = 0x3; 1: add r0, 2; from r0\n> -3 r0 = 0x1; 0: mov r0, 1\n" \
+    diff --listing sum.s other-sum.s
+tells 1 'step 3 wrote otherwise\n< 3 1: mov r6, 1; r6 = 0x1\n> 3 1: mov r6, 1; r6 at depth 1 = 0x1\nstep 5 is in one run alone\n> 5 1: mov r6, 1; r6 = 0x1\n< exited at 2: r0 0x0\n> exited at 2: r0 0x0\n< at 2: exit\n< -1 r6 = 0x1; 1: mov r6, 1\n> at 2: exit\n> -1 r6 at depth 1 = 0x1; 1: mov r6, 1\n' \
+    diff --listing back.s on.s
+# Several parts of one step: of a fetch, of a call that traces and of one that updates a map, whose bytes of the context are two lines.
+tells 1 'step 2 wrote otherwise\n< 2 1: atomic_fetch_add64 [r10-8], r3; r3 = 0x0; 0x2000001f8:8 = 0x7\n> 2 1: atomic_add64 [r10-8], r3; 0x2000001f8:8 = 0x7\n< exited at 2: r0 0x0\n> exited at 2: r0 0x0\n< at 2: exit\n< -1 r3 = 0x0; 0x2000001f8:8 = 0x7; 1: atomic_fetch_add64 [r10-8], r3; from r3 0x2000001f8:8\n< -2 r3 = 0x7; 0: mov r3, 7\n< left 0x2000001f8:8 = 0x0; not written since the call\n> at 2: exit\n> -1 0x2000001f8:8 = 0x7; 1: atomic_add64 [r10-8], r3; from r3 0x2000001f8:8\n> -2 r3 = 0x7; 0: mov r3, 7\n> left 0x2000001f8:8 = 0x0; not written since the call\n' \
+    diff --listing fetch.s plus.s
+tells 1 'step 1 wrote otherwise\n< 1 0: call 64; r0 = 0x0; word 0 = 0x100000000\n> 1 0: call 64; r0 = 0x0; word 0 = 0x0\n< exited at 1: r0 0x0\n> exited at 1: r0 0x0\n< at 1: exit\n< -1 r0 = 0x0; word 0 = 0x100000000; 0: call 64; from r1\n< left r1 = 0x100000000; at the opening\n> at 1: exit\n> -1 r0 = 0x0; word 0 = 0x0; 0: call 64; from r1\n> left r1 = 0x0; at the opening\n' \
+    diff --listing -m four --other-mem /dev/null given.s
+# put_came MARK VALUE: where the value came from that it put into the map.
+put_came() {
+    for line in 'at 9: exit' '-1 r0 = 0x0; 0x300000000:16; 8: call 2; from r1 0x2000001fc:4 r4 0x100000001:16' '-2 r4 = 0x0; 7: mov r4, 0' '-5 r1 = 0x400000000; 3: ldmap r1, 0' \
+        '-8 0x2000001fc:4 = 0x0; 0: stw [r10-4], 0' 'left 0x100000001:8 = 0x0; byte 1 of the context; at the opening' "left 0x100000009:8 = $2; byte 9 of the context; at the opening"
+    do
+        printf '%s %s\\n' "$1" "$line"
+    done
+}
+put_both="$(put_came '<' 0x100000000000000)$(put_came '>' 0x200000000000000)"
+tells 1 "step 8 wrote otherwise\n< 8 8: call 2; r0 = 0x0; 0x300000000:16\n> 8 8: call 2; r0 = 0x0; 0x300000000:16\n< exited at 9: r0 0x0\n> exited at 9: r0 0x0\n$put_both" \
+    diff --maps 16x1 --listing -m low --other-mem high put.s
+# A frame that a call cleared, where the other step wrote nothing; so it is told of one run alone.
+tells 1 'step 1 wrote otherwise\n< 1 0: callf L2; 0x200000400:512\n> 1 0: ja L2\nstep 4 is in one run alone\n< 4 1: exit\n< exited at 1: r0 0x0\n> exited at 3: r0 0x0\n< at 2: mov r6, 1\n< -1 0x200000400:512; 0: callf L2; not written since the call\n' \
+    diff --listing called.s jumped.s
+tells 1 'step 1 wrote otherwise\n< 1 0: ja L2\n> 1 0: callf L2; 0x200000400:512\nstep 4 is in one run alone\n> 4 1: exit\n< exited at 3: r0 0x0\n> exited at 1: r0 0x0\n> at 2: mov r6, 1\n> -1 0x200000400:512; 0: callf L2; not written since the call\n' \
+    diff --listing jumped.s called.s
+# A bad access on one side: the registers of its address; r10 is none of these, and a bad token has none: nothing is told then.
+listing bad-store.s 'mov r3, 5;stb [r3+0], 1;exit'
+listing good.s 'mov r3, 5;mov r0, 1;exit'
+listing bad-frame.s 'ldxb r0, [r10+0];exit'
+listing good-frame.s 'ldxb r0, [r10-1];exit'
+listing token.s 'call 1;exit'
+tells 1 "step 1 wrote otherwise\n< 1 0: ldxb r2, [r1+0]; r2 = 0x4\n> 1 0: ldxb r2, [r1+0]\nstep 2 is in one run alone\n< 2 1: jne r2, 4, L3\n< exited at 3: r0 0x1\n> fault access 0x0 at 0\n$(came '<' "$four_came")> fault access 0x0 at 0\n> left r1 = 0x0; at the opening\n" \
+    diff --listing -m four --other-mem /dev/null port.s
+tells 1 'step 2 wrote otherwise\n< 2 1: stb [r3+0], 1\n> 2 1: mov r0, 1; r0 = 0x1\nstep 3 is in one run alone\n> 3 2: exit\n< fault access 0x5 at 1\n> exited at 2: r0 0x1\n< fault access 0x5 at 1\n< -2 r3 = 0x5; 0: mov r3, 5\n> at 2: exit\n> -1 r0 = 0x1; 1: mov r0, 1\n' \
+    diff --listing bad-store.s good.s
+tells 1 'step 1 wrote otherwise\n< 1 0: ldxb r0, [r10+0]\n> 1 0: ldxb r0, [r10-1]; r0 = 0x0\nstep 2 is in one run alone\n> 2 1: exit\n< fault access 0x200000200 at 0\n> exited at 1: r0 0x0\n> at 1: exit\n> -1 r0 = 0x0; 0: ldxb r0, [r10-1]; from 0x2000001ff:1\n> left 0x2000001ff:1 = 0x0; not written since the call\n' \
+    diff --listing bad-frame.s good-frame.s
+tells 1 'step 1 wrote otherwise\n< 1 0: call 1\n> 1 0: mov r0, 1; r0 = 0x1\nstep 2 is in one run alone\n> 2 1: exit\n< fault token 0x0 at 0\n> exited at 1: r0 0x1\n> at 1: exit\n> -1 r0 = 0x1; 0: mov r0, 1\n' \
+    diff --listing token.s one.s
+# Lines that are cut, of each run by itself; the registers that make addresses; a journal that keeps each move, and one that drops the first one: 43 rounds
+# of 23 bytes and 16 more fit, 44 don't.
+tells 1 "$sum< at 3: exit\n< -1 r0 = 0x6; 2: add r0, 3; from r0\n< -2 r0 = 0x3; 1: add r0, 2; from r0\n< cut: there are more lines\n> at 3: exit\n> -1 r0 = 0x7; 2: add r0, 4; from r0\n> -2 r0 = 0x3; 1: add r0, 2; from r0\n> cut: there are more lines\n" \
+    diff --lines 2 --listing sum.s other-sum.s
+listing two-registers.s 'add r0, r2;exit'
+tells 1 'step 1 wrote otherwise\n< 1 0: mov r0, 1; r0 = 0x1\n> 1 0: add r0, r2; r0 = 0x0\n< exited at 1: r0 0x1\n> exited at 1: r0 0x0\n< at 1: exit\n< -1 r0 = 0x1; 0: mov r0, 1\n> at 1: exit\n> -1 r0 = 0x0; 0: add r0, r2; from r0 r2\n> left r0 = 0x0; at the opening\n> left r2 = 0x0; at the opening\n' \
+    diff --lines=1 --listing one.s two-registers.s
+pointed='step 2 wrote otherwise\n< 2 1: stb [r3-1], 5; 0x2000001ff:1 = 0x5\n> 2 1: stb [r3-2], 5; 0x2000001fe:1 = 0x5\n< exited at 2: r0 0x0\n> exited at 2: r0 0x0\n'
+listing pointer.s 'mov r3, r10;stb [r3-1], 5;exit'
+listing other-pointer.s 'mov r3, r10;stb [r3-2], 5;exit'
+tells 1 "$pointed< at 2: exit\n< -1 0x2000001ff:1 = 0x5; 1: stb [r3-1], 5\n> at 2: exit\n> -1 0x2000001fe:1 = 0x5; 1: stb [r3-2], 5\n" diff --listing pointer.s other-pointer.s
+tells 1 "$pointed< at 2: exit\n< -1 0x2000001ff:1 = 0x5; 1: stb [r3-1], 5; from r3\n< -2 r3 = 0x200000200; 0: mov r3, r10\n> at 2: exit\n> -1 0x2000001fe:1 = 0x5; 1: stb [r3-2], 5; from r3\n> -2 r3 = 0x200000200; 0: mov r3, r10\n" \
+    diff --addresses --listing pointer.s other-pointer.s
+# rounds ROUNDS SINCE STEP R0: two programs that part behind a loop, with a journal of 1,024 bytes.
+rounds() {
+    listing rounds.s "l: add r0, 1;jlt r0, $1, l;add r3, 1;exit"
+    listing other-rounds.s "l: add r0, 1;jlt r0, $1, l;add r3, 2;exit"
+    tells 1 "step $3 wrote otherwise\n< $3 2: add r3, 1; r3 = 0x1\n> $3 2: add r3, 2; r3 = 0x2\n< exited at 3: r0 $4\n> exited at 3: r0 $4\n< at 3: exit\n< -1 r3 = 0x1; 2: add r3, 1; from r3\n< left r3 = 0x0; $2\n> at 3: exit\n> -1 r3 = 0x2; 2: add r3, 2; from r3\n> left r3 = 0x0; $2\n" \
+        diff --journal 1024 --listing rounds.s other-rounds.s
+}
+rounds 43 'at the opening' 87 0x2b
+rounds 44 'before the kept history' 89 0x2c
+# A journal is refused where there are values to tell, and last of all; with --alone, or where there are none, it isn't looked at.
+j1='refused J1: journal size out of range'
+for size in 7 1023 16777217; do
+    refused "$j1" diff --journal $size --listing one.s two.s
+    refused "$j1" diff --journal=$size --writes --listing one.s two.s
+    refused 'refused A1 at line 2: unknown mnemonic (the other run)' diff --journal $size --listing one.s bad.s
+    tells 0 'same for 2 steps\nexited at 1: r0 0x1\n' diff --journal $size --listing one.s add.s
+    tells 0 'same writes\n< exited at 1: r0 0x1\n> exited at 1: r0 0x1\n' diff --journal $size --writes --listing one.s add.s
+    tells 1 'step 2 went elsewhere\n< 2 2: mov r0, 2; r0 = 0x2\n> 2 1: mov r0, 3; r0 = 0x3\n< exited at 3: r0 0x2\n> exited at 3: r0 0x2\n' diff --journal $size --listing left.s right.s
+    tells 1 "$sum" diff --journal $size --alone --listing sum.s other-sum.s
+done
+one_two='step 1 wrote otherwise\n< 1 0: mov r0, 1; r0 = 0x1\n> 1 0: mov r0, 2; r0 = 0x2\n< exited at 1: r0 0x1\n> exited at 1: r0 0x2\n< at 1: exit\n< -1 r0 = 0x1; 0: mov r0, 1\n> at 1: exit\n> -1 r0 = 0x2; 0: mov r0, 2\n'
+for size in 1024 16777216; do
+    tells 1 "$one_two" diff --journal $size --listing one.s two.s
+done
+
+# And where the values came from at the place that ends otherwise: behind the steps that wrote it last, from both sides; the last time in a loop.
+tells 1 '0x100000004:1 ends otherwise: 0x2, 0x3\n< 2 1: stw [r1+4], 2; 0x100000004:4 = 0x2\n> 2 1: stb [r1+4], 3; 0x100000004:1 = 0x3\n< exited at 3: r0 0x7\n> exited at 3: r0 0x7\n< at 2: mov r0, 7\n< -1 0x100000004:4 = 0x2; 1: stw [r1+4], 2\n> at 2: mov r0, 7\n> -1 0x100000004:1 = 0x3; 1: stb [r1+4], 3\n' \
+    diff --writes --listing -m eight stores.s wrong.s
+tells 1 '0x100000000:1 ends otherwise: 0x6, 0x5\n< 2 1: stb [r1+0], 6; 0x100000000:1 = 0x6\n> 8 1: stxb [r1+0], r3; 0x100000000:1 = 0x5\n< exited at 3: r0 0x0\n> exited at 4: r0 0x0\n< at 2: stb [r1+1], 6\n< -1 0x100000000:1 = 0x6; 1: stb [r1+0], 6\n> at 2: add r3, 1\n> -1 0x100000000:1 = 0x5; 1: stxb [r1+0], r3; from r3\n> -3 r3 = 0x5; 2: add r3, 1; from r3\n> -6 r3 = 0x4; 2: add r3, 1; from r3\n> -8 r3 = 0x3; 0: mov r3, 3\n' \
+    diff --writes --listing -m eight twice.s round.s
+tells 1 '0x100000000:1 ends otherwise: 0x5, 0x6\n< 8 1: stxb [r1+0], r3; 0x100000000:1 = 0x5\n> 2 1: stb [r1+0], 6; 0x100000000:1 = 0x6\n< exited at 4: r0 0x0\n> exited at 3: r0 0x0\n< at 2: add r3, 1\n< -1 0x100000000:1 = 0x5; 1: stxb [r1+0], r3; from r3\n< -3 r3 = 0x5; 2: add r3, 1; from r3\n< cut: there are more lines\n> at 2: stb [r1+1], 6\n> -1 0x100000000:1 = 0x6; 1: stb [r1+0], 6\n' \
+    diff --lines 2 --writes --listing -m eight round.s twice.s
+# Where no step wrote it, what it was; up to a limit; at a fault; of a map.
+not_written='> at 0: mov r0, 7\n> left 0x100000000:1 = 0x9; byte 0 of the context; at the opening\n'
+tells 1 "0x100000000:1 ends otherwise: 0x1, 0x9\n< 1 0: stw [r1+0], 1; 0x100000000:4 = 0x1\n> not written\n< exited at 3: r0 0x7\n> exited at 1: r0 0x7\n< at 1: stw [r1+4], 2\n< -1 0x100000000:4 = 0x1; 0: stw [r1+0], 1\n$not_written" \
+    diff --writes --listing -m eight stores.s seven.s
+tells 1 "0x100000000:1 ends otherwise: 0x1, 0x9\n< 1 0: stw [r1+0], 1; 0x100000000:4 = 0x1\n> not written\n< step limit 1 reached at 1\n> step limit 1 reached at 1\n< at 1: stw [r1+4], 2\n< -1 0x100000000:4 = 0x1; 0: stw [r1+0], 1\n$not_written" \
+    diff --writes --steps 1 --listing -m eight stores.s wide.s
+tells 1 '0x100000000:1 ends otherwise: 0x5, 0x4\n< 3 2: stxb [r1+0], r2; 0x100000000:1 = 0x5\n> not written\n< exited at 3: r0 0x0\n> fault access 0x0 at 1\n< at 3: exit\n< -1 0x100000000:1 = 0x5; 2: stxb [r1+0], r2; from r2\n< -2 r2 = 0x5; 1: add r2, 1; from r2\n< -3 r2 = 0x4; 0: ldxb r2, [r1+0]; from 0x100000000:1\n< left 0x100000000:1 = 0x4; byte 0 of the context; at the opening\n> at 0: mov r0, 8\n> left 0x100000000:1 = 0x4; byte 0 of the context; at the opening\n' \
+    diff --writes --listing -m four more-by-one.s null-too.s
+tells 1 '0x300100001:1 ends otherwise: 0x0, 0xff\n< not written\n> 4 5: stb [r2+0], 255; 0x300100001:1 = 0xff\n< exited at 3: r0 0x0\n> exited at 7: r0 0x1\n< at 0: ldmapval r2, 0, 4\n< left 0x300100001:1 = 0x0; at the opening\n> at 6: mov r0, 1\n> -1 0x300100001:1 = 0xff; 5: stb [r2+0], 255\n' \
+    diff --writes --maps 4x2,2x1 --listing map.s second-map.s
+tells 1 "0x30000000f:1 ends otherwise: 0x1, 0x2\n< 8 8: call 2; r0 = 0x0; 0x300000000:16\n> 8 8: call 2; r0 = 0x0; 0x300000000:16\n< exited at 9: r0 0x0\n> exited at 9: r0 0x0\n$put_both" \
+    diff --writes --maps 16x1 --listing -m low --other-mem high put.s
+# A traced word of both, and of one alone; a byte that one context lacks; r0, and where no step wrote it.
+tells 1 'word 0 ends otherwise: 0x5, 0x6\n< 2 1: call 64; r0 = 0x0; word 0 = 0x5\n> 2 1: call 64; r0 = 0x0; word 0 = 0x6\n< exited at 2: r0 0x0\n> exited at 2: r0 0x0\n< at 2: exit\n< -1 r0 = 0x0; word 0 = 0x5; 1: call 64; from r1\n< -2 r1 = 0x5; 0: mov r1, 5\n> at 2: exit\n> -1 r0 = 0x0; word 0 = 0x6; 1: call 64; from r1\n> -2 r1 = 0x6; 0: mov r1, 6\n' \
+    diff --writes --listing word.s other.s
+word_came='at 4: exit\n%s -1 r0 = 0x0; word 1 = 0x6; 3: call 64; from r1\n%s -2 r1 = 0x6; 2: mov r1, 6\n'
+tells 1 "word 1 ends otherwise: 0x6, none\n< 4 3: call 64; r0 = 0x0; word 1 = 0x6\n> not written\n< exited at 4: r0 0x0\n> exited at 2: r0 0x0\n$(came '<' "$word_came")" diff --writes --listing words.s word.s
+tells 1 "word 1 ends otherwise: none, 0x6\n< not written\n> 4 3: call 64; r0 = 0x0; word 1 = 0x6\n< exited at 2: r0 0x0\n> exited at 4: r0 0x0\n$(came '>' "$word_came")" diff --writes --listing word.s words.s
+tells 1 '0x100000001:1 ends otherwise: none, 0x1\n< not written\n> 1 0: stb [r1+1], 1; 0x100000001:1 = 0x1\n< fault access 0x100000001 at 0\n> exited at 1: r0 0x0\n> at 1: exit\n> -1 0x100000001:1 = 0x1; 0: stb [r1+1], 1\n' \
+    diff --writes --listing -m four --other-mem longer behind.s
+tells 1 'r0 ends otherwise: 0x1, 0x2\n< 1 0: mov r0, 1; r0 = 0x1\n> 1 0: mov r0, 2; r0 = 0x2\n< exited at 1: r0 0x1\n> exited at 1: r0 0x2\n< at 1: exit\n< -1 r0 = 0x1; 0: mov r0, 1\n> at 1: exit\n> -1 r0 = 0x2; 0: mov r0, 2\n' \
+    diff --writes --listing one.s two.s
+tells 1 'r0 ends otherwise: 0x0, 0x1\n< not written\n> 1 0: mov r0, 1; r0 = 0x1\n< exited at 0: r0 0x0\n> exited at 1: r0 0x1\n< at 0: exit\n< left r0 = 0x0; at the opening\n> at 1: exit\n> -1 r0 = 0x1; 0: mov r0, 1\n' \
+    diff --writes --listing end.s one.s
 
 # Words, and maps of both.
 bytes one.bin b7 00 00 00 01 00 00 00 EXIT
 bytes two.bin b7 00 00 00 02 00 00 00 EXIT
 tells 0 'same for 2 steps\nexited at 1: r0 0x1\n' diff one.bin one.bin
-tells 1 'step 1 wrote otherwise\n< 1 0: mov r0, 1; r0 = 0x1\n> 1 0: mov r0, 2; r0 = 0x2\n< exited at 1: r0 0x1\n> exited at 1: r0 0x2\n' diff one.bin two.bin
+tells 1 "$one_two" diff one.bin two.bin
 
 # FILE's run is looked at first, then the other one; nothing is written.
 bytes ragged 95 00 00
@@ -178,7 +309,6 @@ refused 'refused C3: length is no multiple of 8' diff ragged one.bin
 refused 'refused C3: length is no multiple of 8 (the other run)' diff one.bin ragged
 refused 'refused C1: empty program (the other run)' diff one.bin /dev/null
 refused 'refused C3: length is no multiple of 8' diff ragged /dev/null
-listing bad.s 'mov r0, 1;frob;exit'
 refused 'refused A1 at line 2: unknown mnemonic' diff --listing bad.s one.s
 refused 'refused A1 at line 2: unknown mnemonic (the other run)' diff --listing one.s bad.s
 refused 'refused O1: context too long' diff -m long --other-mem four one.bin
@@ -207,6 +337,8 @@ first='1 0: ldxb r2, [r1+0]; r2 = 0x4' second='2 1: jne r2, 4, L3' third='3 2: m
 told "$first" "$second" "$third" '4 3: exit' "$end"
 tells 0 'same for 4 steps\nexited at 3: r0 0x1\n' diff --listing -m four --trace there port.s
 tells 1 'step 1 is told otherwise\n< 1 0: ldxb r2, [r1+0]; r2 = 0x5\n> 1 0: ldxb r2, [r1+0]; r2 = 0x4\n' diff --listing -m five --trace there port.s
+# (what asks about values changes nothing there)
+tells 1 'step 1 is told otherwise\n< 1 0: ldxb r2, [r1+0]; r2 = 0x5\n> 1 0: ldxb r2, [r1+0]; r2 = 0x4\n' diff --journal 7 --lines 1 --addresses --alone --listing -m five --trace there port.s
 told "$first" "$second" '3 3: exit' 'exited at 3: r0 0x0'
 tells 1 'step 3 is told otherwise\n< 3 2: mov r0, 1; r0 = 0x1\n> 3 3: exit\n' diff --listing -m four --trace there port.s
 told "$first" "$second"
