@@ -1,9 +1,10 @@
-"""Where two runs part: pairs of small programs at random, or one on two contexts, against a model over both traces; and where a run and a changed trace of
-it do, in both forms.
+"""Where two runs part: pairs of small programs at random, or one on two contexts, against a model over both traces, and where the values came from in which
+they differ against `origin`; and where a run and a changed trace of it part, in both forms.
 
 diff.py BPFDB COUNT [SEED]: so many pairs. Tells where the answer is another than the model's; the last line counts. The model reads what `trace` prints
-of each run alone, and finds the first differences by docs/COMMANDS.md: it asks nothing else of bpfdb. Registers before each step are what the lines of the
-steps before it tell of them."""
+of each run alone, and finds the first differences by docs/COMMANDS.md: of these it asks nothing else of bpfdb. Registers before each step are what the
+lines of the steps before it tell of them. Where values came from it asks `origin` of each run, about the first part that the step wrote: the answer is that
+about all its parts, since the step is one move. Of a frame that was cleared, 512 bytes, it asks about the first 256."""
 import os
 import random
 import re
@@ -63,28 +64,55 @@ class Run:
         self.writes = [line.split('; ')[1:] for line in steps]
 
 
-def expected(one, other, limit):
+def both(one, other, k):
+    return k < len(one.lines) and k < len(other.lines)
+
+
+def parting(one, other):
+    """How many steps of two runs stand at one slot, and how many of these write the same before one doesn't."""
+    steps = max(len(one.lines), len(other.lines))
+    parted = next((k for k in range(steps) if not both(one, other, k) or one.slots[k] != other.slots[k]), steps)
+    return parted, next((k for k in range(parted) if one.writes[k] != other.writes[k]), parted)
+
+
+def expected(one, other):
     out, status = [], 1
-    steps = range(max(len(one.lines), len(other.lines)))
+    steps = max(len(one.lines), len(other.lines))
 
     def sides(k):
         return [f'{mark} {run.lines[k]}' for mark, run in (('<', one), ('>', other)) if k < len(run.lines)]
 
-    def both(k):
-        return k < len(one.lines) and k < len(other.lines)
-
-    parted = next((k for k in steps if not both(k) or one.slots[k] != other.slots[k]), len(steps))
-    wrote = next((k for k in range(parted) if one.writes[k] != other.writes[k]), parted)
+    parted, wrote = parting(one, other)
     if wrote < parted:
         out += [f'step {wrote + 1} wrote otherwise'] + sides(wrote)
-    if parted < len(steps):
-        out += [f'step {parted + 1} ' + ('went elsewhere' if both(parted) else 'is in one run alone')] + sides(parted)
-    if wrote == parted == len(steps) and one.end == other.end:
+    if parted < steps:
+        out += [f'step {parted + 1} ' + ('went elsewhere' if both(one, other, parted) else 'is in one run alone')] + sides(parted)
+    if wrote == parted == steps and one.end == other.end:
         out += [f'same for {parted} steps', one.end]
         status = 1 if one.end.startswith('step limit') else 0
     else:
         out += [f'< {one.end}', f'> {other.end}']
     return '\n'.join(out) + '\n', status
+
+
+def asked(run, k):
+    """WHAT, by which `origin` tells of what step k of a run wrote (or of the registers of its bad access), as words; None where there is nothing to tell."""
+    if run.writes[k]:
+        part = run.writes[k][0].split(' = ')[0]
+        return [re.sub(':512$', ':256', re.sub(' at depth .*', '', part))]
+    return [] if k + 1 == len(run.lines) and run.end.startswith('fault access') else None
+
+
+def sources(bpfdb, runs, sides, options):
+    """Where the values came from that the first step wrote otherwise, if one did: for each run the words of its program and context."""
+    text = ''
+    parted, wrote = parting(*runs)
+    for mark, run, words in zip('<>', runs, sides):
+        what = asked(run, wrote) if wrote < parted else None
+        if what is not None:
+            found = subprocess.run([bpfdb, 'origin', '--listing', '--steps', str(wrote + 1), *options, *words, *what], capture_output=True, text=True)
+            text += ''.join(f'{mark} {line}\n' for line in found.stdout.split('\n')[:-1])
+    return text
 
 
 def registers(run, length):
@@ -211,20 +239,28 @@ def main():
                 with open(name, 'wb') as file:
                     file.write(data)
             common = ['--listing', '--steps', str(limit)]
-            runs = [('a.s', 'p'), ('a.s', 'q')] if on_contexts else [('a.s', 'p'), ('b.s', 'p')]
-            traces = [subprocess.run([bpfdb, 'trace', *common, '-m', context, file], capture_output=True, text=True) for file, context in runs]
+            sides = [['-m', 'p', 'a.s'], ['-m', 'q', 'a.s'] if on_contexts else ['-m', 'p', 'b.s']]
+            traces = [subprocess.run([bpfdb, 'trace', *common, *side], capture_output=True, text=True) for side in sides]
             words = ['-m', 'p', '--other-mem', 'q', 'a.s'] if on_contexts else ['-m', 'p', 'a.s', 'b.s']
-            found = subprocess.run([bpfdb, 'diff', *common, *words], capture_output=True, text=True)
+            options = rng.choice([[], [], ['--lines', '1'], ['--lines', '1', '--addresses'], ['--addresses'], ['--journal', '1024']])
             if any(trace.returncode == 2 for trace in traces):
-                wanted, status = '', 2
+                wanted, status, came = '', 2, ''
             else:
-                wanted, status = expected(*(Run(trace.stdout) for trace in traces), limit)
+                runs = [Run(trace.stdout) for trace in traces]
+                wanted, status = expected(*runs)
+                came = sources(bpfdb, runs, sides, options)
             kind = ' and '.join(sorted({line.split(' ', 2)[-1] for line in wanted.split('\n') if line.startswith(('step', 'same'))})) or 'ends'
             kind = 'refused' if status == 2 else 'same' if wanted.startswith('same') else kind
             kinds[kind] = kinds.get(kind, 0) + 1
-            if (found.stdout, found.returncode) != (wanted, status):
-                failed += 1
-                print(f'FAILED: seed {seed}: {" ".join(words)} --steps {limit}\n{found.stdout}status {found.returncode}; wanted\n{wanted}status {status}')
+            for asking, answer in ((['--alone'], wanted), (options, wanted + came)):
+                found = subprocess.run([bpfdb, 'diff', *common, *asking, *words], capture_output=True, text=True)
+                if (found.stdout, found.returncode) != (answer, status):
+                    failed += 1
+                    print(f'FAILED: seed {seed}: {" ".join(asking + words)} --steps {limit}\n{found.stdout}status {found.returncode}; wanted\n{answer}status {status}')
+            if came:
+                marks = {line[0] for line in came.split('\n')[:-1]}
+                kind = 'values' + ', of one run' * (len(marks) == 1) + ', cut' * ('cut: ' in came)
+                kinds[kind] = kinds.get(kind, 0) + 1
             if traces[0].returncode == 2:
                 continue
             trace, wanted = against(rng, Run(traces[0].stdout), len(contexts[0]))

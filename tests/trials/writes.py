@@ -1,9 +1,10 @@
 """What two runs leave for one who looks from outside: pairs of small programs at random, or one on two contexts, and builds of the C programs of the tests,
-against a model over both traces.
+against a model over both traces, and where both values came from against `origin`.
 
 writes.py BPFDB COUNT [SEED]: so many pairs. writes.py BPFDB --builds FOLDER: each program of FOLDER, compiled at -O0 to -O2 for two versions of the
 instruction set; builds with one list of maps are held against each other, and each has to leave the same. The model reads what `trace` prints of each run
-alone: it plays the bytes that each line tells, and asks nothing else of bpfdb. The last line counts."""
+alone: it plays the bytes that each line tells, and asks nothing else of bpfdb of these. Where a value came from it asks `origin` behind the step that wrote
+it, of a traced word about r0, which that step wrote, too. The last line counts."""
 import glob
 import os
 import random
@@ -122,14 +123,28 @@ def expected(one, other, shapes):
     return ['same writes'] + ends, 0 if same else 1
 
 
+def sources(bpfdb, options, runs, sides, shapes):
+    """Where the values came from at the first place that ends otherwise, of each run that has one there."""
+    key, left = next(((key, left) for _, key, left in places(*runs, shapes) if left[0] != left[1]), (None, ()))
+    text = ''
+    for mark, run, (file, path), value in zip('<>', runs, sides, left):
+        if value is not None:
+            behind = ['--steps', run.by[key].split(' ')[0]] if key in run.by else ['--script', '/dev/null']
+            what = f'{key:#x}:1' if isinstance(key, int) else 'r0'
+            found = output(bpfdb, 'origin', *options, *behind, '-m', path, file, what)
+            text += ''.join(f'{mark} {line}\n' for line in found.stdout.split('\n')[:-1])
+    return text
+
+
 def output(*words):
     return subprocess.run(words, capture_output=True, text=True)
 
 
-def held(bpfdb, common, sides, words, shapes):
-    """Whether `diff --writes` answers as the model does; what kind of answer that is; and both answers."""
+def held(bpfdb, options, steps, sides, words, shapes):
+    """Whether `diff --writes` answers as the model does, and `origin` behind it; what kind of answer that is; and both answers."""
+    common = options + steps
     traces = [output(bpfdb, 'trace', *common, '-m', path, file) for file, path in sides]
-    found = output(bpfdb, 'diff', '--writes', *common, *words)
+    found = output(bpfdb, 'diff', '--writes', '--alone', *common, *words)
     if any(trace.returncode == 2 for trace in traces):
         return found.returncode == 2, 'refused', found, ('', 2)
     runs = [Run(trace.stdout, open(path, 'rb').read(), shapes) for trace, (_, path) in zip(traces, sides)]
@@ -142,6 +157,9 @@ def held(bpfdb, common, sides, words, shapes):
     else:
         kind += ', other lines' if runs[0].lines != runs[1].lines else ''
         kind += '' if status == 0 else ', status 1'
+    if (found.stdout, found.returncode) == (wanted, status):
+        found = output(bpfdb, 'diff', '--writes', *common, *words)
+        wanted += sources(bpfdb, options, runs, sides, shapes)
     return (found.stdout, found.returncode) == (wanted, status), kind, found, (wanted, status)
 
 
@@ -158,14 +176,15 @@ def pairs(bpfdb, count, first):
         for name, data in (('a.s', listing(lines).encode()), ('b.s', listing(other).encode()), ('p', contexts[0]), ('q', contexts[1])):
             with open(name, 'wb') as file:
                 file.write(data)
-        common = ['--listing', '--maps', ','.join(f'{v}x{n}' for v, n in SHAPES), '--steps', str(rng.choice([4, 10, 1000, 1000, 1000]))]
+        options = ['--listing', '--maps', ','.join(f'{v}x{n}' for v, n in SHAPES)]
+        steps = ['--steps', str(rng.choice([4, 10, 1000, 1000, 1000]))]
         sides = [('a.s', 'p'), ('a.s', 'q')] if on_contexts else [('a.s', 'p'), ('b.s', 'p')]
         words = ['-m', 'p', '--other-mem', 'q', 'a.s'] if on_contexts else ['-m', 'p', 'a.s', 'b.s']
-        same, kind, found, wanted = held(bpfdb, common, sides, words, SHAPES)
+        same, kind, found, wanted = held(bpfdb, options, steps, sides, words, SHAPES)
         kinds[kind] = kinds.get(kind, 0) + 1
         if not same:
             failed += 1
-            print(f'FAILED: seed {seed}: {" ".join(common + words)}\n{found.stdout}{found.stderr}status {found.returncode}; wanted\n{wanted[0]}status {wanted[1]}')
+            print(f'FAILED: seed {seed}: {" ".join(options + steps + words)}\n{found.stdout}{found.stderr}status {found.returncode}; wanted\n{wanted[0]}status {wanted[1]}')
     for kind in sorted(kinds):
         print(f'{kinds[kind]} {kind}')
     print(f'{count} pairs: {failed} failed')
@@ -200,8 +219,7 @@ def builds(bpfdb, folder):
                 if maps != of_other:
                     continue
                 shapes = [tuple(map(int, shape.split('x'))) for shape in maps.split(',')] if maps else []
-                common = ['--maps', maps] if maps else []
-                same, kind, found, wanted = held(bpfdb, common, [(name, 'p'), (other, 'p')], ['-m', 'p', name, other], shapes)
+                same, kind, found, wanted = held(bpfdb, ['--maps', maps] if maps else [], [], [(name, 'p'), (other, 'p')], ['-m', 'p', name, other], shapes)
                 held_pairs += 1
                 kinds[kind] = kinds.get(kind, 0) + 1
                 if not same or wanted[1]:
