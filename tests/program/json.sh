@@ -21,7 +21,7 @@ tells 1 '{"kind":"exited","slot":5,"r0":"0x7"}
 {"kind":"move","moves":2,"slot":4,"insn":"add r0, r2","from":["r0","r2"],"parts":[{"part":"r0","value":"0x7"}]}
 {"kind":"text","text":"cut: there are more lines"}\n' origin --json --listing --lines 1 p.s
 
-# What two runs leave.
+# What two runs leave, and where the values came from.
 listing two.s 'stb [r1+0], 2;exit'
 listing three.s 'stb [r1+0], 3;exit'
 bytes byte 09
@@ -29,7 +29,11 @@ tells 1 '{"kind":"ends","place":"0x100000000:1","here":"0x2","there":"0x3"}
 {"kind":"step","side":"<","step":1,"slot":0,"insn":"stb [r1+0], 2","parts":[{"part":"0x100000000:1","value":"0x2"}]}
 {"kind":"step","side":">","step":1,"slot":0,"insn":"stb [r1+0], 3","parts":[{"part":"0x100000000:1","value":"0x3"}]}
 {"kind":"exited","side":"<","slot":1,"r0":"0x0"}
-{"kind":"exited","side":">","slot":1,"r0":"0x0"}\n' diff --writes --json --listing -m byte two.s three.s
+{"kind":"exited","side":">","slot":1,"r0":"0x0"}
+{"kind":"at","side":"<","slot":1,"insn":"exit"}
+{"kind":"move","side":"<","moves":1,"slot":0,"insn":"stb [r1+0], 2","parts":[{"part":"0x100000000:1","value":"0x2"}]}
+{"kind":"at","side":">","slot":1,"insn":"exit"}
+{"kind":"move","side":">","moves":1,"slot":0,"insn":"stb [r1+0], 3","parts":[{"part":"0x100000000:1","value":"0x3"}]}\n' diff --writes --json --listing -m byte two.s three.s
 tells 0 '{"kind":"same"}
 {"kind":"exited","side":"<","slot":1,"r0":"0x0"}
 {"kind":"exited","side":">","slot":1,"r0":"0x0"}\n' diff --writes --json --listing -m byte two.s two.s
@@ -111,7 +115,29 @@ tells 1 '{"kind":"parting","step":1,"how":"wrote otherwise"}
 {"kind":"step","side":"<","step":3,"slot":2,"insn":"mov r0, 1","parts":[{"part":"r0","value":"0x1"}]}
 {"kind":"step","side":">","step":3,"slot":3,"insn":"exit","parts":[]}
 {"kind":"exited","side":"<","slot":3,"r0":"0x1"}
-{"kind":"exited","side":">","slot":3,"r0":"0x0"}\n' diff --json --listing -m four --other-mem five port.s
+{"kind":"exited","side":">","slot":3,"r0":"0x0"}
+{"kind":"at","side":"<","slot":1,"insn":"jne r2, 4, L3"}
+{"kind":"move","side":"<","moves":1,"slot":0,"insn":"ldxb r2, [r1+0]","from":["0x100000000:1"],"parts":[{"part":"r2","value":"0x4"}]}
+{"kind":"left","side":"<","byte":0,"since":"opening","parts":[{"part":"0x100000000:1","value":"0x4"}]}
+{"kind":"at","side":">","slot":1,"insn":"jne r2, 4, L3"}
+{"kind":"move","side":">","moves":1,"slot":0,"insn":"ldxb r2, [r1+0]","from":["0x100000000:1"],"parts":[{"part":"r2","value":"0x5"}]}
+{"kind":"left","side":">","byte":0,"since":"opening","parts":[{"part":"0x100000000:1","value":"0x5"}]}\n' diff --json --listing -m four --other-mem five port.s
+listing chain.s 'mov r0, 1;add r0, 2;exit'
+listing other-chain.s 'mov r0, 1;callf f;exit;f: exit'
+tells 1 '{"kind":"parting","step":2,"how":"wrote otherwise"}
+{"kind":"step","side":"<","step":2,"slot":1,"insn":"add r0, 2","parts":[{"part":"r0","value":"0x3"}]}
+{"kind":"step","side":">","step":2,"slot":1,"insn":"callf L3","parts":[{"part":"0x200000400:512"}]}
+{"kind":"parting","step":3,"how":"went elsewhere"}
+{"kind":"step","side":"<","step":3,"slot":2,"insn":"exit","parts":[]}
+{"kind":"step","side":">","step":3,"slot":3,"insn":"exit","parts":[]}
+{"kind":"exited","side":"<","slot":2,"r0":"0x3"}
+{"kind":"exited","side":">","slot":2,"r0":"0x1"}
+{"kind":"at","side":"<","slot":2,"insn":"exit"}
+{"kind":"move","side":"<","moves":1,"slot":1,"insn":"add r0, 2","from":["r0"],"parts":[{"part":"r0","value":"0x3"}]}
+{"kind":"text","side":"<","text":"cut: there are more lines"}
+{"kind":"at","side":">","slot":3,"insn":"exit"}
+{"kind":"move","side":">","moves":1,"slot":1,"insn":"callf L3","since":"call","parts":[{"part":"0x200000400:512"}]}\n' diff --lines 1 --json --listing chain.s other-chain.s
+refused 'refused J1: journal size out of range' diff --journal 7 --json --listing chain.s other-chain.s
 tells 0 '{"kind":"same","steps":4}\n{"kind":"exited","slot":3,"r0":"0x1"}\n' diff --json --listing -m four --other-mem four port.s
 printf '0 0x0 0x100000000 1 0 0 0 0 0 0 0 -\n1 0 0x100000000 5 0 0 0 0 0 0 0 -\n' > registers
 tells 1 '{"kind":"parting","step":2,"how":"is told otherwise"}

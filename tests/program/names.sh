@@ -1,4 +1,4 @@
-# origin --object: the names of places in maps (tests/program/names/). Some stand here by hand; each byte of each map of these and of other objects is held
+# origin, whynot and diff --object: the names of places in maps (tests/program/names/). Some stand here by hand; each byte of each map of these and of other objects is held
 # against another reader of symbols and BTF (tests/trials/names.py).
 
 # held WHAT ARGUMENT..: what tests/trials/names.py holds.
@@ -24,6 +24,8 @@ named() {
 }
 
 : > empty
+bytes four 04
+bytes five 05 00
 find_compilers 'origin --object'
 for compiler in $compilers; do
     "$compiler" -g -O2 -target bpf -c "$parts/names/places.c" -o places.o 2> found/err || complain "$compiler: places.c: $(cat found/err)"
@@ -95,6 +97,38 @@ for compiler in $compilers; do
         printf 'continue\nwhynot branch.c:8\n' | BPFDB=$program python3 "$top/share/bpfdb-shell" branch.o > found/out 2> found/err
         grep -q "$branch" found/out || complain "the branch in the shell: $(cat found/out found/err)"
         grep -q '; in mode$' found/out || complain "what it compared, in the shell: $(cat found/out)"
+    fi
+    # So does `diff`, of the values in which two runs differ, of each run; without BTF by symbols. BTF that `link` refuses is refused as by `origin`.
+    "$compiler" -g -O2 -target bpf -c "$parts/names/parted.c" -o parted.o 2> found/err || complain "parted.c: $(cat found/err)"
+    "$program" diff --object -m four --other-mem five parted.o > found/out 2> found/err
+    count=$((count + 4))
+    grep -q '^< -1 0x300000018:8 = 0x1; [0-9]*: stxdw .*; from r[0-9]; in totals\[1\]\.length$' found/out || complain "what a run gave a variable: $(cat found/out found/err)"
+    grep -q '^> -1 0x300000018:8 = 0x2; [0-9]*: stxdw .*; from r[0-9]; in totals\[1\]\.length$' found/out || complain "what the other run gave it: $(cat found/out)"
+    "$program" diff --writes --object -m four --other-mem five parted.o > found/out 2> found/err
+    grep -q '^< -1 0x300000000:8 = 0x4; [0-9]*: stxdw .*; from r[0-9]; in totals\[0\]\.first$' found/out || complain "what a run left: $(cat found/out found/err)"
+    grep -q '^> -1 0x300000000:8 = 0x5; [0-9]*: stxdw .*; from r[0-9]; in totals\[0\]\.first$' found/out || complain "what the other run left: $(cat found/out)"
+    "$program" diff --json --object -m four --other-mem five parted.o > found/out 2> found/err
+    count=$((count + 1))
+    grep -q '^{"kind":"move","side":"<","moves":1,.*,"name":"totals\[1\]\.length","parts":\[{"part":"0x300000018:8","value":"0x1"}\]}$' found/out || complain "a name of a run as JSON: $(cat found/out found/err)"
+    "$compiler" -O2 -target bpf -c "$parts/names/parted.c" -o parted-plain.o 2> found/err || complain "parted.c: $(cat found/err)"
+    "$program" diff --object -m four --other-mem five parted-plain.o > found/out 2> found/err
+    count=$((count + 1))
+    [ "$(grep -c '^[<>] -1 0x300000018:8 = 0x[12]; [0-9]*: stxdw .*; from r[0-9]; in totals+24$' found/out)" = 2 ] || complain "names by symbols: $(cat found/out found/err)"
+    if has python3 'names in an object that is damaged'; then
+        python3 - parted.o damaged.o << 'EOF'
+import struct, sys
+file = bytearray(open(sys.argv[1], 'rb').read())
+headers, size, count, names = struct.unpack_from('<Q', file, 40)[0], *struct.unpack_from('<3H', file, 58)
+sections = [struct.unpack_from('<2I4Q', file, headers + i * size) for i in range(count)]
+name = lambda section: bytes(file[sections[names][4] + section[0]:]).split(b'\0')[0]
+at = next(section[4] for section in sections if name(section) == b'.BTF')
+file[at + 2] = 2
+open(sys.argv[2], 'wb').write(file)
+EOF
+        "$program" origin --object damaged.o > found/out 2> refusal
+        [ "$(cat refusal)" = 'refused E41: BTF of another version than 1' ] || complain "damaged.o: $(cat refusal)"
+        refused "$(cat refusal)" diff --object -m four --other-mem five damaged.o
+        refused "$(cat refusal)" diff --alone --object -m four --other-mem five damaged.o
     fi
     # As JSON a name is a member.
     "$program" origin --json --script empty --object places.o "$(printf '0x%x' $((0x300000000 + 260)))" > found/out 2> found/err

@@ -6,6 +6,7 @@ bytes program b7 00 00 00 2a 00 00 00 EXIT
 bytes endless 05 00 ff ff 00 00 00 00
 bytes faulting 71 10 00 00 00 00 00 00 EXIT
 printf 'mov r0, 42\nexit\n' > program.s
+printf 'mov r0, 41\nexit\n' > less.s
 : > empty
 "$program" trace program > there
 cp "$top/crates/bpfdb/stdin" script
@@ -64,6 +65,8 @@ trace --profile program
 run --strict program
 trace --strict program
 diff --trace there program
+diff --listing program.s less.s
+diff --writes --listing program.s less.s
 debug program
 debug --listing program.s
 asm program.s
