@@ -69,7 +69,7 @@ _bpfdb() {
     debug) words="-m --mem --maps --journal --steps --listing --object --section --entry --entries --stub --as-compiled -h --help" ;;
     origin) words="-m --mem --maps --journal --steps --branches --listing --object --section --entry --entries --stub --script --as-compiled --lines --addresses --json --dot -h --help" ;;
     whynot) words="-m --mem --maps --journal --steps --listing --object --section --entry --entries --stub --script --as-compiled --lines --addresses --alone --json -h --help" ;;
-    diff) words="-m --mem --maps --steps --listing --object --section --entry --entries --stub --as-compiled --other-mem --trace --writes --json -h --help" ;;
+    diff) words="-m --mem --maps --journal --steps --listing --object --section --entry --entries --stub --as-compiled --lines --addresses --alone --other-mem --trace --writes --json -h --help" ;;
     asm) words="-h --help" ;;
     disasm) words="--maps --listing --object --section --entry --entries --stub --as-compiled --json -h --help" ;;
     lines) words="--object --section --entry --entries --stub --as-compiled --with --json -h --help" ;;
