@@ -145,9 +145,14 @@ wants "$plain$c13$o2$others" 0 'same for 2 steps\nexited at 1: r0 0x2a\n' '' dif
 wants "$plain$a7$c13$o2${others}refused A7: out of memory (the other run)\n" 0 'same for 2 steps\nexited at 1: r0 0x2a\n' '' diff --listing program.s program.s
 wants "$plain$c13$o2$others" 0 'same writes\n< exited at 1: r0 0x2a\n> exited at 1: r0 0x2a\n' '' diff --writes -m context --maps 8x2 program program
 printf 'mov r0, 41\nexit\n' > less.s
-wants "$plain$a7$c13$o2${others}refused A7: out of memory (the other run)\n" 1 \
-    'r0 ends otherwise: 0x2a, 0x29\n< 1 0: mov r0, 42; r0 = 0x2a\n> 1 0: mov r0, 41; r0 = 0x29\n< exited at 1: r0 0x2a\n> exited at 1: r0 0x29\n' '' \
-    diff --writes --listing program.s less.s
+# (the journal is that of where the values came from that differ)
+otherwise='< 1 0: mov r0, 42; r0 = 0x2a\n> 1 0: mov r0, 41; r0 = 0x29\n< exited at 1: r0 0x2a\n> exited at 1: r0 0x29\n'
+origins='< at 1: exit\n< -1 r0 = 0x2a; 0: mov r0, 42\n> at 1: exit\n> -1 r0 = 0x29; 0: mov r0, 41\n'
+both="$plain$a7$c13$o2${others}refused A7: out of memory (the other run)\n"
+wants "$both" 1 "r0 ends otherwise: 0x2a, 0x29\n$otherwise" '' diff --writes --alone --listing program.s less.s
+wants "$both$j2" 1 "r0 ends otherwise: 0x2a, 0x29\n$otherwise$origins" '' diff --writes --listing program.s less.s
+wants "$both" 1 "step 1 wrote otherwise\n$otherwise" '' diff --alone --listing program.s less.s
+wants "$both$j2" 1 "step 1 wrote otherwise\n$otherwise$origins" '' diff --journal 1024 --listing program.s less.s
 printf '1 0: mov r0, 42; r0 = 0x2a\n2 1: exit\nexited at 1: r0 0x2a\n' > there
 wants "$plain$c13$o2" 0 'same for 2 steps\nexited at 1: r0 0x2a\n' '' diff -m context --maps 8x2 --trace there program
 wants "$plain$a7$c13$o2" 0 'same for 2 steps\nexited at 1: r0 0x2a\n' '' diff --listing --trace there program.s
@@ -189,6 +194,7 @@ wants "$plain$e26$c13" 0 'mov r0, 7\nexit\n' '' disasm --object text.o
 wants "$plain$e26" 0 '0 - entry\n1 - entry\n' '' lines --object text.o
 wants "$plain$e26$c13$o2" 0 '1 0: mov r0, 7; r0 = 0x7\n2 1: exit\nexited at 1: r0 0x7\n' '' trace --object text.o
 wants "$plain$e26$c13$o2$j2" 0 'exited at 1: r0 0x7\n-2 r0 = 0x7; 0: mov r0, 7\n' '' origin --object text.o
+wants "$plain$e26$c13$o2$others" 0 'same for 2 steps\nexited at 1: r0 0x7\n' '' diff --object --other-mem context text.o
 wants "$plain$e26$c13$o2$j2" 0 'exited at 1: r0 0x7\nit was reached 2 moves back\n' '' whynot --object text.o 0
 wants "$plain$e26$c13$o2$j2" 0 'exited at 1: r0 0x7\nit was reached 2 moves back\n' '' whynot --object text.o entry
 wants "$plain$e26$c13$o2$j2" 0 '' '' debug --journal 1024 --object text.o
