@@ -258,7 +258,8 @@ squeezed() {
             "$wanted",*,) cmp -s whole found/out && continue ;;
             127,3???,*) continue ;;
             2,50000,*) ;;
-            2,*,'out of memory' | 2,*,'refused '[ACEOJ]*': out of memory') [ -s found/out ] || continue ;;
+            2,*,'out of memory' | 2,*,'refused '[ACEOJ]*': out of memory' | 2,*,'refused '[ACO]*': out of memory (the other run)')
+                [ -s found/out ] || continue ;;
         esac
         complain "bpfdb $* in $room kB: status $found, $(wc -c < found/out) bytes of output, on standard error '$line'"
     done
@@ -267,6 +268,8 @@ squeezed() {
 # Each subcommand: where there is hardly room to load the program, a small thing, and the greatest where there is more. (The steps are small there, since the stack
 # takes address space, too: what needs more of it than is left would be ended by a signal, between where the program can be loaded and where all fits.)
 printf 'loop: add r0, 1\njlt r0, 3, loop\nexit\n' > count.s
+printf 'loop: add r0, 2\njlt r0, 3, loop\nexit\n' > further.s
+{ head -c 524264 longest; printf '\7\0\0\0\2\0\0\0\225\0\0\0\0\0\0\0'; } > other-end
 printf 'continue\n' > path
 little=$(seq 3000 25 4000)
 # (the stacks of gdb and of origin behind a script grow by more than the others', and what is left of 4,375 kB or so hasn't room for that)
@@ -296,6 +299,7 @@ little|path|run --object calls.o
 little|path|link overrun.o
 little|path|link --joined --with calls.o overrun.o
 little|path|origin --journal 1024 --listing count.s
+little|path|diff --journal 1024 --listing count.s further.s
 grown|path|origin --journal 1024 --script path --listing count.s
 grown|asked|gdb --journal 1024 --listing count.s
 more|path|run -m context --maps $sixteen longest
@@ -308,5 +312,7 @@ more|path|run --object -m context longest.o
 more|path|asm labels.s
 more|path|run --listing line.s
 more|path|origin -m context --maps $sixteen --journal 16777216 longest
+more|path|diff -m context --maps $sixteen --journal 16777216 longest other-end
+more|path|diff --writes -m context --maps $sixteen --journal 16777216 longest other-end
 more|asked|gdb -m context --maps $sixteen --journal 16777216 longest
 ROWS
