@@ -7,6 +7,8 @@ yes 'add r0, 1' | head -n 65534 > longest.s
 echo exit >> longest.s
 yes "$(printf '\7\1\1\1\2\1\1')" | tr '\1\2\n' '\0\1\0' | head -c 524272 > longest
 printf '\225\0\0\0\0\0\0\0' >> longest
+# (the same, but that it adds 2 at last)
+{ head -c 524264 longest; printf '\7\0\0\0\2\0\0\0\225\0\0\0\0\0\0\0'; } > other-end
 yes "$(printf '\377')" | tr '\n' '\252' | head -c 65536 > context
 
 # output NAME FILE ARGUMENT..: the program's output is that of the file, nothing is on standard error, and the status is 0.
@@ -180,6 +182,21 @@ many=$(printf ' --with calls.o%.0s' 1 2 3 4 5 6 7 8 9 10 11 12 13 14 15 16)
 object text
 { head -c 344 text.o; printf '\300\001\0\0\0\0\0\0\370\377\007\0\0\0\0\0'; tail -c +361 text.o; cat longest; } > longest.o
 cp "$parts/suites/cells.test" "$parts/suites/alone.test" .
+# parted: what is wanted of the longest program and of the one that adds 2 at last: 1,000 lines of moves of each.
+parted() {
+    awk 'BEGIN {
+        print "step 65534 wrote otherwise\n< 65534 65533: add r0, 1; r0 = 0xfffe\n> 65534 65533: add r0, 2; r0 = 0xffff"
+        print "< exited at 65534: r0 0xfffe\n> exited at 65534: r0 0xffff"
+        for (run = 1; run <= 2; run++) {
+            mark = run == 1 ? "<" : ">"
+            printf "%s at 65534: exit\n%s -1 r0 = 0x%x; 65533: add r0, %d; from r0\n", mark, mark, 65533 + run, run
+            for (i = 2; i <= 1000; i++) printf "%s -%d r0 = 0x%x; %d: add r0, 1; from r0\n", mark, i, 65535 - i, 65534 - i
+            print mark " cut: there are more lines"
+        }
+    }' > wanted/out
+    : > wanted/err
+    echo 1 > wanted/status
+}
 (
     ulimit -s 256
     result '0xfffe\n' run -m context --maps $sixteen longest
@@ -207,6 +224,9 @@ cp "$parts/suites/cells.test" "$parts/suites/alone.test" .
     done
     result '0xfffe\n' run --object -m context longest.o
     whence 'origin with 256 kB of stack'
+    parted
+    run diff -m context --maps $sixteen --journal 16777216 longest other-end
+    compare 'diff with 256 kB of stack'
     echo continue > path
     result 'at 0: ja L0\nleft r0 = 0x0; at the opening\n' origin --steps 9 --script path endless
     : > script
@@ -269,7 +289,6 @@ squeezed() {
 # takes address space, too: what needs more of it than is left would be ended by a signal, between where the program can be loaded and where all fits.)
 printf 'loop: add r0, 1\njlt r0, 3, loop\nexit\n' > count.s
 printf 'loop: add r0, 2\njlt r0, 3, loop\nexit\n' > further.s
-{ head -c 524264 longest; printf '\7\0\0\0\2\0\0\0\225\0\0\0\0\0\0\0'; } > other-end
 printf 'continue\n' > path
 little=$(seq 3000 25 4000)
 # (the stacks of gdb and of origin behind a script grow by more than the others', and what is left of 4,375 kB or so hasn't room for that)
