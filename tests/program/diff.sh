@@ -226,6 +226,16 @@ tells 1 'step 1 wrote otherwise\n< 1 0: ldxb r0, [r10+0]\n> 1 0: ldxb r0, [r10-1
     diff --listing bad-frame.s good-frame.s
 tells 1 'step 1 wrote otherwise\n< 1 0: call 1\n> 1 0: mov r0, 1; r0 = 0x1\nstep 2 is in one run alone\n> 2 1: exit\n< fault token 0x0 at 0\n> exited at 1: r0 0x1\n> at 1: exit\n> -1 r0 = 0x1; 0: mov r0, 1\n' \
     diff --listing token.s one.s
+# In a function that was called: r6 that it had from its caller makes the bad address; a call that is too deep writes nothing.
+listing passed.s 'mov r6, 9;callf f;exit;f: ldxb r0, [r6+0];exit'
+listing own.s 'mov r6, 9;callf f;exit;f: ldxb r0, [r10-1];exit'
+tells 1 'step 3 wrote otherwise\n< 3 3: ldxb r0, [r6+0]\n> 3 3: ldxb r0, [r10-1]; r0 = 0x0\nstep 4 is in one run alone\n> 4 4: exit\n< fault access 0x9 at 3\n> exited at 2: r0 0x0\n< fault access 0x9 at 3\n< -3 r6 = 0x9; 0: mov r6, 9\n> at 4: exit\n> -1 r0 = 0x0; 3: ldxb r0, [r10-1]; from 0x2000005ff:1\n> -2 0x200000400:512; 1: callf L3; not written since the call\n' \
+    diff --listing passed.s own.s
+calls='callf a;exit;a: callf b;exit;b: callf c;exit;c: callf d;exit;d: callf e;exit;e: callf f;exit;f: callf g;exit'
+listing eighth.s "$calls;g: callf g;exit"
+listing seventh.s "$calls;g: mov r0, 1;exit"
+tells 1 'step 8 wrote otherwise\n< 8 14: callf L14\n> 8 14: mov r0, 1; r0 = 0x1\nstep 9 is in one run alone\n> 9 15: exit\n< fault depth at 14\n> exited at 1: r0 0x1\n> at 15: exit\n> -1 r0 = 0x1; 14: mov r0, 1\n' \
+    diff --listing eighth.s seventh.s
 # Lines that are cut, of each run by itself; the registers that make addresses; a journal that keeps each move, and one that drops the first one: 43 rounds
 # of 23 bytes and 16 more fit, 44 don't.
 tells 1 "$sum< at 3: exit\n< -1 r0 = 0x6; 2: add r0, 3; from r0\n< -2 r0 = 0x3; 1: add r0, 2; from r0\n< cut: there are more lines\n> at 3: exit\n> -1 r0 = 0x7; 2: add r0, 4; from r0\n> -2 r0 = 0x3; 1: add r0, 2; from r0\n> cut: there are more lines\n" \
@@ -293,6 +303,10 @@ tells 1 '0x100000001:1 ends otherwise: none, 0x1\n< not written\n> 1 0: stb [r1+
     diff --writes --listing -m four --other-mem longer behind.s
 tells 1 'r0 ends otherwise: 0x1, 0x2\n< 1 0: mov r0, 1; r0 = 0x1\n> 1 0: mov r0, 2; r0 = 0x2\n< exited at 1: r0 0x1\n> exited at 1: r0 0x2\n< at 1: exit\n< -1 r0 = 0x1; 0: mov r0, 1\n> at 1: exit\n> -1 r0 = 0x2; 0: mov r0, 2\n' \
     diff --writes --listing one.s two.s
+listing inside.s 'callf f;exit;f: mov r0, 1;mov r6, 3;exit'
+listing other-inside.s 'callf f;exit;f: mov r0, 2;mov r6, 3;exit'
+tells 1 'r0 ends otherwise: 0x1, 0x2\n< 2 2: mov r0, 1; r0 = 0x1\n> 2 2: mov r0, 2; r0 = 0x2\n< exited at 1: r0 0x1\n> exited at 1: r0 0x2\n< at 3: mov r6, 3\n< -1 r0 = 0x1; 2: mov r0, 1\n> at 3: mov r6, 3\n> -1 r0 = 0x2; 2: mov r0, 2\n' \
+    diff --writes --listing inside.s other-inside.s
 tells 1 'r0 ends otherwise: 0x0, 0x1\n< not written\n> 1 0: mov r0, 1; r0 = 0x1\n< exited at 0: r0 0x0\n> exited at 1: r0 0x1\n< at 0: exit\n< left r0 = 0x0; at the opening\n> at 1: exit\n> -1 r0 = 0x1; 0: mov r0, 1\n' \
     diff --writes --listing end.s one.s
 
