@@ -10,8 +10,8 @@ use Rattle.bpf_suite.specs.Bodies.{trimmed}
 use Rattle.bpf_suite.specs.Faults.{has_part}
 use Rattle.bpf_suite.specs.Outcomes.{Comes, Outcome, outcome_text}
 use Rattle.bpf_suite.specs.Shown.{quoted}
-use Rattle.bpf_suite.specs.Tests.{first_line, section_for, setting, title}
-use Rattle.bpf_suite.specs.Verdicts.{cell_size, expected_text, is_left, lead, passes, wrong_cells}
+use Rattle.bpf_suite.specs.Tests.{expected, first_line, setting, title}
+use Rattle.bpf_suite.specs.Verdicts.{cell_size, expected_text, lead, passes, wrong_cells}
 use Rattle.bpf_suite.specs.declared.cells.CellLine.{CellLine}
 use Rattle.bpf_suite.specs.declared.kind.Part.TheVariants as part
 use Rattle.bpf_suite.specs.declared.report.SuiteFault.{SuiteFault}
@@ -25,7 +25,7 @@ plan n = codes "1.." ++ decimal n ++ codes "\n"
 
 -- What is said of a test that fails.
 abbrev pub wanted_outcome : List Section → List ℕ
-wanted_outcome test = option_map_or (λ section. expected_text section.kind section.body) (section_for part.Expected test) []
+wanted_outcome test = option_map_or expected_text (expected test) []
 
 abbrev pub also : Bool → List ℕ → List ℕ
 also true text = text
@@ -62,11 +62,6 @@ cells_text wrong (Err refusal) = []
 pub record AreTold (wrong : List CellLine) (told : WrongCells) : Type 0 where
   pub first : told.told.items ≡ take most_told wrong
   pub more : told.more ≡ length wrong - most_told
-
--- What is seen of what a test leaves: whether its context is the one that it expects, and which of its cells are wrong.
-pub record IsSeen (test : List Section) (outcome : Outcome) (left : Bool) (wrong : WrongCells) : Type 0 where
-  pub context : left ≡ is_left test outcome
-  pub cells : AreTold (wrong_cells test outcome) wrong
 
 -- The line to be typed that makes files of a test's parts and says how it is debugged: by the name of its file, and its own.
 unfoldable pub show_line : List ℕ → List ℕ → List ℕ

@@ -4,11 +4,12 @@ use Rattle.std.specs.Str.{bytes_eq}
 use Rattle.std.specs.Option.{option_map, option_map_or, option_and_then}
 use Rattle.std.specs.Prelude.{unwrap_or}
 use Rattle.bpfdb_limits.specs.Limits.{default_limit}
-use Rattle.bpf_suite.specs.Bodies.{bytes_of, limit_of, trimmed}
+use Rattle.bpf_suite.specs.Bodies.{bytes_of, limit_of, number_of, trimmed}
 use Rattle.bpf_suite.specs.Cells.{cells_of}
 use Rattle.bpf_suite.specs.Kinds.{is_part}
 use Rattle.bpf_suite.specs.Regs.{last_lines, reg_lines}
 use Rattle.bpf_suite.specs.declared.cells.Cell.{Cell}
+use Rattle.bpf_suite.specs.declared.expected.Expectation.{Expectation}
 use Rattle.bpf_suite.specs.declared.kind.Kind.{Kind}
 use Rattle.bpf_suite.specs.declared.kind.Kind.TheVariants as kind
 use Rattle.bpf_suite.specs.declared.kind.Part.{Part}
@@ -91,6 +92,13 @@ setting sections = record {
 -- The same with another limit of steps.
 abbrev pub limited : ℕ → Setting → Setting
 limited n t = record t { limit = n }
+
+-- What it expects: an outcome of a kind, by the text of its section without spaces around it, and by the number that this is, if it is one.
+abbrev pub expectation_of : Section → Expectation
+expectation_of section = record { kind = section.kind; text = trimmed section.body; number = number_of section.body }
+
+abbrev pub expected : List Section → Option Expectation
+expected sections = option_map expectation_of (section_for part.Expected sections)
 
 -- The line of the section in which its program stands.
 abbrev pub program_line : List Section → ℕ

@@ -10,13 +10,14 @@ use Rattle.bpf_entries.specs.declared.status.Fault.{Fault}
 use Rattle.bpf_entries.specs.declared.status.Fault.TheVariants as fault
 use Rattle.bpf_entries.specs.declared.status.Status.{Status}
 use Rattle.bpf_entries.specs.declared.status.Status.TheVariants as status
-use Rattle.bpf_suite.specs.Bodies.{fits, number_of, solid, trimmed}
+use Rattle.bpf_suite.specs.Bodies.{fits, solid}
 use Rattle.bpf_suite.specs.Cells.{cell_lines}
 use Rattle.bpf_suite.specs.Faults.{has_part}
 use Rattle.bpf_suite.specs.Kinds.{word_of}
 use Rattle.bpf_suite.specs.Outcomes.{Outcome, outcome_text}
-use Rattle.bpf_suite.specs.Tests.{body_for, context, section_for}
+use Rattle.bpf_suite.specs.Tests.{body_for, context, expected, section_for}
 use Rattle.bpf_suite.specs.declared.cells.CellLine.{CellLine}
+use Rattle.bpf_suite.specs.declared.expected.Expectation.{Expectation}
 use Rattle.bpf_suite.specs.declared.kind.Kind.{Kind}
 use Rattle.bpf_suite.specs.declared.kind.Kind.TheVariants as kind
 use Rattle.bpf_suite.specs.declared.kind.Part.TheVariants as part
@@ -28,8 +29,8 @@ lead front [] = []
 lead front (b ∷ s) = front
 
 -- What is expected, as it is printed: its word, and what stands in its section.
-abbrev pub expected_text : Kind → List ℕ → List ℕ
-expected_text k body = word_of k ++ lead (codes " ") (trimmed body) ++ trimmed body
+abbrev pub expected_text : Expectation → List ℕ
+expected_text e = word_of e.kind ++ lead (codes " ") e.text ++ e.text
 
 abbrev pub begins : List ℕ → List ℕ → Bool
 begins s front = starts_with (λ a b. a == b) s front
@@ -41,7 +42,7 @@ is_stop (b ∷ s) = begins (b ∷ s) (codes " at ") || begins (b ∷ s) (codes "
 
 -- A text is printed, with or without a place and a text behind it.
 abbrev pub tells : List ℕ → List ℕ → Bool
-tells expected told = begins told expected && is_stop (drop (length expected) told)
+tells text told = begins told text && is_stop (drop (length text) told)
 
 -- The program exited with a number in r0.
 abbrev pub has_exited : Status → Bool
@@ -64,24 +65,27 @@ fault_text middle pc = codes "fault" ++ middle ++ codes " at " ++ decimal pc
 
 -- A text tells of the fault at a slot by its kind alone, or tells of any.
 abbrev pub tells_fault : List ℕ → Status → ℕ → Bool
-tells_fault expected (status.Faulted f) pc = tells expected (fault_text (kind_of_fault f) pc) || tells expected (fault_text [] pc)
-tells_fault expected _ pc = false
+tells_fault text (status.Faulted f) pc = tells text (fault_text (kind_of_fault f) pc) || tells text (fault_text [] pc)
+tells_fault text _ pc = false
 
 abbrev pub tells_kind : List ℕ → Outcome → Bool
-tells_kind expected (Ok x) = tells_fault expected x.status x.pc
-tells_kind expected (Err refusal) = false
+tells_kind text (Ok x) = tells_fault text x.status x.pc
+tells_kind text (Err refusal) = false
 
 -- A result is compared as a number, any other outcome as it is printed; of a fault the number, or number and kind, may be left out.
-abbrev pub tells_outcome : Kind → List ℕ → Outcome → Bool
-tells_outcome k body outcome = tells (expected_text k body) (outcome_text outcome)
+abbrev pub tells_outcome : Expectation → Outcome → Bool
+tells_outcome e outcome = tells (expected_text e) (outcome_text outcome)
 
-abbrev pub meets : Kind → List ℕ → Outcome → Bool
-meets kind.Result body outcome = option_map_or (λ n. results n outcome) (number_of body) false
-meets kind.Fault body outcome = tells_outcome kind.Fault body outcome || tells_kind (expected_text kind.Fault body) outcome
-meets k body outcome = tells_outcome k body outcome
+abbrev pub meets_as : Kind → Expectation → Outcome → Bool
+meets_as kind.Result e outcome = option_map_or (λ n. results n outcome) e.number false
+meets_as kind.Fault e outcome = tells_outcome e outcome || tells_kind (expected_text e) outcome
+meets_as _ e outcome = tells_outcome e outcome
+
+abbrev pub meets : Expectation → Outcome → Bool
+meets e outcome = meets_as e.kind e outcome
 
 abbrev pub is_met : List Section → Outcome → Bool
-is_met test outcome = option_map_or (λ section. meets section.kind section.body outcome) (section_for part.Expected test) false
+is_met test outcome = option_map_or (λ e. meets e outcome) (expected test) false
 
 -- The bytes of a context of n bytes, where the program has ended.
 abbrev pub context_after : ℕ → State → List ℕ

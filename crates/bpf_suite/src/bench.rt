@@ -12,7 +12,7 @@ ghost use Rattle.bpf_suite.specs.Outcomes.{Comes, Reads};
 ghost use Rattle.bpf_suite.specs.Reports.{AreTold};
 ghost use Rattle.bpf_suite.specs.Stocks.{Brings, IsToBring};
 ghost use Rattle.bpf_suite.specs.Tests.{body_for, limit, limited, program_line, setting};
-ghost use Rattle.bpf_suite.specs.Verdicts.{is_left, wrong_cells};
+ghost use Rattle.bpf_suite.specs.Verdicts.{wrong_cells};
 ghost use Rattle.bpf_suite.specs.declared.cells.Cell.{Cell};
 ghost use Rattle.bpf_suite.specs.declared.kind.Part.TheVariants as part;
 ghost use Rattle.bpf_suite.specs.declared.section.Section.{Section};
@@ -22,14 +22,13 @@ use crate::ending::Wanted;
 use crate::image::{Image, image_for};
 use crate::kind::Part;
 use crate::outcome::{loaded, outcome_by_image, outcome_on};
-use crate::reading::{Reading, place_of, test_of};
+use crate::reading::{ReadTest, Reading, place_of};
 use crate::refusal::Refusal;
 use crate::section::{Section, Text, are_same};
 use crate::setting::{Setting, setting_of};
 use crate::stock::Stock;
-use crate::test::{Test, has_part, lines_in};
+use crate::test::{has_part, lines_in};
 use crate::values::{WrongCells, wrong_cells};
-use crate::verdict::is_left;
 use crate::words::{Words, words_of};
 use bpf_cover::Coverage;
 use bpf_isa::Program;
@@ -89,17 +88,13 @@ impl<'b, 'a> Bench<'b, 'a> {
     }
 
     /// A test with these sections of its own.
-    pub fn test(&self, own: &Reading<'b, 'a>) -> Test<'b, 'a>
+    pub fn test<'x>(&'x self, own: &'x Reading<'b, 'a>) -> ReadTest<'x, 'b, 'a>
         ensures { result ≡ own.now ++ self.now.sections }
     {
-        test_of(own, &self.shared)
-    }
-
-    /// Whether the context that a test leaves is what it expects.
-    pub fn is_left(&self, own: &Reading<'b, 'a>, outcome: &Result<Cpu, Refusal>) -> bool
-        ensures { result ≡ is_left (own.now ++ self.now.sections) outcome.now }
-    {
-        is_left(own, &self.shared, outcome)
+        ReadTest {
+            own,
+            shared: &self.shared,
+        }
     }
 
     /// The machine, or why there is none.
@@ -176,7 +171,7 @@ impl<'b, 'a> Bench<'b, 'a> {
     pub fn program_line(&self, own: &Reading<'b, 'a>) -> usize
         ensures { result ≡ program_line (own.now ++ self.now.sections) }
     {
-        self.test(own).program_line()
+        self.test(own).sections().program_line()
     }
 
     /// Runs a test of the shared program from its first step on, and marks what runs, for which memory

@@ -6,6 +6,7 @@ mod body;
 mod cells;
 mod cover;
 mod ending;
+mod expected;
 mod fault;
 mod image;
 mod kind;

@@ -3,11 +3,12 @@ ghost use Rattle.std.specs.Prelude.{◌≡◌, ◌++◌, IfOk};
 ghost use Rattle.bpf_suite.specs.Bodies.{solid};
 ghost use Rattle.bpf_suite.specs.Cells.{cell_lines};
 ghost use Rattle.bpf_suite.specs.Regs.{last_lines};
-ghost use Rattle.bpf_suite.specs.Tests.{body_for, context, limit, maps, program, regs, section_for};
+ghost use Rattle.bpf_suite.specs.Tests.{body_for, context, expected, limit, maps, program, regs, section_for};
 ghost use Rattle.bpf_suite.specs.declared.kind.Part.TheVariants as part;
 
 use crate::body::solid;
 use crate::cells::CellLine;
+use crate::expected::Expectation;
 use crate::kind::Part;
 use crate::regs::{RegLine, last_lines, reg_lines};
 use crate::section::{Section, Text, copied};
@@ -30,6 +31,8 @@ pub struct Reading<'b, 'a> {
     regs: Vec<RegLine>,
     /// The most steps.
     limit: u64,
+    /// The outcome.
+    expected: Option<Expectation<'a>>,
     /// The digits of what the context is to be at the end, without spaces.
     digits: Vec<u8>,
 }
@@ -44,7 +47,7 @@ impl<'b, 'a> Model for Reading<'b, 'a> {
     ghost view = { λ r. r.sections.now };
 
     ghost invariant = { λ r. IsReading r.sections.now r.maps r.program.items r.context.items
-        r.cells.items r.regs.items r.limit r.digits.items };
+        r.cells.items r.regs.items r.limit r.expected r.digits.items };
 }
 
 impl<'b, 'a> Reading<'b, 'a> {
@@ -70,6 +73,7 @@ impl<'b, 'a> Reading<'b, 'a> {
             cells,
             regs,
             limit: test.limit(),
+            expected: test.expected(),
             digits,
         })
     }
@@ -123,11 +127,58 @@ impl<'b, 'a> Reading<'b, 'a> {
         self.limit
     }
 
+    /// The outcome that they expect, if they expect one.
+    pub fn expected(&self) -> &Option<Expectation<'a>>
+        ensures { result.now ≡ expected self.now }
+    {
+        &self.expected
+    }
+
     /// The digits of what they expect of the context at the end.
     pub fn digits(&self) -> &[u8]
         ensures { result.now ≡ solid (body_for part.After self.now) }
     {
         self.digits.as_slice()
+    }
+}
+
+/// A test, by what was read of its own sections and of those that it shares. Contracts see the
+/// sections.
+#[derive(Drop)]
+pub struct ReadTest<'x, 'b, 'a> {
+    pub own: &'x Reading<'b, 'a>,
+    pub shared: &'x Reading<'b, 'a>,
+}
+
+impl<'x, 'b, 'a> Model for ReadTest<'x, 'b, 'a> {
+    ghost use Rattle.std.specs.Prelude.{List, ◌++◌};
+    ghost use Rattle.bpf_suite.specs.declared.section.Section.{Section};
+
+    ghost Value = { List Section };
+
+    ghost view = { λ t. t.own.now ++ t.shared.now };
+}
+
+impl<'x, 'b, 'a> ReadTest<'x, 'b, 'a> {
+    /// Its sections.
+    pub fn sections(&self) -> Test<'b, 'a>
+        ensures { result ≡ self.now }
+    {
+        test_of(self.own, self.shared)
+    }
+
+    /// Where a part of it stands.
+    pub fn place(&self, part: Part) -> &'x Reading<'b, 'a>
+        ensures { section_for part result.now ≡ section_for part self.now }
+    {
+        place_of(part, self.own, self.shared)
+    }
+
+    /// The outcome that it expects, if it expects one.
+    pub fn expected(&self) -> &'x Option<Expectation<'a>>
+        ensures { result.now ≡ expected self.now }
+    {
+        self.place(Part::Expected).expected()
     }
 }
 

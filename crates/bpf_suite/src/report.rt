@@ -3,7 +3,7 @@ ghost use Rattle.std.specs.Prelude.{◌≡◌, ◌&&◌, ◌++◌, List, [], IfE
 ghost use Rattle.counted_io.specs.Writing.{Writes, WritesAfter};
 ghost use Rattle.bpf_suite.specs.Files.{with_shared};
 ghost use Rattle.bpf_suite.specs.Outcomes.{Comes, Outcome};
-ghost use Rattle.bpf_suite.specs.Reports.{AreOutcomes, AreTold, BreaksAt, BreaksOff, IsSeen, all_pass, also, diagnosis, plan, report_text, show_line, test_text, tests_text, verdict_word, wanted, wanted_outcome};
+ghost use Rattle.bpf_suite.specs.Reports.{AreOutcomes, AreTold, BreaksAt, BreaksOff, all_pass, also, diagnosis, plan, report_text, show_line, test_text, tests_text, verdict_word, wanted, wanted_outcome};
 ghost use Rattle.bpf_suite.specs.Tests.{setting};
 ghost use Rattle.bpf_suite.specs.Verdicts.{passes, wrong_cells};
 
@@ -11,10 +11,9 @@ use crate::bench::{Bench, shares_program};
 use crate::kind::Part;
 use crate::list::{Own, TestList};
 use crate::outcome::put_outcome;
-use crate::reading::Reading;
+use crate::reading::{ReadTest, Reading};
 use crate::refusal::Refusal;
 use crate::shown::put_quoted;
-use crate::test::Test;
 use crate::values::{WrongCells, put_cells};
 use crate::verdict::{lead, passes, put_expected};
 use bpf_machine::Cpu;
@@ -181,17 +180,7 @@ fn tell_here<'b, 'a, W: Write>(
     match bench.wrong_here(alloc, own) {
         Ok(wrong) => {
             let test = bench.test(own);
-            let left = bench.is_left(own, bench.machine());
-            say(
-                alloc,
-                file,
-                &test,
-                bench.machine(),
-                left,
-                &wrong,
-                number,
-                writer,
-            )
+            say(alloc, file, &test, bench.machine(), &wrong, number, writer)
         }
         Err(_) => Err(SuiteFault::Memory),
     }
@@ -219,34 +208,31 @@ fn tell<'b, 'a, W: Write>(
     match bench.wrong_cells(alloc, own, outcome) {
         Ok(wrong) => {
             let test = bench.test(own);
-            let left = bench.is_left(own, outcome);
-            say(alloc, file, &test, outcome, left, &wrong, number, writer)
+            say(alloc, file, &test, outcome, &wrong, number, writer)
         }
         Err(_) => Err(SuiteFault::Memory),
     }
 }
 
-/// Says what a test came to, where it is known whether the context is left that it expects, and
-/// which cells are wrong. Answers whether it passed.
+/// Says what a test came to, where it is known which cells are wrong. Answers whether it passed.
 fn say<W: Write>(
     alloc: Global,
     file: &[u8],
-    test: &Test<'_, '_>,
+    test: &ReadTest<'_, '_, '_>,
     outcome: &Result<Cpu, Refusal>,
-    left: bool,
     wrong: &WrongCells<'_>,
     number: u64,
     writer: &mut Counted<W>,
 ) -> Result<bool, SuiteFault>
     requires comes { Comes (setting test.now) outcome.now }
-    requires seen { IsSeen test.now outcome.now left wrong.now }
+    requires wrong { AreTold (wrong_cells test.now outcome.now) wrong.now }
     ensures ok { IfOk result (λ passed. (passed ≡ passes test.now outcome.now)
         × Writes W.contents writer.old writer.new result
         (test_text file.now number test.now outcome.now)) }
     ensures err { IfErr result (λ why. BreaksAt W.contents why writer.old writer.new file.now number
         test.now) }
 {
-    let passed = match passes(alloc, test, outcome, left, wrong) {
+    let passed = match passes(alloc, test, outcome, wrong) {
         Ok(passed) => passed,
         Err(_) => return Err(SuiteFault::Memory),
     };
@@ -262,7 +248,7 @@ fn write_test<W: Write>(
     file: &[u8],
     passed: bool,
     number: u64,
-    test: &Test<'_, '_>,
+    test: &ReadTest<'_, '_, '_>,
     outcome: &Result<Cpu, Refusal>,
     wrong: &WrongCells<'_>,
 ) -> Result<(), WriteFault>
@@ -271,7 +257,7 @@ fn write_test<W: Write>(
         (report_text file.now passed number test.now outcome.now) }
 {
     let word = verdict_word(passed);
-    let title = test.title();
+    let title = test.sections().title();
     let dash = lead(b" - ", title);
     let pieces = [
         Piece::Text(word),
@@ -300,7 +286,7 @@ fn put_diagnosis<W: Write>(
     writer: &mut Counted<W>,
     so_far: Result<(), WriteFault>,
     file: &[u8],
-    test: &Test<'_, '_>,
+    test: &ReadTest<'_, '_, '_>,
     outcome: &Result<Cpu, Refusal>,
     wrong: &WrongCells<'_>,
 ) -> Result<(), WriteFault>
@@ -308,7 +294,8 @@ fn put_diagnosis<W: Write>(
     ensures { WritesAfter W.contents writer.old so_far writer.new result
         (diagnosis file.now test.now outcome.now) }
 {
-    let line = test.first_line() as u64;
+    let sections = test.sections();
+    let line = sections.first_line() as u64;
     let pieces = [
         Piece::Text(b"# the test in line "),
         Piece::Decimal(line),
@@ -319,7 +306,7 @@ fn put_diagnosis<W: Write>(
     let followed = put(writer, told, b"\n# wanted: ");
     let said = put_wanted(writer, followed, test);
     let celled = put_cells(writer, said, outcome, wrong);
-    put_show_line(writer, celled, file, test.title())
+    put_show_line(writer, celled, file, sections.title())
 }
 
 /// Writes the line to be typed that makes files of a test's parts, by its name and its file's.
@@ -343,13 +330,14 @@ fn put_show_line<W: Write>(
 fn put_wanted<W: Write>(
     writer: &mut Counted<W>,
     so_far: Result<(), WriteFault>,
-    test: &Test<'_, '_>,
+    test: &ReadTest<'_, '_, '_>,
 ) -> Result<(), WriteFault>
     ensures { WritesAfter W.contents writer.old so_far writer.new result (wanted test.now) }
 {
     let begun = put_wanted_outcome(writer, so_far, test);
-    let context = also(test.has(Part::After), b", and mem-after");
-    let cells = also(test.has(Part::CellsAfter), b", and map-after");
+    let sections = test.sections();
+    let context = also(sections.has(Part::After), b", and mem-after");
+    let cells = also(sections.has(Part::CellsAfter), b", and map-after");
     let pieces = [Piece::Text(context), Piece::Text(cells), Piece::Text(b"\n")];
     put_all(writer, begun, &pieces)
 }
@@ -358,13 +346,13 @@ fn put_wanted<W: Write>(
 fn put_wanted_outcome<W: Write>(
     writer: &mut Counted<W>,
     so_far: Result<(), WriteFault>,
-    test: &Test<'_, '_>,
+    test: &ReadTest<'_, '_, '_>,
 ) -> Result<(), WriteFault>
     ensures { WritesAfter W.contents writer.old so_far writer.new result
         (wanted_outcome test.now) }
 {
-    match test.section(Part::Expected) {
-        Some(section) => put_expected(writer, so_far, section.kind, section.text()),
+    match test.expected() {
+        Some(expected) => put_expected(writer, so_far, expected),
         None => put(writer, so_far, b""),
     }
 }

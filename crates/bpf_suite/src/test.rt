@@ -3,11 +3,12 @@ ghost use Rattle.std.specs.Prelude.{◌≡◌, ◌++◌, IfOk, [], unwrap_or};
 ghost use Rattle.std.specs.Option.{option_map};
 ghost use Rattle.bpf_suite.specs.Bodies.{bytes_of, trimmed};
 ghost use Rattle.bpf_suite.specs.Cells.{cell_lines as cell_lines_of};
-ghost use Rattle.bpf_suite.specs.Tests.{body_for, context, first_line, has_listing, is_listing, is_named, limit, maps, program, program_line, section_for, text_or_bytes, title};
+ghost use Rattle.bpf_suite.specs.Tests.{body_for, context, expected, first_line, has_listing, is_listing, is_named, limit, maps, program, program_line, section_for, text_or_bytes, title};
 ghost use Rattle.bpf_suite.specs.Faults.{has_part, lack};
 
 use crate::body::{bytes_of, limit_of, trimmed};
 use crate::cells::{CellLine, cell_lines};
+use crate::expected::{Expectation, expectation_of};
 use crate::fault::SectionFault;
 use crate::kind::{Kind, Part};
 use crate::section::{Section, Text};
@@ -182,6 +183,13 @@ impl<'b, 'a> Test<'b, 'a> {
         ensures { result ≡ maps self.now }
     {
         trimmed_body(self.section(Part::Maps))
+    }
+
+    /// What it expects.
+    pub fn expected(&self) -> Option<Expectation<'a>>
+        ensures { result ≡ expected self.now }
+    {
+        expectation_of(self.section(Part::Expected))
     }
 
     /// The line of the section in which its program stands.

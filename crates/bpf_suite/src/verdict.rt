@@ -1,19 +1,17 @@
 //! Whether a test passes.
-ghost use Rattle.std.specs.Prelude.{◌≡◌, ◌++◌, IfOk, false};
+ghost use Rattle.std.specs.Prelude.{◌≡◌, ◌||◌, IfOk, false};
 ghost use Rattle.std.specs.Option.{option_map_or};
 ghost use Rattle.counted_io.specs.Writing.{WritesAfter};
-ghost use Rattle.bpf_suite.specs.Bodies.{number_of};
 ghost use Rattle.bpf_suite.specs.Outcomes.{outcome_text};
-ghost use Rattle.bpf_suite.specs.Reports.{AreTold, IsSeen};
-ghost use Rattle.bpf_suite.specs.Verdicts.{cells_left, context_after, expected_text, fault_text, has_exited, is_left, is_met, is_stop, kind_of_fault, lead, leaves, meets, passes, results, tells, tells_fault, tells_outcome, wrong_cells};
-ghost use Rattle.bpf_suite.specs.declared.kind.Kind.TheVariants as kinds;
+ghost use Rattle.bpf_suite.specs.Reports.{AreTold};
+ghost use Rattle.bpf_suite.specs.Verdicts.{cells_left, context_after, expected_text, fault_text, has_exited, is_left, is_met, is_stop, kind_of_fault, lead, leaves, meets, passes, results, tells, tells_fault, tells_kind, tells_outcome, wrong_cells};
 
-use crate::body::{fits, number_of, trimmed};
+use crate::body::fits;
+use crate::expected::Expectation;
 use crate::kind::{Kind, Part};
 use crate::outcome::put_outcome;
-use crate::reading::{Reading, place_of, test_of};
+use crate::reading::ReadTest;
 use crate::refusal::Refusal;
-use crate::test::Test;
 use crate::values::WrongCells;
 use bpf_machine::{Cpu, Fault, Status};
 use bpfdb_script::number_in;
@@ -24,60 +22,58 @@ use std::io::Write;
 /// The address of the context's first byte.
 const CONTEXT_BASE: u64 = 0x1_0000_0000;
 
-/// Whether a test passes with this outcome, where it is known whether the context is left that it
-/// expects, and which cells are wrong.
+/// Whether a test passes with this outcome, where it is known which cells are wrong.
 pub fn passes(
     alloc: Global,
-    test: &Test<'_, '_>,
+    test: &ReadTest<'_, '_, '_>,
     outcome: &Result<Cpu, Refusal>,
-    left: bool,
     wrong: &WrongCells<'_>,
 ) -> Result<bool, AllocError>
-    requires { IsSeen test.now outcome.now left wrong.now }
+    requires { AreTold (wrong_cells test.now outcome.now) wrong.now }
     ensures { IfOk result (λ passed. passed ≡ passes test.now outcome.now) }
 {
     let met = is_met(alloc, test, outcome)?;
+    let left = is_left(test, outcome);
     Ok(met && left && cells_left(test, outcome, wrong))
 }
 
 /// Whether no cell is wrong, of these.
-fn cells_left(test: &Test<'_, '_>, outcome: &Result<Cpu, Refusal>, wrong: &WrongCells<'_>) -> bool
+fn cells_left(
+    test: &ReadTest<'_, '_, '_>,
+    outcome: &Result<Cpu, Refusal>,
+    wrong: &WrongCells<'_>,
+) -> bool
     requires { AreTold (wrong_cells test.now outcome.now) wrong.now }
     ensures { result ≡ cells_left test.now outcome.now }
 {
     match outcome {
         Ok(_) => wrong.told.is_empty(),
-        Err(_) => !test.has(Part::CellsAfter),
+        Err(_) => !test.sections().has(Part::CellsAfter),
     }
 }
 
 /// Whether an outcome is what a test expects.
 fn is_met(
     alloc: Global,
-    test: &Test<'_, '_>,
+    test: &ReadTest<'_, '_, '_>,
     outcome: &Result<Cpu, Refusal>,
 ) -> Result<bool, AllocError>
     ensures { IfOk result (λ met. met ≡ is_met test.now outcome.now) }
 {
-    match test.section(Part::Expected) {
-        Some(section) => meets(alloc, section.kind, section.text(), outcome),
+    match test.expected() {
+        Some(expected) => meets(alloc, expected, outcome),
         None => Ok(false),
     }
 }
 
-/// Whether the context that is left is what a test expects, by what was read of its own sections and
-/// of those that it shares.
-pub fn is_left(
-    own: &Reading<'_, '_>,
-    shared: &Reading<'_, '_>,
-    outcome: &Result<Cpu, Refusal>,
-) -> bool
-    ensures { result ≡ is_left (own.now ++ shared.now) outcome.now }
+/// Whether the context that is left is what a test expects.
+fn is_left(test: &ReadTest<'_, '_, '_>, outcome: &Result<Cpu, Refusal>) -> bool
+    ensures { result ≡ is_left test.now outcome.now }
 {
-    match test_of(own, shared).section(Part::After) {
+    match test.sections().section(Part::After) {
         Some(_) => {
-            let digits = place_of(Part::After, own, shared).digits();
-            let context = place_of(Part::Context, own, shared).context();
+            let digits = test.place(Part::After).digits();
+            let context = test.place(Part::Context).context();
             leaves(digits, context.len(), outcome)
         }
         None => true,
@@ -108,69 +104,67 @@ pub fn context_after(n: usize, cpu: &Cpu) -> &[u8]
     }
 }
 
-/// Whether an outcome is what a section expects.
+/// Whether an outcome is what is expected.
 fn meets(
     alloc: Global,
-    kind: Kind,
-    body: &[u8],
+    expected: &Expectation<'_>,
     outcome: &Result<Cpu, Refusal>,
 ) -> Result<bool, AllocError>
-    ensures { IfOk result (λ met. met ≡ meets kind body.now outcome.now) }
+    ensures { IfOk result (λ met. met ≡ meets expected.now outcome.now) }
 {
-    match kind {
-        Kind::Result => Ok(meets_number(body, outcome)),
-        Kind::Fault => meets_fault(alloc, body, outcome),
-        _ => tells_outcome(alloc, kind, body, outcome),
+    match expected.kind {
+        Kind::Result => Ok(meets_number(expected.number, outcome)),
+        Kind::Fault => meets_fault(alloc, expected, outcome),
+        _ => tells_outcome(alloc, expected, outcome),
     }
 }
 
-/// Whether an outcome is printed as a section says.
+/// Whether an outcome is printed as is expected.
 fn tells_outcome(
     alloc: Global,
-    kind: Kind,
-    body: &[u8],
+    expected: &Expectation<'_>,
     outcome: &Result<Cpu, Refusal>,
 ) -> Result<bool, AllocError>
-    ensures { IfOk result (λ told. told ≡ tells_outcome kind body.now outcome.now) }
+    ensures { IfOk result (λ told. told ≡ tells_outcome expected.now outcome.now) }
 {
-    let expected = expected_text(alloc, kind, body)?;
+    let text = expected_text(alloc, expected)?;
     let told = outcome_text(alloc, outcome)?;
-    Ok(tells(expected.as_slice(), told.as_slice()))
+    Ok(tells(text.as_slice(), told.as_slice()))
 }
 
-/// Whether an outcome is the fault that a section says, or one of its kind, or any where it says
-/// none.
+/// Whether an outcome is the fault that is expected, or one of its kind, or any where none is said.
 fn meets_fault(
     alloc: Global,
-    body: &[u8],
+    expected: &Expectation<'_>,
     outcome: &Result<Cpu, Refusal>,
 ) -> Result<bool, AllocError>
-    ensures { IfOk result (λ met. met ≡ meets kinds.Fault body.now outcome.now) }
+    ensures { IfOk result (λ met. met ≡ (tells_outcome expected.now outcome.now
+        || tells_kind (expected_text expected.now) outcome.now)) }
 {
-    if tells_outcome(alloc, Kind::Fault, body, outcome)? {
+    if tells_outcome(alloc, expected, outcome)? {
         return Ok(true);
     }
     match outcome {
         Ok(cpu) => {
-            let expected = expected_text(alloc, Kind::Fault, body)?;
-            tells_fault(alloc, expected.as_slice(), cpu.status(), cpu.pc())
+            let text = expected_text(alloc, expected)?;
+            tells_fault(alloc, text.as_slice(), cpu.status(), cpu.pc())
         }
         Err(_) => Ok(false),
     }
 }
 
 /// Whether a text tells of the fault at a slot by its kind alone, or of any.
-fn tells_fault(alloc: Global, expected: &[u8], status: Status, pc: u16) -> Result<bool, AllocError>
-    ensures { IfOk result (λ told. told ≡ tells_fault expected.now status pc) }
+fn tells_fault(alloc: Global, text: &[u8], status: Status, pc: u16) -> Result<bool, AllocError>
+    ensures { IfOk result (λ told. told ≡ tells_fault text.now status pc) }
 {
     match status {
         Status::Faulted(fault) => {
             let named = fault_text(alloc, kind_of_fault(fault), pc)?;
-            if tells(expected, named.as_slice()) {
+            if tells(text, named.as_slice()) {
                 return Ok(true);
             }
             let any = fault_text(alloc, b"", pc)?;
-            Ok(tells(expected, any.as_slice()))
+            Ok(tells(text, any.as_slice()))
         }
         Status::Running | Status::Exited => Ok(false),
     }
@@ -218,11 +212,11 @@ fn put_fault<W: Write>(
     put_all(writer, so_far, &pieces)
 }
 
-/// Whether a program exited with the number that a body is.
-fn meets_number(body: &[u8], outcome: &Result<Cpu, Refusal>) -> bool
-    ensures { result ≡ option_map_or (λ n. results n outcome.now) (number_of body.now) false }
+/// Whether a program exited with a number, if there is one.
+fn meets_number(number: Option<u64>, outcome: &Result<Cpu, Refusal>) -> bool
+    ensures { result ≡ option_map_or (λ n. results n outcome.now) number false }
 {
-    match number_of(body) {
+    match number {
         Some(number) => results(number, outcome),
         None => false,
     }
@@ -245,10 +239,10 @@ fn has_exited(cpu: &Cpu) -> bool
 }
 
 /// Whether a text is printed, with or without a place and a text behind it.
-fn tells(expected: &[u8], told: &[u8]) -> bool
-    ensures { result ≡ tells expected.now told.now }
+fn tells(text: &[u8], told: &[u8]) -> bool
+    ensures { result ≡ tells text.now told.now }
 {
-    told.starts_with(expected) && is_stop(&told[expected.len()..])
+    told.starts_with(text) && is_stop(&told[text.len()..])
 }
 
 /// Whether a place or a text follows, or nothing.
@@ -273,11 +267,11 @@ fn outcome_text(alloc: Global, outcome: &Result<Cpu, Refusal>) -> Result<Vec<u8>
 }
 
 /// What is expected, as it is printed.
-fn expected_text(alloc: Global, kind: Kind, body: &[u8]) -> Result<Vec<u8>, AllocError>
-    ensures { IfOk result (λ text. text.items ≡ expected_text kind body.now) }
+fn expected_text(alloc: Global, expected: &Expectation<'_>) -> Result<Vec<u8>, AllocError>
+    ensures { IfOk result (λ text. text.items ≡ expected_text expected.now) }
 {
     let mut writer = Counted::new(Vec::new(alloc));
-    match put_expected(&mut writer, Ok(()), kind, body) {
+    match put_expected(&mut writer, Ok(()), expected) {
         Ok(()) => Ok(writer.into_inner()),
         Err(WriteFault) => Err(AllocError),
     }
@@ -287,14 +281,13 @@ fn expected_text(alloc: Global, kind: Kind, body: &[u8]) -> Result<Vec<u8>, Allo
 pub fn put_expected<W: Write>(
     writer: &mut Counted<W>,
     so_far: Result<(), WriteFault>,
-    kind: Kind,
-    body: &[u8],
+    expected: &Expectation<'_>,
 ) -> Result<(), WriteFault>
     ensures { WritesAfter W.contents writer.old so_far writer.new result
-        (expected_text kind body.now) }
+        (expected_text expected.now) }
 {
-    let word = kind.word().as_bytes();
-    let text = trimmed(body);
+    let word = expected.kind.word().as_bytes();
+    let text = expected.bytes();
     let blank = lead(b" ", text);
     let pieces = [Piece::Text(word), Piece::Text(blank), Piece::Text(text)];
     put_all(writer, so_far, &pieces)

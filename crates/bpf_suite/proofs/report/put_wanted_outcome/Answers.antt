@@ -3,4 +3,4 @@ use Rattle.bpf_suite.proofs.report.put_wanted_outcome.Goals as goal
 
 pub returns-in-Some : goal.returns-in-Some
 returns-in-Some g c = λ first front known.
-    rw (sym c.section.ensures ∙ c.in-Some.is) (rw c.text.ensures at (c.put_expected.ensures first front known))
+    rw (sym c.expected.ensures ∙ c.in-Some.is) (c.put_expected.ensures first front known)
