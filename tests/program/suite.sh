@@ -142,11 +142,11 @@ awk 'BEGIN { print "1..40000"; for (i = 1; i <= 40000; i++) print "ok " i " - x"
 )
 failures=$((failures + $?))
 count=$((count + 2))
-# So is what is expected, with its zeros and blanks, whether a test passes or fails.
+# So is what is expected, with its zeros and blanks, whether a test passes or fails, and so are maps.
 zeros=$(head -c 200000 /dev/zero | tr '\0' 0)
 {
-    printf -- '-- listing\nexit\n-- result\n%s%s\n' "$spaces" "$zeros"
-    awk 'BEGIN { for (i = 1; i <= 20000; i++) print "-- name\nx" }'
+    printf -- '-- listing\nexit\n-- maps\n%s1x1\n-- result\n%s%s\n' "$zeros" "$spaces" "$zeros"
+    awk 'BEGIN { for (i = 1; i <= 20000; i++) print "-- name\nx" (i % 2 ? "" : "\n-- maps\n1x2") }'
 } > many
 {
     printf -- '-- listing\nldxb r0, [r3+0]\nexit\n-- fault\n%saccess\n' "$spaces"
@@ -156,7 +156,7 @@ zeros=$(head -c 200000 /dev/zero | tr '\0' 0)
     ulimit -t 3
     failures=0
     awk 'BEGIN { print "1..20000"; for (i = 1; i <= 20000; i++) print "ok " i " - x" }' > wanted/out
-    tested 'bpfdb test of 20,000 tests that share a long result' 0 many
+    tested 'bpfdb test of 20,000 tests that share a long result and long maps' 0 many
     : > script
     run test wide
     [ "$(cat found/status) $(grep -c '^# wanted: fault access$' found/out)" = '1 10000' ] ||

@@ -87,7 +87,7 @@ ends-opened t code x y z is short opened none given ran =
 module _ (t : Setting) (code : Checked) (image : Image) (is : IsProgramOf t code) (short : length t.context ≤ context_limit) (of : IsImageOf t.cells image)
     (maps : image.maps ≡ t.maps) where
   makes : Makes t.cells code.maps image.runs
-  makes = of code.maps (subst (λ (m : Option (List ℕ)). Rattle.bpf_suite.specs.Outcomes.HasMaps m code.maps) (sym maps) is.maps)
+  makes = of code.maps (subst (λ (m : Option (List ℕ)). Rattle.bpf_suite.specs.Tables.HasMaps m code.maps) (sym maps) is.maps)
 
   pub ends-by-image : (x y z : State) (runs : List Run) → image.runs ≡ Ok runs → x ≡ initial code t.context → y ≡ with_runs runs x → z ≡ plain_end t.limit (with_regs t.regs y) → Ends t z
   ends-by-image x y z runs here opened given ran =

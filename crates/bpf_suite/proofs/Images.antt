@@ -24,7 +24,8 @@ use Rattle.bpf_steps.proofs.Spans.{first_shape, later_shapes}
 use Rattle.bpf_suite.specs.Cells.{cell_of, is_value_len, sized, value_of}
 use Rattle.bpf_suite.specs.Bodies.{bytes_of}
 use Rattle.bpf_suite.specs.Images.{AreAll, AreIn, Holds, Makes, map_bytes, pasted, run_of, with_runs}
-use Rattle.bpf_suite.specs.Outcomes.{HasMaps, RefusesCells, edit_of, is_memory, missing, with_cells}
+use Rattle.bpf_suite.specs.Outcomes.{RefusesCells, edit_of, is_memory, missing, with_cells}
+use Rattle.bpf_suite.specs.Tables.{HasMaps}
 use Rattle.bpf_suite.specs.declared.cells.Cell.{Cell}
 use Rattle.bpf_suite.specs.declared.cells.CellLine.{CellLine}
 use Rattle.bpf_suite.specs.declared.image.Run.{Run}

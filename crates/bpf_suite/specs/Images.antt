@@ -9,7 +9,8 @@ use Rattle.bpf_steps.specs.Platform.{context_limit, frame_count, frame_len, map_
 use Rattle.bpf_steps.specs.Regions.{index_in, maps_from, maps_len, paste}
 use Rattle.bpf_steps.specs.State.{State, initial}
 use Rattle.bpf_machine.specs.declared.edit.Edit.TheVariants as edit
-use Rattle.bpf_suite.specs.Outcomes.{HasMaps, IsProgramOf, missing, with_cells}
+use Rattle.bpf_suite.specs.Outcomes.{IsProgramOf, missing, with_cells}
+use Rattle.bpf_suite.specs.Tables.{HasMaps}
 use Rattle.bpf_suite.specs.declared.cells.Cell.{Cell}
 use Rattle.bpf_suite.specs.declared.image.Image.{Image}
 use Rattle.bpf_suite.specs.declared.image.Run.{Run}

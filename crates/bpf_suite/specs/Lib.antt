@@ -14,5 +14,6 @@ pub mod Regs
 pub mod Reports
 pub mod Shown
 pub mod Stocks
+pub mod Tables
 pub mod Tests
 pub mod Verdicts

@@ -1,7 +1,7 @@
 -- What comes of a test's program: it is refused, or it runs to its end or to the limit.
-use Rattle.std.specs.Prelude.{ℕ, ◌≡◌, ◌≤◌, ⊤, true, false, Bool, not, List, [], ◌∷◌, ◌++◌, codes, find, length, map, Option, Some, None, Result, Ok, Err, IfErr, OnErr, OnOk, slice_get}
+use Rattle.std.specs.Prelude.{ℕ, ◌≡◌, ◌≤◌, ⊤, true, false, Bool, not, List, [], ◌∷◌, ◌++◌, codes, find, length, Option, Some, None, Result, Ok, Err, IfErr, OnErr, OnOk, slice_get}
 use Rattle.bpf_isa.specs.Checker.{IsRefused}
-use Rattle.bpf_isa.specs.Maps.{IsListFault, IsMapList, items_of, shape_of}
+use Rattle.bpf_isa.specs.Maps.{IsListFault}
 use Rattle.bpf_isa.specs.Programs.{Checked, IsProgram}
 use Rattle.bpf_isa.specs.declared.fault.LoadFault.TheVariants as load
 use Rattle.bpf_isa.specs.declared.maps.MapShape.{MapShape}
@@ -21,15 +21,11 @@ use Rattle.bpf_session.specs.Plain.{plain_end}
 use Rattle.bpfdb_script.specs.Texts.{place}
 use Rattle.bpf_suite.specs.Refusals.{refusal_text}
 use Rattle.bpf_suite.specs.Regs.{with_regs}
+use Rattle.bpf_suite.specs.Tables.{HasMaps}
 use Rattle.bpf_suite.specs.declared.cells.Cell.{Cell}
 use Rattle.bpf_suite.specs.declared.refusal.Refusal.{Refusal}
 use Rattle.bpf_suite.specs.declared.refusal.Refusal.TheVariants.{Maps, Listing, Load, Open, NoCell}
 use Rattle.bpf_suite.specs.declared.setting.Setting.{Setting}
-
--- The map table that a text names; no map where there is no text.
-abbrev pub HasMaps : Option (List ℕ) → List MapShape → Type 0
-HasMaps None maps = maps ≡ []
-HasMaps (Some text) maps = IsMapList text × (maps ≡ map shape_of (items_of text))
 
 -- The words of a program: those of a listing, or as they stand.
 abbrev pub HasWords : Bool → List ℕ → List ℕ → Type 0

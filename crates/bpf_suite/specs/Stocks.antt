@@ -5,7 +5,8 @@ use Rattle.bpf_isa.specs.declared.maps.MapShape.{MapShape}
 use Rattle.bpf_steps.specs.State.{State}
 use Rattle.bpf_text.specs.declared.fault.AsmFault.{AsmFault}
 use Rattle.bpf_suite.specs.Benches.{Loads}
-use Rattle.bpf_suite.specs.Outcomes.{HasMaps, Outcome, Reads, is_memory}
+use Rattle.bpf_suite.specs.Outcomes.{Outcome, Reads, is_memory}
+use Rattle.bpf_suite.specs.Tables.{HasMaps}
 use Rattle.bpf_suite.specs.declared.refusal.Refusal.{Refusal}
 use Rattle.bpf_suite.specs.declared.setting.Setting.{Setting}
 

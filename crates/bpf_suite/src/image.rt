@@ -12,7 +12,7 @@ ghost use Rattle.bpf_suite.specs.Outcomes.{IsProgramOf};
 use crate::cells::CellLine;
 use crate::outcome::set_cells;
 use crate::refusal::Refusal;
-use crate::section::{Text, are_same, copied};
+use crate::section::{Text, are_same};
 use crate::setting::Setting;
 use bpf_isa::MapShape;
 use bpf_machine::{ByteString, Cpu, Edit};
@@ -73,7 +73,7 @@ pub fn image_for<'a>(
 {
     match kept {
         Some(image) => {
-            if are_same(&image.maps, &setting.maps) {
+            if are_same(&image.maps, &setting.maps.text()) {
                 return Ok(image);
             }
         }
@@ -94,7 +94,7 @@ fn image_of<'a>(
 {
     let runs = made(alloc, cpu, setting.cells.lines)?;
     Ok(Image {
-        maps: copied(&setting.maps),
+        maps: setting.maps.text(),
         runs,
     })
 }

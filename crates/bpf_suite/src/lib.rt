@@ -22,6 +22,7 @@ mod setting;
 mod shown;
 mod stock;
 mod suite;
+mod table;
 mod test;
 mod values;
 mod verdict;

@@ -8,7 +8,8 @@ ghost use Rattle.bpf_suite.specs.Benches.{Loads, RefusesProgram};
 ghost use Rattle.bpf_suite.specs.Cells.{cell_of};
 ghost use Rattle.bpf_suite.specs.Images.{IsImageFor};
 ghost use Rattle.bpf_suite.specs.Regs.{with_regs};
-ghost use Rattle.bpf_suite.specs.Outcomes.{Ends, GivesCell, GivesCells, HasMaps, HasWords, IsProgramOf, Reads, Refuses, limit_word, outcome_text};
+ghost use Rattle.bpf_suite.specs.Tables.{HasMaps};
+ghost use Rattle.bpf_suite.specs.Outcomes.{Ends, GivesCell, GivesCells, HasWords, IsProgramOf, Reads, Refuses, limit_word, outcome_text};
 
 use crate::cells::{Cell, CellLine, cell_of};
 use crate::image::{Image, put_runs};
@@ -30,12 +31,9 @@ pub fn maps_of(setting: &Setting<'_, '_>) -> Result<MapTable, Refusal>
     ensures ok { IfOk result (HasMaps setting.now.maps) }
     ensures err { IfErr result (RefusesProgram setting.now) }
 {
-    match &setting.maps {
-        None => Ok(MapTable::empty()),
-        Some(text) => match MapTable::parse(text.bytes) {
-            Ok(maps) => Ok(maps),
-            Err(fault) => Err(Refusal::Maps(fault)),
-        },
+    match setting.maps.table() {
+        Ok(maps) => Ok(maps.copied()),
+        Err(fault) => Err(Refusal::Maps(*fault)),
     }
 }
 

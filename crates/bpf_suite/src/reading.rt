@@ -12,7 +12,9 @@ use crate::expected::Expectation;
 use crate::kind::Part;
 use crate::regs::{RegLine, last_lines, reg_lines};
 use crate::section::{Section, Text, copied};
+use crate::table::{NamedMaps, table_of};
 use crate::test::{Test, has_part, lines_in};
+use bpf_isa::{MapFault, MapTable};
 use std::alloc::{AllocError, Global};
 use std::marker::Model;
 
@@ -22,6 +24,8 @@ pub struct Reading<'b, 'a> {
     sections: &'b [Section<'a>],
     /// The text of the map table.
     maps: Option<Text<'a>>,
+    /// The table that this names, or why it names none.
+    table: Result<MapTable, MapFault>,
     /// A listing, or the bytes of words.
     program: Vec<u8>,
     context: Vec<u8>,
@@ -39,15 +43,16 @@ pub struct Reading<'b, 'a> {
 
 impl<'b, 'a> Model for Reading<'b, 'a> {
     ghost use Rattle.std.specs.Prelude.{List};
-    ghost use Rattle.bpf_suite.specs.Readings.{IsReading};
+    ghost use Rattle.bpf_suite.specs.Readings.{AreExpected, IsReading};
     ghost use Rattle.bpf_suite.specs.declared.section.Section.{Section};
 
     ghost Value = { List Section };
 
     ghost view = { λ r. r.sections.now };
 
-    ghost invariant = { λ r. IsReading r.sections.now r.maps r.program.items r.context.items
-        r.cells.items r.regs.items r.limit r.expected r.digits.items };
+    ghost invariant = { λ r. IsReading r.sections.now r.maps r.table r.program.items r.context.items
+        r.cells.items r.regs.items r.limit
+        × AreExpected r.sections.now r.expected r.digits.items };
 }
 
 impl<'b, 'a> Reading<'b, 'a> {
@@ -59,6 +64,8 @@ impl<'b, 'a> Reading<'b, 'a> {
             own: &[],
             shared: sections,
         };
+        let maps = test.maps();
+        let table = table_of(&maps);
         let program = test.program(alloc)?;
         let context = test.context(alloc)?;
         let cells = lines_in(alloc, sections, Part::Cells)?;
@@ -67,7 +74,8 @@ impl<'b, 'a> Reading<'b, 'a> {
         let digits = solid(alloc, test.text(Part::After))?;
         Ok(Reading {
             sections,
-            maps: test.maps(),
+            maps,
+            table,
             program,
             context,
             cells,
@@ -90,6 +98,13 @@ impl<'b, 'a> Reading<'b, 'a> {
         ensures { result ≡ maps self.now }
     {
         copied(&self.maps)
+    }
+
+    /// Their map table, as it was read.
+    pub fn named_maps<'x>(&'x self) -> NamedMaps<'x, 'a>
+        ensures { result ≡ maps self.now }
+    {
+        NamedMaps::of(&self.maps, &self.table)
     }
 
     /// Their program: a listing, or the bytes of words.

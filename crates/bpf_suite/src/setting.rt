@@ -7,12 +7,13 @@ use crate::kind::Part;
 use crate::reading::{Reading, place_of, test_of};
 use crate::regs::Regs;
 use crate::section::Text;
+use crate::table::NamedMaps;
 
 /// A program, and what it runs on: the text of a file, and what was read of it.
 #[derive(Drop)]
 pub struct Setting<'a, 'x> {
-    /// The text of the map table.
-    pub maps: Option<Text<'a>>,
+    /// The map table.
+    pub maps: NamedMaps<'x, 'a>,
     /// The program is a listing, not the bytes of its words.
     pub is_listing: bool,
     pub program: Text<'x>,
@@ -34,7 +35,7 @@ pub fn setting_of<'b, 'a, 'x>(
 ) -> Setting<'a, 'x>
     ensures { result ≡ limited limit (setting (own.now ++ shared.now)) }
 {
-    let maps = place_of(Part::Maps, own, shared).maps();
+    let maps = place_of(Part::Maps, own, shared).named_maps();
     let program = place_of(Part::Program, own, shared).program();
     let context = place_of(Part::Context, own, shared).context();
     let cells = place_of(Part::Cells, own, shared).cells();
