@@ -93,7 +93,8 @@ setting sections = record {
 abbrev pub limited : ℕ → Setting → Setting
 limited n t = record t { limit = n }
 
--- What it expects: an outcome of a kind, by the text of its section without spaces around it, and by the number that this is, if it is one.
+-- What it expects: an outcome of a kind, by the text of its section without spaces around it, and by the number that
+-- this is, if it is one.
 abbrev pub expectation_of : Section → Expectation
 expectation_of section = record { kind = section.kind; text = trimmed section.body; number = number_of section.body }
 

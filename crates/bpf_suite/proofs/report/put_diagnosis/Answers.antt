@@ -16,11 +16,13 @@ unfolding diagnosis
 returns g c = λ first front known.
     let test = c.args.test.now in
     let outcome = c.args.outcome.now in
-    let begun = rw (c.first_line-line.ensures, c.sections-sections.ensures) at (c.put_all-begun.ensures first front known) in
+    let begun = rw (c.first_line-line.ensures, c.sections-sections.ensures) at
+    (c.put_all-begun.ensures first front known) in
     let told = c.put_outcome-told.ensures first _ begun in
     let followed = c.put-followed.ensures first _ told in
     let said = c.put_wanted-said.ensures first _ followed in
     let celled = c.put_cells-celled.ensures _ c.requires first _ said in
-    Writes-text g.W.Write.contents _ _ _ _ _ (rw (c.title.ensures, c.sections-sections.ensures) at (c.put_show_line.ensures first _ celled))
+    let shown = rw (c.title.ensures, c.sections-sections.ensures) at (c.put_show_line.ensures first _ celled) in
+    Writes-text g.W.Write.contents _ _ _ _ _ shown
     (in_line front (codes "# the test in line " ++ decimal (first_line test) ++ codes "\n# came: ") (outcome_text outcome) (codes "\n# wanted: ") (wanted test)
     (cells_text (wrong_cells test outcome) outcome) (show_line c.args.file.now (title test)))
