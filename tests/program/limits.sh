@@ -291,8 +291,9 @@ printf 'loop: add r0, 1\njlt r0, 3, loop\nexit\n' > count.s
 printf 'loop: add r0, 2\njlt r0, 3, loop\nexit\n' > further.s
 printf 'continue\n' > path
 little=$(seq 3000 25 4000)
-# (the stacks of gdb and of origin behind a script grow by more than the others', and what is left of 4,375 kB or so hasn't room for that)
-grown=$(seq 4375 25 4500)
+# (the stacks of gdb and of origin behind a script grow by more than the others', and what is left of some 4,500 kB, more or less by what the system's own
+# libraries take, hasn't room for that)
+grown=$(seq 5000 25 5125)
 more='6000 8000 10000 12000 14000 16000 18000 20000 25000 30000 40000 50000'
 # (the words of a row are without blanks; gdb is asked to continue, for the line `origin r9`, and to detach)
 printf '$c#63$qRcmd,6f726967696e207239#45$D#44' > asked
