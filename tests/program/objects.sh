@@ -485,7 +485,7 @@ calls answered by --stub: 2'
 printf '\002\000\000\000' > context
 result '0x1\n' run --maps 8x2,16x256 -m context arrays
 text=$text_of_arrays
-# A name is shown as any other text of an object: what would steer a terminal is spelled out, and so are bytes that are no character; a map whose symbol has
+# A name is shown as any other text of an object: what would steer a terminal or isn't seen is spelled out, and so are bytes that are no character; a map whose symbol has
 # no name (its place is the end of the file) has no line. The rows have the place of a symbol's name or of a byte of names in arrays.o.
 while IFS='|' read -r place octal names; do
     count_of=$(printf "$octal" | wc -c)
@@ -495,6 +495,11 @@ done <<'ROWS'
 425|\033|map 0: counts\nmap 1: \\x1bames
 425|\233|map 0: counts\nmap 1: \\x9bames
 425|\342\200\256|map 0: counts\nmap 1: \\xe2\\x80\\xaees
+425|\302\255|map 0: counts\nmap 1: \\xc2\\xadmes
+425|\342\200\213|map 0: counts\nmap 1: \\xe2\\x80\\x8bes
+425|\342\200\252|map 0: counts\nmap 1: \\xe2\\x80\\xaaes
+425|\357\270\217|map 0: counts\nmap 1: \\xef\\xb8\\x8fes
+425|\342\200\224|map 0: counts\nmap 1: —es
 425|\303\244|map 0: counts\nmap 1: ämes
 425|a b |map 0: counts\nmap 1: a b s
 320|\377\377\377\377|map 0: counts

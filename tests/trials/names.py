@@ -26,16 +26,22 @@ def text_at(data, at):
     return bytes(data[at:at + 255]).split(b'\0')[0]
 
 
+# Characters that end a line or steer a terminal, and those of which nothing is seen (Unicode's ignorable ones, DerivedCoreProperties.txt), first to last.
+SPELLED = ((0, 0x1f), (0x7f, 0x9f), (0xad, 0xad), (0x34f, 0x34f), (0x61c, 0x61c), (0x115f, 0x1160), (0x17b4, 0x17b5), (0x180b, 0x180f),
+           (0x200b, 0x200f), (0x2028, 0x202e), (0x2060, 0x206f), (0x3164, 0x3164), (0xfe00, 0xfe0f), (0xfeff, 0xfeff), (0xffa0, 0xffa0),
+           (0xfff0, 0xfffb), (0xfffd, 0xfffd), (0x1bca0, 0x1bca3), (0x1d173, 0x1d17a), (0xe0000, 0xe0fff))
+
+
 def shown(name):
     """A name as bpfdb shows it."""
     out = ''
     for char in name.decode('utf8', errors='surrogateescape'):
         code = ord(char)
-        steers = code < 32 or 0x7f <= code <= 0x9f or code in (0x61c, 0x200e, 0x200f, 0xfffd) or 0x202a <= code <= 0x202e or 0x2066 <= code <= 0x2069
+        spelled = any(first <= code <= last for first, last in SPELLED)
         if 0xdc80 <= code <= 0xdcff:
             out += f'\\x{code - 0xdc00:02x}'
         else:
-            out += ''.join(f'\\x{byte:02x}' for byte in char.encode()) if steers else char
+            out += ''.join(f'\\x{byte:02x}' for byte in char.encode()) if spelled else char
     return out
 
 

@@ -3,6 +3,7 @@ ghost use Rattle.std.specs.Prelude.{◌≡◌, ◌&&◌, ◌||◌, ◌==◌, not
 ghost use Rattle.bstr.specs.Utf8.{pieces, spans_from};
 ghost use Rattle.counted_io.specs.Writing.{Writes, WritesAfter};
 ghost use Rattle.bpfdb_script.specs.Shown.{shown, shown_char, shown_lines, shown_span, steers as steers_by};
+ghost use Rattle.bpfdb_script.specs.Shown.{is_unseen as unseen_by, is_as_it_is as as_it_is_by};
 
 use bstr::ByteSlice;
 use counted_io::{Counted, WriteFault, hex_digit, put};
@@ -42,8 +43,8 @@ fn write_shown<W: Write>(writer: &mut Counted<W>, name: &[u8]) -> Result<(), Wri
 }
 
 /// Writes a name, after what was written so far, unless that failed: each byte of a character that
-/// ends a line, steers a terminal or turns its direction as `\x` and two hexadecimal digits, and so
-/// each byte that belongs to no character of UTF-8.
+/// ends a line, steers a terminal, turns its direction or isn't seen as `\x` and two hexadecimal
+/// digits, and so each byte that belongs to no character of UTF-8.
 pub fn put_shown<W: Write>(
     writer: &mut Counted<W>,
     so_far: Result<(), WriteFault>,
@@ -87,9 +88,12 @@ fn put_chars<W: Write>(
 
 /// Whether a character is shown as it is.
 fn is_as_it_is(lines: bool, char: char) -> bool
-    ensures { result ≡ (not (steers_by char) || (lines && char == 10)) }
+    ensures { result ≡ as_it_is_by lines char }
 {
-    !steers(char) || (lines && char == '\n')
+    if lines && char == '\n' {
+        return true;
+    }
+    !steers(char) && !is_unseen(char)
 }
 
 /// Whether a character ends a line, steers a terminal or turns its direction, or stands for bytes
@@ -106,6 +110,30 @@ pub fn steers(char: char) -> bool
             | 0x202A..=0x202E
             | 0x2066..=0x2069
             | 0xFFFD
+    )
+}
+
+/// Whether nothing is seen of a character, so that two names with and without it would look alike.
+fn is_unseen(char: char) -> bool
+    ensures { result ≡ unseen_by char }
+{
+    matches!(
+        char as u32,
+        0xAD | 0x34F
+            | 0x115F..=0x1160
+            | 0x17B4..=0x17B5
+            | 0x180B..=0x180F
+            | 0x200B..=0x200F
+            | 0x2028..=0x202E
+            | 0x2060..=0x206F
+            | 0x3164
+            | 0xFE00..=0xFE0F
+            | 0xFEFF
+            | 0xFFA0
+            | 0xFFF0..=0xFFFB
+            | 0x1BCA0..=0x1BCA3
+            | 0x1D173..=0x1D17A
+            | 0xE0000..=0xE0FFF
     )
 }
 
