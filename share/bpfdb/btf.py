@@ -82,6 +82,8 @@ class Types:
 
     def __init__(self, data):
         self.data, self.types = data, [Type(0, 0, 0, False, 0, 0)]
+        # of each struct, by where its parts stand, the fields by their names as far as they are read, and those that aren't
+        self.known = {}
         if len(data) < HEAD:
             raise Damaged('the section .BTF is cut off')
         magic, version, _, head, types, length, strings, size = struct.unpack_from('<HBBIIIII', data)
@@ -198,10 +200,13 @@ class Types:
                 waiting.append((start + member.start, self.members(inner)))
 
     def field(self, found, name, whole):
-        """The field of this name; where there is none it is refused. `whole` is what that is a part of, as it was given."""
-        for field in self.fields(found):
-            if field.name == name:
-                return field
+        """The field of this name, the first one; where there is none it is refused. `whole` is what that is a part of, as it was given."""
+        # (each field of a struct is read once, as far as one was asked for)
+        known, rest = self.known.setdefault(found.place, ({}, self.fields(found)))
+        while name not in known and (field := next(rest, None)):
+            known.setdefault(field.name, field)
+        if name in known:
+            return known[name]
         names = [field.name for field in self.fields(found)]
         raise Refused(f'{whole} has no field {name}: {few(names) if len(names) <= FEW else nearest(name, names)}')
 
