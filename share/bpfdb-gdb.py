@@ -11,6 +11,7 @@ import shlex
 import shutil
 import struct
 import subprocess
+import sys
 import tempfile
 
 # Where pc, and r0 to r10, stand among the registers of the machine that gdb takes this one for.
@@ -43,6 +44,12 @@ NOT_CONNECTED = "bpfdb isn't connected: bpf-load FILE starts a program"
 HERE = os.path.dirname(os.path.abspath(__file__))
 BIN = os.path.join(HERE, "..", "..", "bin") if os.path.basename(HERE) == "bpfdb" else HERE
 PLACES = os.pathsep.join([BIN, os.environ.get("PATH", "")])
+# The package bpfdb lies beside this file, or has it where both are installed.
+sys.path.append(HERE if os.path.isdir(os.path.join(HERE, "bpfdb")) else os.path.dirname(HERE))
+writes_no_bytecode, sys.dont_write_bytecode = sys.dont_write_bytecode, True
+from bpfdb.places import slots_of_line
+from bpfdb.session import Hint
+sys.dont_write_bytecode = writes_no_bytecode
 
 
 class Commands:
@@ -450,21 +457,24 @@ class Whynot(PastAsker):
         return ["whynot", text if text[0].isdigit() else ",".join(str(slot) for slot in self.slots(text))]
 
     def slots(self, text):
-        """The slots of a place: the first one of a function, all of a line, or of the next line that has any."""
+        """The slots of a place: the first one of a function, or all of a line, which has some."""
+        line = re.fullmatch(r"(.+?)\s*:\s*(\d+)", text)
+        if line:
+            file = os.path.normpath(line[1].strip("'\""))
+            try:
+                return slots_of_line(file, int(line[2]), self.lines_of(file))
+            except Hint as hint:
+                raise gdb.GdbError(str(hint))
         rest, places = gdb.decode_line(text)
         if rest or not places:
             raise gdb.GdbError("bpf-whynot WHAT: a slot, a function or FILE:LINE")
-        if not re.search(r":\s*\d+$", text):
-            return [place.pc // SLOT for place in places]
-        lines = {line_at(place.pc) for place in places}
+        return [place.pc // SLOT for place in places]
+
+    def lines_of(self, file):
+        """The lines of a file's slots. It may be named by the end of its path, as gdb takes it."""
         listing.read()
-        return [slot for slot in sorted(listing.texts) if line_at(SLOT * slot) in lines]
-
-
-def line_at(counter):
-    """The file and the line of an instruction."""
-    place = gdb.find_pc_line(counter)
-    return place.symtab and place.symtab.fullname(), place.line
+        places = [(slot, gdb.find_pc_line(SLOT * slot)) for slot in listing.texts]
+        return {slot: place.line for slot, place in places if place.symtab and ("/" + place.symtab.fullname()).endswith("/" + file)}
 
 
 class Registers(Asker):

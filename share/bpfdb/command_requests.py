@@ -3,6 +3,7 @@
 import re
 
 from bpfdb.machine import ADDRESS, SLOT
+from bpfdb.places import slots_of_line
 from bpfdb.protocol import Failed
 from bpfdb.running import Stop
 from bpfdb.session import MOVE, Hint
@@ -94,9 +95,8 @@ class CommandRequests:
         line = re.fullmatch(r'(.+):(\d+)', text)
         if line:
             paths = [path for path in self.paths() if path == line[1] or path.endswith('/' + line[1])]
-            at, _ = self.slots_of(paths[0], int(line[2])) if paths else (0, [])
-            slots = [slot for slot, (_, one, _) in sorted(source.lines.items())
-                     if one == at and source.paths[slot] in paths[:1] and slot in self.machine.code]
+            slots = slots_of_line(line[1], int(line[2]), {slot: at for slot, (_, at, _) in source.lines.items()
+                                                          if source.paths[slot] in paths[:1] and slot in self.machine.code})
         else:
             slots = [slot for slot, function in self.machine.functions.items() if function == text]
             slots = slots or ([source.labels[text]] if text in source.labels else [])

@@ -64,9 +64,9 @@ class Meanings:
 
     def slots(self, text):
         """The slots of a place: of FILE:LINE all at which an instruction starts (the second one of a wide load has a line, too)."""
-        line, first = re.fullmatch(r'([^:]+):(\d+)', text.strip()), self.slot(text)
+        line = re.fullmatch(r'([^:]+):(\d+)', text.strip())
         if not line:
-            return [first]
+            return [self.slot(text)]
         slots = [str(slot) for slot in self.source.slots_of(line[1], int(line[2]))]
         return [slot for slot in slots if not self.program.ask(f'disas {slot} 1')[0].startswith('refused ')]
 

@@ -3,6 +3,7 @@
 import os
 import re
 
+from bpfdb.session import Hint
 from bpfdb.texts import line_in, ran, text_lines, warn
 
 NAME = re.compile(r'[A-Za-z_][A-Za-z_0-9]*')
@@ -50,9 +51,20 @@ class Source:
         return min(found)[1] if found else None
 
     def slots_of(self, file, line):
-        """All slots of a line, or of the next one that has any."""
-        first = self.slot_of(file, line)
-        return [] if first is None else sorted(slot for slot, place in self.lines.items() if place[:2] == self.lines[first][:2])
+        """All slots of a line, which has some."""
+        name = os.path.basename(file)
+        return slots_of_line(file, line, {slot: at for slot, (own, at, _) in self.lines.items() if own == name})
+
+
+def slots_of_line(file, line, lines):
+    """All slots of a line of a file, by the lines that its slots have. A line without code of its own is refused, and the nearest lines that have
+    some are named, before and behind it: about another line the answer would be another one."""
+    found = sorted(slot for slot, at in lines.items() if at == line)
+    if not found:
+        near = [max((at for at in lines.values() if at < line), default=None), min((at for at in lines.values() if at > line), default=None)]
+        told = ', '.join(f'{file}:{at}' for at in near if at is not None)
+        raise Hint(f'there is no instruction at {file}:{line}' + (f': the nearest are at {told}' if told else ''))
+    return found
 
 
 class Listing(Source):

@@ -44,7 +44,12 @@ if has python3 'bpfdb-dap'; then
     printf 'stepi 2\nquit\nstepi\n' > script
     printf 'mov r0, 0\nja end ; too far\nexit\nend:\n' > far.s
     printf 'frob r0\n' > wrong.s
-    ! has_clang 'long lines in bpfdb-dap' || clang -g -O1 -target bpf -c "$parts/c/line.c"
+    if has_clang 'long lines, and lines without code, in bpfdb-dap'; then
+        clang -g -O1 -target bpf -c "$parts/c/line.c"
+        cp "$parts/gdb/verdict.c" .
+        clang -g -O2 -target bpf -c verdict.c
+        printf '\7\2' > kind
+    fi
     [ -f /usr/share/nodejs/@vscode/debugprotocol/lib/debugProtocol.d.ts ] ||
         left_out "the protocol's declarations" 'there is no node-vscode-debugprotocol'
     played='alone hostile'

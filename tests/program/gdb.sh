@@ -159,6 +159,10 @@ if has python3 'sessions in gdb'; then
             sed 's/((noinline)) void copy/((noinline, optnone)) void copy/' overrun.c > kept.c
             clang -g -O2 -fstack-size-section -target bpf -c kept.c
             transcript gdb "$sessions/optimized.txt"
+            cp "$sessions/verdict.c" .
+            clang -g -O2 -target bpf -c verdict.c
+            printf '\7\2' > kind
+            transcript gdb "$sessions/verdict.txt"
             of_parts -gdwarf-4
             of_parts -gdwarf-5
         fi

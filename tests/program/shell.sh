@@ -218,11 +218,20 @@ PYTHON
     patched nameless.o .symtab '\7\0\0\0\2\0\2\0' '\377\377\377\177\2\0\2\0'
     opened=nameless.o
     habit '' 'info functions' '0: entry / 24: size_of'
-    if has_clang '`start` in bpfdb-shell'; then
+    if has_clang '`start` in bpfdb-shell, and lines without code'; then
         clang -g -O2 -target bpf -I "$parts/c" -c "$parts/c/counter.c"
         opened='-m context counter.o'
         habit start 'p $pc' '> info regs / $pc = 0x1 (1)'
         habit 'start; stepi 3; start' 'p $pc' '> info regs / $pc = 0x1 (1)'
+        # A line without code of its own isn't another line; a breakpoint moves on.
+        cp "$parts/gdb/verdict.c" .
+        clang -g -O2 -target bpf -c verdict.c
+        printf '\7\2' > kind
+        near='bpfdb-shell: there is no instruction at verdict.c'
+        plainly 'why not a line without code of its own' 0 'c\nwhynot verdict.c:8\nwhynot ./verdict.c:8\nwhynot verdict.c:1\nwhynot verdict.c:99\nwhynot other.c:8\nwhynot verdict.c:9\nb verdict.c:8\ni b\n' \
+            '8 forward; end; exited at 8: r0 0x2\nit was reached 1 moves back\nok\nbreak 8\n' \
+            "$near:8: the nearest are at verdict.c:7, verdict.c:9\nbpfdb-shell: there is no instruction at ./verdict.c:8: the nearest are at ./verdict.c:7, ./verdict.c:9\n"\
+"$near:1: the nearest are at verdict.c:3\n$near:99: the nearest are at verdict.c:9\nbpfdb-shell: there is no instruction at other.c:8\n" -m kind verdict.o
     fi
     plainly 'an object' 0 'c\n' '105 forward; end; fault access 0x10077656d at 25\n' '' -m context.bin overrun.o
     # Where bpfdb is killed, it says so.

@@ -120,9 +120,27 @@ def whynot():
         hold((os.path.basename(lines[0]['source']['path']), lines[0]['instructionReference']), ('firewall.c', hex(8 * 31)), 'its place')
     hold(editor.hand('whynot firewall.c:54').split('\n')[0].startswith(branch + ' ('), True, 'the branch behind a colon')
     hold(editor.state(), before, 'the state')
-    for what, why in (('nowhere.c:54', 'there is no instruction at nowhere.c:54: a slot, a function, a label or FILE:LINE'),
+    for what, why in (('nowhere.c:54', 'there is no instruction at nowhere.c:54'),
+                      ('nowhere', 'there is no instruction at nowhere: a slot, a function, a label or FILE:LINE'),
                       ('65000', 'refused V4: no instruction starts at the slot')):
         hold(editor.refused('bpfdb/whynot', what=what), why, f'nothing of {what}')
+    left(editor)
+
+
+@story
+def without_code():
+    """A line without code of its own isn't another line: those next to it that have some are named. A breakpoint moves on."""
+    if not os.path.isfile('verdict.o'):
+        return
+    editor, _ = started('verdict.o', context='kind')
+    hold(editor.go('continue')[0], 'exited', 'the end')
+    hold(editor.body['description'], 'exited at 8: r0 0x2', 'the verdict')
+    for line, why in ((8, 'the nearest are at verdict.c:7, verdict.c:9'), (99, 'the nearest are at verdict.c:9'), (1, 'the nearest are at verdict.c:3')):
+        refusal = f'there is no instruction at verdict.c:{line}: {why}'
+        hold(editor.refused('bpfdb/whynot', what=f'verdict.c:{line}'), refusal, f'line {line}')
+        hold(editor.refused('evaluate', expression=f':whynot verdict.c:{line}', context='repl'), refusal, f'line {line} behind a colon')
+    hold(editor.hand('whynot verdict.c:9'), 'it was reached 1 moves back', 'a line with code')
+    hold(editor.lines(os.path.join(HERE, 'verdict.c'), 8), [(True, 9)], 'a breakpoint')
     left(editor)
 
 
