@@ -48,7 +48,7 @@ PLACES = os.pathsep.join([BIN, os.environ.get("PATH", "")])
 sys.path.append(HERE if os.path.isdir(os.path.join(HERE, "bpfdb")) else os.path.dirname(HERE))
 writes_no_bytecode, sys.dont_write_bytecode = sys.dont_write_bytecode, True
 from bpfdb.places import slots_of_line
-from bpfdb.session import Hint
+from bpfdb.session import WITH_VALUE, Hint, is_unknown, unexpected
 sys.dont_write_bytecode = writes_no_bytecode
 
 
@@ -563,6 +563,7 @@ class Load(Asker):
         words = [os.path.expanduser(word) for word in gdb.string_to_argv(argument)] or self.words
         if not words:
             raise gdb.GdbError("bpf-load FILE [OPTIONS]")
+        refuse_unknown(words[1:])
         inferior = gdb.selected_inferior()
         if inferior.pid and not is_connected():
             raise gdb.GdbError("gdb runs another program: kill it first")
@@ -627,6 +628,16 @@ def load_listing(file, options, base):
     os.environ.setdefault("BPFDB", found("bpfdb"))
     called("bpfdb-symbols", ["--listing", *machine_words, file, base + ".sym"])
     return [*options, "--listing", file]
+
+
+def refuse_unknown(words):
+    """Refuses the first word that is neither an option nor the value of one."""
+    rest = iter(words)
+    for word in rest:
+        if word in (*WITH_VALUE, "--registers"):
+            next(rest, None)
+        elif not word.startswith("-") or is_unknown(word) and not word.startswith("--registers="):
+            raise gdb.GdbError(unexpected(word))
 
 
 def for_link(words):

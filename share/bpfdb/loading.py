@@ -1,5 +1,6 @@
 """A program as an editor names it: an object of clang, a listing or words, with the options of `bpfdb run`."""
 
+import difflib
 import os
 import re
 
@@ -11,6 +12,9 @@ from bpfdb.texts import ran, start_of
 # The journal of a session that names none, in bytes; and the steps of a forward command, as bpfdb has them.
 JOURNAL, STEPS = 4194304, 1000000
 SHAPES = re.compile(r'\d+x\d+(,\d+x\d+)*')
+# Words of a launch that are the editors' own, besides those that begin with two underscores: of all of them, of VS Code, of dap-mode and of Kate.
+OF_EDITORS = {'type', 'request', 'name', 'console', 'presentation', 'preLaunchTask', 'postDebugTask', 'internalConsoleOptions', 'serverReadyAction',
+              'suppressMultipleSessionWarning', 'windows', 'osx', 'linux', 'adapter', 'debugServer', 'debugPort', 'host', 'hostName', 'command'}
 
 
 class Wanted:
@@ -35,6 +39,7 @@ class Wanted:
         self.over = arguments.text('over', over or '')
         if self.over not in ('', 'gdb', 'bpfdb'):
             raise Failed('over: gdb or bpfdb is wanted')
+        refuse_others(arguments)
 
     def path(self, name):
         """A path, from the folder that `cwd` names on."""
@@ -58,6 +63,14 @@ class Wanted:
     def for_gdb(self):
         """The words of `bpf-load` in gdb."""
         return [self.file, *(self.for_link() if self.is_object() else []), *self.for_debug()]
+
+
+def refuse_others(arguments):
+    """Refuses a word that means nothing here, and names the one that is most like it, or all that there are."""
+    for name in arguments.others():
+        if not name.startswith('__') and name not in OF_EDITORS:
+            near = difflib.get_close_matches(name[:80], arguments.asked, 1)
+            raise Failed(f'launch takes no {name[:80]}: ' + (f'is {near[0]} meant?' if near else f"it takes {', '.join(sorted(arguments.asked))}"))
 
 
 class Loaded:

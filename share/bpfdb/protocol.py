@@ -100,12 +100,17 @@ class Arguments:
             values = {}
         if not isinstance(values, dict):
             raise Failed('the arguments are no object')
-        self.values = values
+        self.values, self.asked = values, set()
 
     def has(self, name):
         return self.values.get(name) is not None
 
+    def others(self):
+        """The names among them that were never asked for."""
+        return [name for name in self.values if name not in self.asked]
+
     def take(self, name, default, fits, kind):
+        self.asked.add(name)
         value = self.values.get(name)
         if value is None and default is not None:
             return default if default is not NOTHING else None

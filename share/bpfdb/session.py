@@ -1,6 +1,7 @@
 """How bpfdb is spoken to: its command line, its lines and its replies."""
 
 import contextlib
+import difflib
 import os
 import re
 import subprocess
@@ -11,8 +12,9 @@ from bpfdb.texts import copied, in_memory, path_of, readable
 LARGEST_JOURNAL = 16777216
 # Commands of bpfdb that change nothing.
 SHOWS = ('info', 'x', 'disas', 'last-write')
-# The options with a value, and those for `link`.
+# The options with a value, those without, and those for `link`.
 WITH_VALUE = ('-m', '--mem', '--maps', '--journal', '--steps', '--section', '--entry', '--entries', '--stub')
+WITHOUT_VALUE = ('--listing', '--object', '--as-compiled')
 FOR_LINK = ('--section', '--entry', '--entries', '--stub', '--as-compiled')
 # What `link` says of a map's name.
 MAP_LINE = re.compile(r'map (\d+): (.*)')
@@ -147,9 +149,24 @@ def split_words(given):
             link.append(option)
         elif file is None and (word == '-' or not word.startswith('-')):
             file = word
+        elif is_unknown(word):
+            # (its value, if it has one, would be taken for FILE)
+            raise Refused(f"{unexpected(word)}\n\nFor more information, try '--help'.\n", 2)
         else:
             debug += option
     return debug, file, link
+
+
+def is_unknown(word):
+    """Whether a word is an option that is none of these. (The value of -m may follow without a blank.)"""
+    return word.startswith('-') and word != '-' and word[:2] != '-m' and word.split('=')[0] not in WITH_VALUE + WITHOUT_VALUE
+
+
+def unexpected(word):
+    """What is said of a word that isn't taken, as bpfdb says it."""
+    name = word.split('=')[0]
+    near = difflib.get_close_matches(name, WITH_VALUE + WITHOUT_VALUE, 1)
+    return f"error: unexpected argument '{name}' found" + (f"\n\n  tip: a similar argument exists: '{near[0]}'" if near else '')
 
 
 def with_readable(words, kept):

@@ -82,6 +82,7 @@ LISTING
         check "bpfdb-events $words: a closed output" 2 '' 'bpfdb-events: cannot write output\n'
     done
     sed '/exit/i \        stw [r1+12], 2' sent.s > lost.s
+    events_of 'no option' 2 '' "bpfdb-events: error: unexpected argument '--frob' found\n\nFor more information, try '--help'.\n" --frob sent.s --maps 8x2,16x4096 fault.s
     events_of 'records without room' 0 "$said" 'bpfdb-events: 2 records had no room\n' --listing --maps 8x2,8x6 lost.s
     sed '/exit/i \        ldxb r0, [r0+0]' sent.s > fault.s
     events_of 'records before a fault' 1 "$said" 'bpfdb-events: fault access 0x0 at 12\n' --listing --maps 8x2,8x6 fault.s

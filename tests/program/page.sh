@@ -46,6 +46,11 @@ if has python3 'pages of runs'; then
     usage_end="\\n\\nFor more information, try '--help'.\\n"
     made 2 "error: -o PAGE names no file to write$usage_end" two.s
     made 2 "error: FILE is missing$usage_end" -o left/run.html
+    # (what stands behind an option that it doesn't have isn't FILE)
+    for words in '--frob missing two.s' '--strict two.s' 'two.s --json' '-x two.s' '--frob=3 two.s'; do
+        # shellcheck disable=SC2086
+        made 2 "error: unexpected argument '$(echo "$words" | grep -o -e '-[-a-z]*')' found$usage_end" -o left/run.html $words
+    done
     made 2 'cannot read missing\n' -o left/run.html missing
     made 2 'cannot read missing\n' -o left/run.html -m missing two.s
     made 2 "$(told trace --listing wrong.s)" -o left/run.html wrong.s

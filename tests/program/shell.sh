@@ -113,7 +113,12 @@ if has python3 'bpfdb-shell'; then
     check 'bpfdb-shell: bpfdb beside it' 0 '1 forward; done; at 1: exit\n' ''
     plainly 'no program' 2 'si\n' '' 'cannot read missing\n' missing
     plainly 'a refused program' 2 'si\n' '' 'refused C3: length is no multiple of 8\n' context
-    plainly 'a command line that is none' 2 'si\n' '' "$("$program" debug --frob 2>&1 | sed 's/\\/\\\\/g')\n" --frob
+    plainly 'an option with a slip' 2 'si\n' '' "error: unexpected argument '--step' found\n\n  tip: a similar argument exists: '--steps'\n\nFor more information, try '--help'.\n" --step 5 plain.s
+    # An option that it doesn't have is refused by its name: what stands behind it isn't FILE.
+    for words in --frob '--frob plain.s' '--frob=3 plain.s' 'plain.s --frob 3' '-m context --frob plain.s first.s'; do
+        # shellcheck disable=SC2086
+        plainly "no option: $words" 2 'si\n' '' "error: unexpected argument '--frob' found\n\nFor more information, try '--help'.\n" $words
+    done
     if [ -c /dev/full ]; then
         printf 'si\nsi\n' | "$shell" > /dev/full 2> found/err
         echo $? > found/status

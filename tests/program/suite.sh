@@ -337,6 +337,9 @@ done
 mkdir new
 typed 'bpfdb-show into a new folder' 0 'context options program script\ncat F/script - | bpfdb debug --maps=4x3,2x2 --steps=16 -m F/context F/program\n' '' \
     'TMPDIR=new; export TMPDIR; bpfdb-show a shown.test > shown; echo $(ls new/*); sed -n "1s:new/bpfdb-show\.......:F:gp" shown'
+typed 'bpfdb-show of no option' 2 '' "error: unexpected argument '--pages' found\n" 'TMPDIR=new bpfdb-show --pages shown.test new/pages'
+printf -- '-- listing\nexit\n-- name\n --odd\n-- result\n0\n' > odd.test
+typed 'bpfdb-show of a test whose name begins with hyphens' 0 'context options program script\n' '' 'bpfdb-show --odd odd.test new/odd > shown; echo $(cd new/odd && ls); rm -r new/odd'
 typed 'bpfdb-show of no test' 2 '' 'refused T7: no test of this name: b\n' 'TMPDIR=new bpfdb-show b shown.test'
 typed 'bpfdb-show without bpfdb' 2 '' 'cannot find nowhere\n' 'BPFDB=nowhere bpfdb-show a shown.test'
 typed 'bpfdb-show with bpfdb beside it' 0 'context\noptions\nprogram\nscript\n' '' "PATH=\$(dirname \"\$(command -v sh)\"):/usr/bin:/bin; bin/bpfdb-show a shown.test near > shown && ls near"

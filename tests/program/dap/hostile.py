@@ -67,9 +67,17 @@ def out_of_order():
     hold(editor.refused('launch', program='overrun.o', journal=5, over='bpfdb'), 'refused J1: journal size out of range', 'a small journal')
     hold(editor.refused('launch', program='overrun.o', maps='x', over='bpfdb'), 'refused M5: malformed map list', 'no maps')
     hold(editor.refused('launch', program='overrun.o', over='lldb'), 'over: gdb or bpfdb is wanted', 'another debugger')
+    for words, why in (({'contex': 'context.bin'}, 'contex: is context meant?'), ({'stopAtEntry': False}, 'stopAtEntry: is stopOnEntry meant?'),
+                       ({'x' * 999: 1}, 'x' * 80 + ': it takes asCompiled, context, '), ({'Over': 'gdb', 'type': 'bpfdb'}, 'Over: is over meant?')):
+        hold(editor.refused('launch', program='overrun.o', **words)[:len('launch takes no ' + why)], 'launch takes no ' + why, f'a word that is none: {why}')
     hold(editor.refused('launch', program='far.s'), 'refused C8 at slot 1: target is no instruction', 'a refused program')
     hold(editor.refused('launch', program='wrong.s'), 'refused A1 at line 1: unknown mnemonic', 'a refused listing')
-    hold(editor.open('overrun.o', context='context.bin', over='bpfdb')[0], 'entry', 'then a program')
+    # (what VS Code, dap-mode and Kate add)
+    own = {'type': 'bpfdb', 'request': 'launch', 'name': 'bpfdb', '__sessionId': '1', '__configurationTarget': 5, '__restart': None, 'noDebug': False,
+           'console': 'internalConsole', 'presentation': {'hidden': False}, 'preLaunchTask': 'make', 'internalConsoleOptions': 'neverOpen',
+           'adapter': 'bpfdb-dap', 'debugServer': 4711, 'host': 'localhost', 'command': 'launch'}
+    hold(editor.open('overrun.o', context='context.bin', over='bpfdb', **own)[0], 'entry', 'then a program')
+    hold(editor.refused('restart', arguments={'program': 'overrun.o', 'contxt': 'context.bin'}), 'launch takes no contxt: is context meant?', 'restart')
     hold(editor.refused('launch', program='overrun.o'), 'a program is launched already: restart starts it anew', 'launch twice')
     hold(editor.refused('configurationDone'), 'configurationDone came before', 'configurationDone twice')
     hold(editor.refused('variables', variablesReference=99), 'variablesReference: nothing is known by it now', 'no variables')
