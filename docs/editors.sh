@@ -91,17 +91,21 @@ own_options() {
     ' "$2"
 }
 
-# of_jobs: '    JOB) WORDS' lines: for each subcommand, for bpfdb-shell (which has those of debug and of link), for bpfdb-page (its own, and those of run
-# and of link) and for bpfdb-dap, the options that it has, as bash takes them.
+# What bpfdb-shell and bpfdb-page have of these options, for awk: those of debug; and, beside its own, those of run without which it makes its page.
+taken='function of_shell(long, jobs) { return jobs ~ /(^|, )(debug|each)(,|$)/ }
+function of_page(long, jobs) { return jobs ~ /(^|, )(run|each)(,|$)/ && long !~ /^(object|json|strict)$/ }'
+
+# of_jobs: '    JOB) WORDS' lines: for each subcommand, for bpfdb-shell, bpfdb-page and bpfdb-dap, the options that it has, as bash takes them.
 of_jobs() {
-    awk -F '\t' '
+    awk -F '\t' "$taken"'
         NR == FNR { order[++count] = $1; next }
         {
             names = ($2 == "" ? "" : " -" $2) " --" $1
             n = split($5, jobs, ", ")
             for (i = 1; i <= n; i++) has[jobs[i]] = has[jobs[i]] names
-            if ($5 ~ /debug|link/ && $1 !~ /^(with|joined)/) has["shell"] = has["shell"] names
-            if ($5 ~ /^run|link/ && $1 !~ /^(with|joined|object|json)/) has["page"] = has["page"] names
+            if ($5 == "each") next
+            if (of_shell($1, $5)) has["shell"] = has["shell"] names
+            if (of_page($1, $5)) has["page"] = has["page"] names
         }
         END {
             order[++count] = "shell"
@@ -227,7 +231,7 @@ _bpfdb_of_file() {
 _bpfdb_options() {
     case $1 in
 TEXT
-    awk -F '\t' '
+    awk -F '\t' "$taken"'
         NR == FNR { order[++count] = $1; next }
         {
             action = $6 != "" ? "(" $6 ")" : $3 ~ /^(PATH|FILE|PAGE|OBJECT)$/ ? "_files" : $1 ~ /^(section|entry|only)$/ ? " _bpfdb_of_file --" $1 : " "
@@ -235,8 +239,9 @@ TEXT
             one = $2 == "" ? "\"" ($1 == "with" ? "*" : "") "--" $1 ($3 == "" ? "" : "=") spec "\"" : "\"(-" $2 " --" $1 ")\"{-" $2 ",--" $1 "}\"" spec "\""
             n = split($5, jobs, ", ")
             for (i = 1; i <= n; i++) has[jobs[i]] = has[jobs[i]] " " one
-            if ($5 ~ /debug|link/ && $1 !~ /^(with|joined)/) has["shell"] = has["shell"] " " one
-            if ($5 ~ /^run|link/ && $1 !~ /^(with|joined|object|json)/) has["page"] = has["page"] " " one
+            if ($5 == "each") next
+            if (of_shell($1, $5)) has["shell"] = has["shell"] " " one
+            if (of_page($1, $5)) has["page"] = has["page"] " " one
         }
         END {
             order[++count] = "shell"
@@ -312,8 +317,8 @@ end
 TEXT
     awk -F '\t' '{ printf "complete -c bpfdb -n __fish_use_subcommand -f -a %s -d \"%s\"\n", $1, $2 }' "$work/jobs"
     echo 'complete -c bpfdb -n __fish_use_subcommand -f -a help -d "describes a subcommand"'
-    awk -F '\t' '
-        NR == FNR { all = all " " $1; next }
+    awk -F '\t' "$taken"'
+        NR == FNR { next }
         {
             names = ($2 == "" ? "" : " -s " $2) " -l " $1
             takes = $3 == "" ? "" : $6 != "" ? " -x -a \"" $6 "\"" : $3 ~ /^(PATH|FILE|PAGE|OBJECT)$/ ? " -r -F" : $1 ~ /^(section|entry|only)$/ ? " -x -a \"(__bpfdb_of_file " $1 ")\"" : " -x"
@@ -322,8 +327,8 @@ TEXT
             gsub(/,/, "", jobs)
             where = jobs == "each" ? "" : jobs == "bpfdb alone" ? " -n __fish_use_subcommand" : " -n \"__fish_seen_subcommand_from " jobs "\""
             printf "complete -c bpfdb%s%s%s -d \"%s\"\n", where, names, takes, $4
-            if (jobs ~ /debug|link|each/ && names !~ /-l (with|joined)/) printf "complete -c bpfdb-shell%s%s -d \"%s\"\n", names, takes, $4
-            if (jobs ~ /^run|link|each/ && names !~ /-l (with|joined|object|json)/) printf "complete -c bpfdb-page%s%s -d \"%s\"\n", names, takes, $4
+            if (of_shell($1, $5)) printf "complete -c bpfdb-shell%s%s -d \"%s\"\n", names, takes, $4
+            if (of_page($1, $5)) printf "complete -c bpfdb-page%s%s -d \"%s\"\n", names, takes, $4
             if (jobs == "each") printf "complete -c bpfdb-dap -f%s%s -d \"%s\"\n", names, takes, $4
         }
     ' "$work/jobs" "$work/options"

@@ -78,8 +78,8 @@ _bpfdb() {
     gdb) words="-m --mem --maps --journal --steps --listing --object --registers --section --entry --entries --stub --as-compiled -h --help" ;;
     test) words="--only --show --cover --cover-info --anywhere --json -h --help" ;;
     batch) words="--maps --steps -h --help" ;;
-    shell) words="-m --mem --maps --journal --steps --listing --object --section --entry --entries --stub --as-compiled --packet -h --help" ;;
-    page) words="-m --mem --maps --steps --strict --listing --section --entry --entries --stub --as-compiled --packet -o --output --from --count --title --object -h --help" ;;
+    shell) words="-m --mem --maps --journal --steps --listing --object --section --entry --entries --stub --as-compiled -h --help" ;;
+    page) words="-m --mem --maps --steps --listing --section --entry --entries --stub --as-compiled -o --output --from --count --title --object -h --help" ;;
     dap) words="--port --over -h --help" ;;
     help) words="run trace debug origin whynot diff asm disasm lines check link gdb test batch" ;;
     *) return ;;

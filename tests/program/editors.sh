@@ -78,6 +78,47 @@ if has fish 'completion in fish'; then
         check "fish: ${row%|*}" 0 "${row#*|}$([ -z "${row#*|}" ] || printf '%s' '\n')" ''
     done
 fi
+# offered NAME..: the options that the file of bash offers for a subcommand or for a program beside bpfdb.
+offered() {
+    sed -n "s/^    $1) words=\"\(-.*\)\" ;;/\1/p" "$top/share/completion/bpfdb.bash" | tr ' ' '\n'
+}
+
+# takes NAME COMMAND WORD..: each option that is offered there is one that this command takes, whatever it says of a value and of FILE. One that it doesn't
+# take it calls unexpected, or unknown.
+takes() {
+    name=$1
+    shift
+    offered "$name" > options
+    count=$((count + 1))
+    [ "$(wc -l < options)" -gt 2 ] || complain "completion: no options of $name"
+    for option in $(cat options) --unheard-of; do
+        "$@" "$option" < /dev/null > found/out 2>&1
+        if [ "$option" = --unheard-of ]; then
+            grep -q -i 'unexpected\|unrecognized\|no option' found/out || complain "$*: takes $option"
+        elif grep -i 'unexpected\|unrecognized\|no option' found/out; then
+            complain "$*: $option is offered, and refused"
+        fi
+    done
+}
+
+for job in run trace debug origin whynot diff disasm lines check link gdb test batch; do
+    takes "$job" "$program" "$job"
+done
+if has python3 'what bpfdb-shell, bpfdb-page and bpfdb-dap take'; then
+    BPFDB=$program
+    export BPFDB
+    for name in shell page dap; do
+        takes "$name" "$top/share/bpfdb-$name"
+    done
+fi
+# The files of zsh and fish offer the same.
+for name in shell page dap; do
+    offered "$name" | sort > wanted/options
+    sed -n "s/^    $name) //p" "$top/share/completion/_bpfdb" | grep -o -e '{-[a-zA-Z],--[a-z-]*}' -e '"--[a-z-]*' | tr -d '{}"' | tr ',' '\n' | sort > found/options
+    same "zsh: the options of bpfdb-$name" wanted/options found/options
+    sed -n "s/^complete -c bpfdb-$name //p" "$top/share/completion/bpfdb.fish" | grep -o -e '-s [a-zA-Z] ' -e '-l [a-z-]* ' | sed 's/-s /-/; s/-l /--/; s/ $//' | sort > found/options
+    same "fish: the options of bpfdb-$name" wanted/options found/options
+done
 if has zsh 'the completion file of zsh'; then
     zsh -f -n "$top/share/completion/_bpfdb" > found/out 2> found/err
     echo $? > found/status
