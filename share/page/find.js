@@ -27,7 +27,7 @@ function questionOf(run, names, text) {
   if (line) return lineQuestion(run, names, line[1], Number(line[2]));
   for (const [start, name] of [...names.told.functions, ...names.told.labels]) if (name === text) return at(run, new Set([start]), text);
   const variable = names.told.variables.find(([, , name]) => name === text);
-  if (variable) return writersOf(run, variable[0], text);
+  if (variable) return writersOf(run, variable[0], text, variable[1]);
   return { fault: `nothing is called ${text}` };
 }
 
@@ -39,9 +39,9 @@ function comparison(run, register, sign, number) {
   return { asks: (position) => holds(position) && (position === 0 || !holds(position - 1)), told: `r${register} ${sign} ${number}` };
 }
 
-// Positions before a step that writes a place.
-function writersOf(run, place, told) {
-  return { asks: (position) => run.writes(position, place), told: `a step that writes ${told}` };
+// Positions before a step that writes a register, or one of some bytes.
+function writersOf(run, place, told, size = 1) {
+  return { asks: (position) => run.writes(position, place, size), told: `a step that writes ${told}` };
 }
 
 function at(run, slots, told) {

@@ -63,8 +63,9 @@ class MemoryView {
     else this.box.removeAttribute("aria-activedescendant");
   }
 
-  byteRow({ start, region, label }) {
-    const head = element("span", "address", hex(start), element("i", "", label ? ` ${label}` : ""));
+  byteRow({ start, region, label: [name, offset] }) {
+    // (where there is no room for all of it, a part of the name is left out, and never the offset)
+    const head = element("span", "address", hex(start), element("i", "name", name && ` ${name}`), element("i", "", name ? offset : offset && ` ${offset}`));
     head.setAttribute("role", "rowheader");
     head.title = head.textContent;
     const made = element("div", "bytes", head), text = element("span", "text");
@@ -161,25 +162,27 @@ function memoryRows(run, names, touched, width) {
     const here = run.regions.find((each) => start < each.end && start + width > each.start);
     if (here !== region || !here) rows.push(headingOf(run, names, here));
     region = here;
-    rows.push({ start, region: here, label: here ? labelOf(run, names, here, start) : "" });
+    rows.push({ start, region: here, label: here ? labelOf(run, here, start) : ["", ""] });
   }
   return rows;
 }
 
-// What stands beside an address: how far it is from r10, or within its variable or region.
-function labelOf(run, names, region, start) {
-  if (region.start >= STACK && region.start < MAPS) return `r10${start - region.end}`;
+// What stands beside an address, a name and an offset: how far it is from r10, or within its variable or region.
+function labelOf(run, region, start) {
+  if (region.start >= STACK && region.start < MAPS) return ["", `r10${start - region.end}`];
   const variable = run.told.variables.findLast(([place, size]) => start >= place && start < place + size);
-  if (variable) return variable[2] + (start > variable[0] ? `+${start - variable[0]}` : "");
-  return region.bytes.length > 16 ? `+${start - region.start}` : "";
+  if (variable) return [variable[2], start > variable[0] ? `+${start - variable[0]}` : ""];
+  return ["", region.bytes.length > 16 ? `+${start - region.start}` : ""];
 }
 
 // The heading of a region.
 function headingOf(run, names, region) {
   if (!region) return { heading: "no memory", small: "where an access failed" };
   if (region.start >= MAPS) {
-    const [value, entries] = run.told.maps[(region.start - MAPS) / MAP_STRIDE];
-    return { heading: region.name, small: `${several(entries, "value")} of ${several(value, "byte")}` };
+    const [value, entries, name] = run.told.maps[(region.start - MAPS) / MAP_STRIDE];
+    // (a section of data is one piece, whatever values bpfdb has it as)
+    const isData = name.startsWith(".") || run.told.variables.some(([start]) => start >= region.start && start < region.end);
+    return { heading: region.name, small: isData ? `${several(region.bytes.length, "byte")} of data` : `${several(entries, "value")} of ${several(value, "byte")}` };
   }
   if (region.start >= STACK) return { heading: region.name, small: "r10 is its end" };
   return { heading: region.name, small: `${several(region.bytes.length, "byte")}${run.told.context ? " of " + run.told.context : ""}` };

@@ -224,10 +224,10 @@ class Run {
     return undefined;
   }
 
-  // Whether the step after a position writes a register, or a byte.
-  writes(at, place) {
+  // Whether the step after a position writes a register, or one of the bytes from an address on.
+  writes(at, place, size = 1) {
     return at < this.length && this.changes[at].some((change) => typeof place === "number"
-      ? change.by && change.region && place >= change.region.start + change.at && place < change.region.start + change.at + change.bytes.length
+      ? change.by && change.region && place + size > change.region.start + change.at && place < change.region.start + change.at + change.bytes.length
       : change.register === place.register && change.by === at + 1 + this.before);
   }
 

@@ -198,9 +198,9 @@ TEST
         python3 "$top/tests/trials/pages.py" "$1" "$1" > "told-$1" 2>&1 &
         started="$started $!"
     }
-    browser='' making=''
+    browser='' making='' variables=''
     ! has chromium 'pages of runs in a browser' || browser=chromium
-    mkdir states moves long names
+    mkdir states moves long names variables
 
     # An object, with its functions and lines; and one whose names, source and files are made to be obeyed.
     "$BPFDB_PAGE" -o moves/overrun.html -m context.bin overrun.o 2> found/err || complain "no page of overrun.o: $(cat found/err)"
@@ -238,6 +238,31 @@ PYTHON
     "$BPFDB_PAGE" -o names/hostile.html -m '<b>&amp;' '<img src=x onerror=obeyed=1>.o' 2> found/err || complain "no page of hostile names: $(cat found/err)"
     begin_trials moves
     begin_trials names
+
+    # A program with variables, of whose array no first byte is written.
+    if has_clang 'a page of variables'; then
+        cat > variables.c <<'C'
+struct flow { unsigned long long packets; unsigned source, port; };
+static volatile struct flow flows[16];
+static volatile unsigned total;
+__attribute__((section("prog"))) unsigned long long entry(const unsigned char *p, unsigned long long size)
+{
+	for (unsigned long long at = 0; at < size; at++) {
+		volatile struct flow *flow = &flows[1 + at % 14];
+		flow->packets++;
+		flow->source = p[at];
+		total += 1;
+	}
+	return flows[3].packets;
+}
+C
+        clang -g -O1 -target bpf -c variables.c
+        cp context.bin variables.bin
+        "$BPFDB_PAGE" -o variables/variables.html -m variables.bin variables.o 2> found/err || complain "no page of variables.o: $(cat found/err)"
+        printf '%s\n' -m "$PWD/variables.bin" --object "$PWD/variables.o" > variables/variables.words
+        begin_trials variables
+        variables=variables
+    fi
 
     # The programs whose pages are held to bpfdb: the examples, and a listing for each kind of step, of end, and of excerpt. They are made side by side.
     # page NAME WORD..: the page states/NAME.html of a run, and the words for bpfdb beside it.
@@ -388,7 +413,7 @@ LISTING
         wait "$process"
     done
     started=''
-    for kind in ${browser:+states moves long names}; do
+    for kind in ${browser:+states moves long names $variables}; do
         grep -v '^[0-9]* trials$' "told-$kind"
         trials=$(sed -n 's/^\([0-9]*\) trials$/\1/p' "told-$kind")
         [ -n "$trials" ] || complain "pages: $kind came to no end"

@@ -3,8 +3,9 @@
     states FOLDER   the pages NAME.html of FOLDER, each with a file NAME.words, a word a line: what 'bpfdb run' takes. At many steps the registers, the
                     frames, the traced words, all of memory and the present instruction are those of 'bpfdb debug', and the steps that are said to
                     have written registers and bytes are those of 'bpfdb trace'.
-    moves FOLDER    each key, button, click and search, on the page overrun.html (tests/program/page.sh says of what).
+    moves FOLDER    each key, button, click and search, on the page overrun.html (tests/program/page.sh says of what); and what can be read of it.
     long FOLDER     a page of 100,000 steps opens and answers soon.
+    variables FOLDER  on the page variables.html, of a program with global variables, a search for one, and what stands beside rows of memory.
     names FOLDER    a page of hostile names shows them as text, and asks for nothing.
 
 What differs is a line 'FAILED: ..'; the last line counts the trials."""
@@ -32,6 +33,33 @@ SHOWN = '''(position) => {
     cells: [...document.querySelectorAll("#memory [data-address]")].map((cell) => [Number(cell.dataset.address), cell.textContent, cell.title]),
   };
 }'''
+
+
+# The texts in sight that are too like their ground: their colours and the ratio; and how many were looked at. (No colour of the page is seen through.)
+CONTRAST = '''(() => {
+  const parts = (text) => text.match(/[\\d.]+/g).map(Number), weak = new Set();
+  const light = (colour) => colour.slice(0, 3).map((part) => part / 255).map((part) => part <= 0.04045 ? part / 12.92 : ((part + 0.055) / 1.055) ** 2.4)
+    .reduce((sum, part, at) => sum + part * [0.2126, 0.7152, 0.0722][at], 0.05);
+  const groundOf = (each) => {
+    const colour = each ? parts(getComputedStyle(each).backgroundColor) : [255, 255, 255];
+    return colour.length === 3 || colour[3] === 1 ? colour : groundOf(each.parentElement);
+  };
+  let looked = 0;
+  for (const each of document.querySelectorAll("body *")) {
+    if (![...each.childNodes].some((node) => node.nodeType === Node.TEXT_NODE && node.textContent.trim())) continue;
+    if (!each.checkVisibility() || each.closest("button:disabled, #back, .unseen, select, noscript")) continue;
+    const [one, other] = [light(parts(getComputedStyle(each).color)), light(groundOf(each))].sort((one, other) => other - one);
+    looked++;
+    if (one / other < 4.5) weak.add(`${each.tagName} ${each.className}: ${(one / other).toFixed(2)}`);
+  }
+  return [looked, [...weak]];
+})()'''
+# Of each row of memory where it begins, what stands beside its address, and whether the offset lies within the room for it.
+LABELS = '''[...document.querySelectorAll("#memory .bytes")].map((row) => {
+  const head = row.querySelector(".address"), [name, offset] = head.querySelectorAll("i"), shown = offset.getBoundingClientRect();
+  return [Number(head.firstChild.textContent), (name.textContent + offset.textContent).trim(),
+    offset.scrollWidth <= offset.clientWidth + 1 && shown.right <= head.getBoundingClientRect().right + 1 && shown.right <= row.children[1].getBoundingClientRect().left + 1];
+})'''
 
 
 class Trials:
@@ -162,11 +190,11 @@ def reached(words, at, command):
 
 
 class Moves:
-    """The page overrun.html, and what is done to it."""
+    """A page, and what is done to it."""
 
-    def __init__(self, browser, trials, folder):
-        self.browser, self.trials, self.address = browser, trials, f'file://{folder}/overrun.html'
-        with open(os.path.join(folder, 'overrun.words')) as file:
+    def __init__(self, browser, trials, folder, name='overrun'):
+        self.browser, self.trials, self.address = browser, trials, f'file://{folder}/{name}.html'
+        with open(os.path.join(folder, f'{name}.words')) as file:
             self.words = file.read().split('\n')[:-1]
         *self.trace, self.end = said(['trace', *self.words])
         self.steps = len(self.trace)
@@ -325,6 +353,17 @@ class Moves:
             self.trials.same(f'the width of the page of {width}', width, self.browser.value('Math.max(innerWidth, document.documentElement.scrollWidth)'))
         self.browser.size(1280, 720)
 
+    def contrast(self):
+        """Each text, but for buttons that can't be pressed, stands out from its ground by 4.5 : 1 at least, as WCAG 2 counts it."""
+        for scheme in ('light', 'dark'):
+            self.browser.ask('Emulation.setEmulatedMedia', features=[{'name': 'prefers-color-scheme', 'value': scheme}])
+            for step in (0, self.steps // 2, self.steps):
+                self.at(step)
+                looked, weak = self.browser.value(CONTRAST)
+                self.trials.holds(f'texts that are looked at, {scheme}, at step {step}', looked > 100, looked)
+                self.trials.same(f'texts without contrast, {scheme}, at step {step}', [], weak)
+        self.browser.ask('Emulation.setEmulatedMedia', features=[])
+
 
 def moves(browser, trials, folder):
     page = Moves(browser, trials, folder)
@@ -335,7 +374,36 @@ def moves(browser, trials, folder):
         page.lines()
     page.by_keyboard()
     page.widths()
+    page.contrast()
     page.links()
+
+
+def variables(browser, trials, folder):
+    """A search for a variable finds what writes any of its bytes. Beside a row of memory its offset can be read, however narrow the page is."""
+    page = Moves(browser, trials, folder, 'variables')
+    # (the program has one section of data, of zeros: flows[16] of 16 bytes, and then total)
+    spans = {'flows': (0x300000000, 256), 'total': (0x300000100, 4)}
+    for name, (start, size) in spans.items():
+        writers = [at for at, line in enumerate(page.trace) for place, count in re.findall('; (0x[0-9a-f]+):([0-9]+) = ', line)
+                   if start < int(place, 16) + int(count) and int(place, 16) < start + size]
+        page.leads(f'a search for {name}', 0, writers[0], lambda: page.find(name))
+        trials.same('what it says', f'a step that writes {name}: 1 of {len(set(writers))}', page.said())
+        page.leads(f'a search back for {name}', page.steps, writers[-1], lambda: page.find(name, True))
+    trials.holds('the first bytes of flows are not written', not any('; 0x300000000:' in line for line in page.trace))
+    page.at(page.steps)
+    for width, bytes_in_row in ((1280, 16), (700, 16), (390, 8), (320, 8)):
+        browser.size(width, 2000)
+        browser.wait(f'page.memory.width === {bytes_in_row}')
+        rows = browser.value(LABELS)
+        wanted = {start: f'flows+{start - 0x300000000}' for start, *_ in rows if 0x300000000 < start < 0x300000100}
+        trials.holds(f'rows of flows at {width}', len(wanted) > 6, rows)
+        trials.same(f'what stands beside them at {width}', wanted, {start: label for start, label, *_ in rows if start in wanted})
+        trials.same(f'offsets that are cut off at {width}', [], [row for row in rows if not row[2]])
+    # (bpfdb has it as values of 8 bytes: 260 bytes are 33 of them)
+    trials.same('the heading of the section', ['map 0 .bss264 bytes of data'],
+                browser.value('[...document.querySelectorAll("#memory .region")].map((each) => each.textContent).filter((text) => text.startsWith("map"))'))
+    browser.size(1280, 720)
+    page.contrast()
 
 
 # What a page of 100,000 steps may take, in seconds, where other tests run beside it: to open, and to answer.
@@ -380,7 +448,7 @@ def names(browser, trials, folder):
 def main(part, folder):
     trials, browser = Trials(), Browser(os.environ.get('CHROMIUM', 'chromium'))
     try:
-        {'states': states, 'moves': moves, 'long': long, 'names': names}[part](browser, trials, os.path.abspath(folder))
+        {'states': states, 'moves': moves, 'long': long, 'names': names, 'variables': variables}[part](browser, trials, os.path.abspath(folder))
         asked = [event['params']['request']['url'] for event in browser.events if event['method'] == 'Network.requestWillBeSent']
         trials.same('what is loaded', [], [url for url in asked if not url.startswith(f'file://{os.path.abspath(folder)}/')])
         faults = [event['params'] for event in browser.events if event['method'] in ('Runtime.exceptionThrown', 'Log.entryAdded')]
