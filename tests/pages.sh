@@ -247,14 +247,14 @@ options() {
 refusals() {
     # (want of memory has the text that the checker's has; a long row is one line)
     memory=$(sed -n 's/.*LoadFault::Memory => ([0-9]*, "\([^"]*\)").*/\1/p' crates/bpf_isa/src/fault.rt)
-    cat crates/bpf_*/src/fault.rt crates/bpfdb_script/src/refusal.rt |
+    cat crates/bpf_*/src/fault.rt crates/suite_files/src/fault.rt crates/bpfdb_script/src/refusal.rt |
         sed "s/[A-Za-z]*::[A-Za-z]*Memory\.text()/\"$memory\"/; /=> ($/{N;N;N;s/(\n */(/;s/\n */ /g;s/, ),/),/}" | awk -v tested="$(grep -c '^| T1 ' docs/COMMANDS.md)" '
         BEGIN {
             letter["LoadFault"] = letter["PieceFault"] = letter["WordFault"] = "C"
             letter["LineFault"] = letter["AsmFault"] = "A"
             letter["MapFault"] = "M"; letter["LinkFault"] = letter["RelocationFault"] = letter["BtfFault"] = letter["UseFault"] = "E"; letter["OpenFault"] = "O"; letter["JournalFault"] = "J"; letter["Refusal"] = "Q"; letter["WhatFault"] = letter["GoalFault"] = "V"
             # (those of test files count from when the page has them)
-            if (tested) letter["SectionFault"] = "T"
+            if (tested) letter["SectionFault"] = letter["NamedFault"] = "T"
         }
         { gsub(/\(_\)/, ""); sub(/ \{ \.\. \}/, ""); gsub(/ \| [A-Za-z]+::[A-Za-z]+/, "") }
         match($0, /[A-Za-z]+::[A-Za-z]+ => \([0-9]+, "[^"]*"\),$/) {
