@@ -140,8 +140,8 @@ bytes program b7 00 00 00 01 00 00 00 85 10 00 00 01 00 00 00 EXIT 72 0a ff ff 0
     71 30 00 00 00 00 00 00 85 00 00 00 01 00 00 00 EXIT
 bytes context 01 02 03 04 05 06 07 08
 
-# command LINE REPLIES: one more line of the script, and what it is answered, as printf's %b reads them.
-command() {
+# typed LINE REPLIES: one more line of the script, and what it is answered, as printf's %b reads them.
+typed() {
     printf '%b\n' "$1" >> script
     printf '%b' "$2" >> stated
     echo "$(wc -c < script) $(wc -c < stated)" >> ends
@@ -157,67 +157,67 @@ begin_script() {
 
 begin_script
 zeros='r3=0x0 r4=0x0 r5=0x0 r6=0x0 r7=0x0 r8=0x0 r9=0x0 r10=0x200000200'
-command 'info regs' "r0=0x0 r1=0x100000000 r2=0x8 $zeros\nat 0: mov r0, 1\n"
-command 'info frames' 'depth 0\n'
-command 'info breaks' 'none\n'
-command 'info history' '0 moves, 0 commands, 0 of 65536 bytes\n'
-command 'info trace' 'trace 0\n'
-command 'frob' 'refused Q1: unknown command\n'
-command 'stepi 0' 'refused Q2: wrong argument\n'
-command 'reverse-stepi' 'refused Q4: no kept step\n'
-command 'undo' 'refused Q5: fewer kept commands\n'
-command 'finish' 'refused Q9: outermost frame\n'
-command 'break 3' 'ok\n'
-command 'break 3' 'refused Q11: not there or already there\n'
-command 'watch 0x2000005ff' 'ok\n'
-command 'info breaks' 'break 3\nwatch 0x2000005ff\n'
-command 'stepi' '1 forward; done; at 1: callf L3\n'
-command 'nexti' '1 forward; break; at 3: stb [r10-1], 7\n'
-command 'info frames' 'depth 1\nreturns to 2 r6=0x0 r7=0x0 r8=0x0 r9=0x0\n'
-command 'continue' '1 forward; watch; at 4: exit\n'
-command 'last-write 0x2000005ff' 'changed 1 moves back: 0x0 to 0x7\n'
-command 'x 0x2000005fe 2' '0x2000005fe: 0007\n'
-command 'rc' '1 back; break; at 3: stb [r10-1], 7\n'
-command 'delete 3' 'ok\n'
-command 'unwatch 0x2000005ff' 'ok\n'
-command 'finish' '2 forward; done; at 2: exit\n'
-command 'reverse-nexti' '3 back; done; at 1: callf L3\n'
-command 'stepi' '1 forward; done; at 3: stb [r10-1], 7\n'
-command 'reverse-finish' '1 back; done; at 1: callf L3\n'
-command 'set reg r6 0x10' 'ok\n'
-command 'set mem 0x100000000 ff' 'ok\n'
-command 'set cell 0 1 0102030405060708' 'ok\n'
-command 'set pc 2' 'ok\n'
-command 'set reg r10 1' 'refused Q7: register not writable\n'
-command 'set pc 9' 'refused Q8: no instruction starts there\n'
-command 'set cell 1 0 00' 'refused Q14: no such cell or wrong length\n'
-command 'x 0 1' 'refused Q6: address not present\n'
-command 'info history' '5 moves, 5 commands, 81 of 65536 bytes\n'
-command 'continue' '1 forward; end; exited at 2: r0 0x1\n'
-command 'stepi' 'refused Q3: the machine has ended\n'
-command 'disas 0 2' '0: mov r0, 1\n1: callf L3\n'
-command 'last-write 0x300000008' 'changed 3 moves back: 0x0 to 0x1\n'
-command 'last-write 0x200000000' 'not changed in 6 kept moves\n'
-command 'undo 2' '2 back; done; at 1: callf L3\n'
-command 'redo' '1 redone; done; at 2: exit\n'
-command 'redo 0x7' '1 redone; all; exited at 2: r0 0x1\n'
-command 'redo' 'refused Q13: nothing to redo\n'
-command 'undo 2' '2 back; done; at 1: callf L3\n'
-command 'reverse-stepi 5' '4 back; start; at 0: mov r0, 1\n'
-command 'continue' '3 forward; limit; at 4: exit\n'
-command 'reverse-continue' '3 back; start; at 0: mov r0, 1\n'
-command '' ''
-command ' \t\r' ''
-command '\tset pc\t5\r' 'ok\n'
-command 'stepi' '1 forward; end; fault access 0x0 at 5\n'
-command 'set pc 6' 'ok\n'
-command 'stepi' '1 forward; end; fault token 0x100000000 at 6\n'
-command 'undo 4' '4 back; done; at 0: mov r0, 1\n'
+typed 'info regs' "r0=0x0 r1=0x100000000 r2=0x8 $zeros\nat 0: mov r0, 1\n"
+typed 'info frames' 'depth 0\n'
+typed 'info breaks' 'none\n'
+typed 'info history' '0 moves, 0 commands, 0 of 65536 bytes\n'
+typed 'info trace' 'trace 0\n'
+typed 'frob' 'refused Q1: unknown command\n'
+typed 'stepi 0' 'refused Q2: wrong argument\n'
+typed 'reverse-stepi' 'refused Q4: no kept step\n'
+typed 'undo' 'refused Q5: fewer kept commands\n'
+typed 'finish' 'refused Q9: outermost frame\n'
+typed 'break 3' 'ok\n'
+typed 'break 3' 'refused Q11: not there or already there\n'
+typed 'watch 0x2000005ff' 'ok\n'
+typed 'info breaks' 'break 3\nwatch 0x2000005ff\n'
+typed 'stepi' '1 forward; done; at 1: callf L3\n'
+typed 'nexti' '1 forward; break; at 3: stb [r10-1], 7\n'
+typed 'info frames' 'depth 1\nreturns to 2 r6=0x0 r7=0x0 r8=0x0 r9=0x0\n'
+typed 'continue' '1 forward; watch; at 4: exit\n'
+typed 'last-write 0x2000005ff' 'changed 1 moves back: 0x0 to 0x7\n'
+typed 'x 0x2000005fe 2' '0x2000005fe: 0007\n'
+typed 'rc' '1 back; break; at 3: stb [r10-1], 7\n'
+typed 'delete 3' 'ok\n'
+typed 'unwatch 0x2000005ff' 'ok\n'
+typed 'finish' '2 forward; done; at 2: exit\n'
+typed 'reverse-nexti' '3 back; done; at 1: callf L3\n'
+typed 'stepi' '1 forward; done; at 3: stb [r10-1], 7\n'
+typed 'reverse-finish' '1 back; done; at 1: callf L3\n'
+typed 'set reg r6 0x10' 'ok\n'
+typed 'set mem 0x100000000 ff' 'ok\n'
+typed 'set cell 0 1 0102030405060708' 'ok\n'
+typed 'set pc 2' 'ok\n'
+typed 'set reg r10 1' 'refused Q7: register not writable\n'
+typed 'set pc 9' 'refused Q8: no instruction starts there\n'
+typed 'set cell 1 0 00' 'refused Q14: no such cell or wrong length\n'
+typed 'x 0 1' 'refused Q6: address not present\n'
+typed 'info history' '5 moves, 5 commands, 81 of 65536 bytes\n'
+typed 'continue' '1 forward; end; exited at 2: r0 0x1\n'
+typed 'stepi' 'refused Q3: the machine has ended\n'
+typed 'disas 0 2' '0: mov r0, 1\n1: callf L3\n'
+typed 'last-write 0x300000008' 'changed 3 moves back: 0x0 to 0x1\n'
+typed 'last-write 0x200000000' 'not changed in 6 kept moves\n'
+typed 'undo 2' '2 back; done; at 1: callf L3\n'
+typed 'redo' '1 redone; done; at 2: exit\n'
+typed 'redo 0x7' '1 redone; all; exited at 2: r0 0x1\n'
+typed 'redo' 'refused Q13: nothing to redo\n'
+typed 'undo 2' '2 back; done; at 1: callf L3\n'
+typed 'reverse-stepi 5' '4 back; start; at 0: mov r0, 1\n'
+typed 'continue' '3 forward; limit; at 4: exit\n'
+typed 'reverse-continue' '3 back; start; at 0: mov r0, 1\n'
+typed '' ''
+typed ' \t\r' ''
+typed '\tset pc\t5\r' 'ok\n'
+typed 'stepi' '1 forward; end; fault access 0x0 at 5\n'
+typed 'set pc 6' 'ok\n'
+typed 'stepi' '1 forward; end; fault token 0x100000000 at 6\n'
+typed 'undo 4' '4 back; done; at 0: mov r0, 1\n'
 for byte in 0 1 2 3; do
-    command "watch 0x10000000$byte" 'ok\n'
+    typed "watch 0x10000000$byte" 'ok\n'
 done
-command 'watch 0x100000004' 'refused Q10: table is full\n'
-command 'quit now' 'refused Q2: wrong argument\n'
+typed 'watch 0x100000004' 'refused Q10: table is full\n'
+typed 'quit now' 'refused Q2: wrong argument\n'
 printf 'info trace' >> script
 printf 'trace 0\n' >> stated
 status=0
@@ -247,14 +247,14 @@ begin_script
 long=$(printf '%01021d' 0)
 q12='refused Q12: line too long\n'
 for more in 00 000; do
-    command "$long$more" 'refused Q1: unknown command\n'
-    command 'stepi' '1 forward; done; at 1: callf L3\n'
-    command 'undo' '1 back; done; at 0: mov r0, 1\n'
+    typed "$long$more" 'refused Q1: unknown command\n'
+    typed 'stepi' '1 forward; done; at 1: callf L3\n'
+    typed 'undo' '1 back; done; at 0: mov r0, 1\n'
 done
-command "${long}000\r" "$q12"
-command "${long}0000" "$q12"
-command "${long}00000" "$q12"
-command 'stepi' '1 forward; done; at 1: callf L3\n'
+typed "${long}000\r" "$q12"
+typed "${long}0000" "$q12"
+typed "${long}00000" "$q12"
+typed 'stepi' '1 forward; done; at 1: callf L3\n'
 status=0
 for all in '' all; do
     input 100 fail $debug
@@ -263,8 +263,8 @@ all=''
 input 100 interrupted $debug
 output 100 none $debug
 begin_script
-command 'stepi' '1 forward; done; at 1: callf L3\n'
-command 'quit' ''
+typed 'stepi' '1 forward; done; at 1: callf L3\n'
+typed 'quit' ''
 status=0
 input 1 fail $debug
 input 7 fail $debug
@@ -275,11 +275,11 @@ input 1 fail $debug
 # Scripts whose first line is a line feed alone, the same without it, and one of a line feed alone, in pieces of one byte and of seven.
 for lines in 'stepi undo' ' stepi undo' ' '; do
     begin_script
-    case $lines in ' '*) command '' '' ;; esac
+    case $lines in ' '*) typed '' '' ;; esac
     case $lines in
         *undo)
-            command 'stepi' '1 forward; done; at 1: callf L3\n'
-            command 'undo' '1 back; done; at 0: mov r0, 1\n' ;;
+            typed 'stepi' '1 forward; done; at 1: callf L3\n'
+            typed 'undo' '1 back; done; at 0: mov r0, 1\n' ;;
     esac
     status=0
     for piece in 1 7; do
