@@ -1,7 +1,9 @@
 """What an editor asks by expressions and by commands of bpfdb, and bpfdb's own requests."""
 
+import os
 import re
 
+from bpfdb.habits import OWN_HELP, commands
 from bpfdb.machine import ADDRESS, SLOT
 from bpfdb.places import slots_of_line
 from bpfdb.protocol import Failed
@@ -13,7 +15,7 @@ from bpfdb.texts import number
 # The commands of bpfdb, for completion behind a colon.
 COMMANDS = ('stepi', 'nexti', 'continue', 'finish', 'undo', 'redo', 'origin', 'whynot', 'reverse-stepi', 'reverse-nexti', 'reverse-continue', 'reverse-finish',
             'set reg', 'set mem', 'set cell', 'set pc', 'break', 'delete', 'watch', 'unwatch', 'info regs', 'info frames', 'info breaks',
-            'info history', 'info trace', 'x', 'disas', 'last-write')
+            'info history', 'info trace', 'x', 'disas', 'last-write', 'help')
 # Those that only show something, and may be asked for again and again.
 VIEWS = ('x', 'info', 'last-write', 'disas')
 # A move in an answer of `origin` or `whynot`, with its slot.
@@ -42,6 +44,8 @@ class CommandRequests:
             raise Failed('the editor ends the session')
         if words[0] in ('undo', 'redo', 'origin', 'whynot'):
             return getattr(self, words[0])(words[1:])
+        if words == ['help']:
+            return '\n'.join([*(f'{row[1]}: {row[3]}' for row in commands() if row[0] != 'end'), *(OWN_HELP[name][1] for name in ('origin', 'whynot'))])
         self.machine.history.begin()
         reply = self.machine.ask(line)
         if reply and reply[0].startswith('refused '):
@@ -105,14 +109,17 @@ class CommandRequests:
         return ','.join(map(str, slots)) or text
 
     def linked(self, lines):
-        return '\n'.join(line + self.link(line) for line in lines)
+        return '\n'.join(self.with_link(line) for line in lines)
 
-    def link(self, line):
-        """The place in the source of a move of such an answer."""
+    def with_link(self, line):
+        """A line of such an answer, that of a move with its place in the source, which stands there once."""
         found = ANSWER_SLOT.match(line)
         slot = int(found[1]) if found else -1
         source = self.machine.loaded.source
-        return f' ({source.paths[slot]}:{source.lines[slot][1]})' if slot in source.lines else ''
+        if slot not in source.lines:
+            return line
+        path, at = source.paths[slot], source.lines[slot][1]
+        return f'{line.removesuffix(f" ({os.path.basename(path)}:{at})")} ({path}:{at})'
 
     def do_bpfdb_origin(self, arguments):
         return self.with_places(self.names.origin(arguments.text('what', '').split()))
@@ -145,7 +152,7 @@ class CommandRequests:
         if address:
             try:
                 first = next((line for line in self.names.origin([]) if line.startswith(('-', 'left '))), '')
-                lines += [first + self.link(first)] if first else []
+                lines += [self.with_link(first)] if first else []
             except (Hint, Failed) as fault:
                 lines.append(str(fault))
         return {'exceptionId': ' '.join(place.split()[:2]), 'description': '\n'.join(lines), 'breakMode': 'always', 'details': {'message': place}}

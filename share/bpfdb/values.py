@@ -165,7 +165,7 @@ class Values:
             slot = re.match(r'-\d+ (?:.*?; )?(\d+): ', text)
             file, at, _ = self.source.lines.get(int(slot[1]) if slot else -1, ('', 0, ''))
             place = f' ({file}:{at})'
-            self.say(text + (place if file and self.terminal and not text.endswith(place) else ''), '31' if text.startswith('refused ') else '')
+            self.say(text + (place if file and not text.endswith(place) else ''), '31' if text.startswith('refused ') else '')
         if reply and reply[0].startswith('refused ') and self.terminal:
             warn(f"bpfdb-shell: {meaning(name, reply[0])}")
         if any(text.endswith(('; before the kept history', ' before what is kept')) for text in reply):

@@ -80,7 +80,7 @@ if has python3 'bpfdb-shell'; then
 '1 forward; done; at 0: add r0, 1\nleft r0 = 0x38; before the kept history\n1 back; start; at 1: ja L0\n' \
         "$dropped$dropped$dropped$dropped$dropped$dropped" --journal 1024 --steps 200 endless.s
     printf 'jeq r1, 0, none\nldxb r0, [r1+0]\nexit\nnone: mov r0, 1\nexit\n' > first.s
-    decided='-3 0: jeq r1, 0, L3; r1 = 0x0; jumped to 3\nat 0: jeq r1, 0, L3\nleft r1 = 0x0; at the opening\n'
+    decided='-3 0: jeq r1, 0, L3; r1 = 0x0; jumped to 3 (first.s:1)\nat 0: jeq r1, 0, L3\nleft r1 = 0x0; at the opening\n'
     plainly 'why it did not come to a slot, a line or a label' 0 'c\nwhynot 1\nwhynot first.s:2\nwhynot none\nrs\nwhynot none+1\nwhynot\nwhynot nosuch\nwhynot 9\n' \
         "3 forward; end; exited at 4: r0 0x1\n$decided${decided}it was reached 2 moves back\n1 back; done; at 4: exit\nit can still be reached\nrefused V4: no instruction starts at the slot\n" \
         'bpfdb-shell: whynot PLACE: a slot, a label, LABEL+1 or FILE:LINE\nbpfdb-shell: there is no label nosuch\n' first.s
@@ -248,7 +248,7 @@ PYTHON
     # What comes by a pipe can be read but once, and origin needs it again.
     mkfifo pipe
     cat context.bin > pipe &
-    plainly 'a context by a pipe' 0 'c\norigin r0\n' '105 forward; end; fault access 0x10077656d at 25\n-9 r0 = 0x77; 19: ldxb r0, [r0+0]; from 0x10000000c:1\n'\
+    plainly 'a context by a pipe' 0 'c\norigin r0\n' '105 forward; end; fault access 0x10077656d at 25\n-9 r0 = 0x77; 19: ldxb r0, [r0+0]; from 0x10000000c:1 (overrun.c:21)\n'\
 'left 0x10000000c:1 = 0x77; byte 12 of the context; at the opening\n' '' -m pipe overrun.o
     cat overrun.o > pipe &
     plainly 'an object by a pipe' 0 'b copy\nc\norigin r7\n' 'ok\n10 forward; break; at 13: jeq r3, 0, L23\nleft r7 = 0x0; at the opening\n' '' --mem=context.bin pipe

@@ -118,7 +118,8 @@ def whynot():
         lines = editor.ask('bpfdb/whynot', what=what)['lines']
         hold(lines[0]['text'], branch, f'the branch, of {what}')
         hold((os.path.basename(lines[0]['source']['path']), lines[0]['instructionReference']), ('firewall.c', hex(8 * 31)), 'its place')
-    hold(editor.hand('whynot firewall.c:54').split('\n')[0].startswith(branch + ' ('), True, 'the branch behind a colon')
+    place = f'({os.path.join(HERE, "firewall.c")}:47)'
+    hold(editor.hand('whynot firewall.c:54').split('\n')[0], f'{branch.removesuffix(" (firewall.c:47)")} {place}', 'the branch behind a colon, with its line once')
     hold(editor.state(), before, 'the state')
     for what, why in (('nowhere.c:54', 'there is no instruction at nowhere.c:54'),
                       ('nowhere', 'there is no instruction at nowhere: a slot, a function, a label or FILE:LINE'),
@@ -293,6 +294,20 @@ def jump():
     hold(editor.state(), before, 'the state')
     hold(editor.ask('gotoTargets', source=source, line=5)['targets'], [], 'a line without instructions')
     hold(editor.refused('goto', threadId=1, targetId=4000), 'refused Q8: no instruction starts there', 'no slot')
+    left(editor)
+
+
+@story
+def helped():
+    """What can be typed behind a colon."""
+    editor, _ = started()
+    told = dict(line.split(': ', 1) for line in editor.hand('help').split('\n'))
+    hold(told['stepi [COUNT]'], 'takes COUNT steps, 1 if left out', 'a command of bpfdb')
+    hold(told['whynot PLACE'][:30], 'shows why the program did not ', 'one of the adapter')
+    hold('quit' in told, False, 'the end of the session is the editor\'s')
+    for usage in told:
+        name = usage.split(' [')[0].split(' or ')[0]
+        hold('refused Q1' in (editor.refused('evaluate', expression=f':{name} ?', context='repl')), False, f'{name} is a command')
     left(editor)
 
 
