@@ -64,7 +64,7 @@ tells 0 "exited at 6: r0 0x2\n-2 r1 = 0x1; 5: mov r1, 1\n-3 1: jeq r0, 2, L5; r0
 listing ever.s 'jeq r1, 0, on;ever: ja ever;on: exit'
 tells 0 "exited at 2: r0 0x0\nleft r0 = 0x0$start-2 0: jeq r1, 0, L2; r1 = 0x0; jumped to 2\nno other branch$start" origin --branches --listing ever.s
 
-# Calls: what a function decides doesn't count for its caller; in it the branches of its caller follow. Recursion.
+# Calls: what a function decides doesn't count for its caller; in it the branches of its caller follow. Recursion; seven calls deep.
 listing calls.s 'jeq r1, 0, skip;exit;skip: callf f;exit;f: jeq r0, 0, in;exit;in: mov r0, 7;exit'
 tells 0 "exited at 3: r0 0x7\n-3 r0 = 0x7; 6: mov r0, 7\n-4 4: jeq r0, 0, L6; r0 = 0x0; jumped to 6\n-6 0: jeq r1, 0, L2; r1 = 0x0; jumped to 2\nno other branch$start" origin --branches --listing calls.s
 tells 0 "at 7: exit\n-1 r0 = 0x7; 6: mov r0, 7\n-2 4: jeq r0, 0, L6; r0 = 0x0; jumped to 6\n-4 0: jeq r1, 0, L2; r1 = 0x0; jumped to 2\nno other branch$start" \
@@ -73,6 +73,8 @@ tells 0 "at 4: jeq r0, 0, L6\nleft r0 = 0x0$start-2 0: jeq r1, 0, L2; r1 = 0x0; 
 listing back.s 'f: jeq r0, 0, deeper;exit;deeper: callf f;mov r0, 1;exit'
 turn='0: jeq r0, 0, L2; r0 = 0x0; jumped to 2\n'
 tells 0 "at 0: jeq r0, 0, L2\nleft r0 = 0x0$start-2 $turn-4 ${turn}no other branch$start" origin --branches --steps 4 --listing back.s
+listing seven.s 'callf a;exit;a: callf b;exit;b: callf c;exit;c: callf d;exit;d: callf e;exit;e: callf f;exit;f: callf g;exit;g: jeq r0, 0, in;exit;in: mov r0, 7;exit'
+tells 0 "exited at 1: r0 0x7\n-9 r0 = 0x7; 16: mov r0, 7\n-10 14: jeq r0, 0, L16; r0 = 0x0; jumped to 16\nno other branch$start" origin --branches --listing seven.s
 
 # Scripts: an edit that led elsewhere, others, what was taken back, and the move that an answer told. What the journal dropped.
 listing plain.s 'mov r0, 1;mov r0, 2;exit'

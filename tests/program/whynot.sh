@@ -63,6 +63,23 @@ listing late.s 'jeq r0, 0, l;mov r0, 1;exit;l: ja l'
 tells 0 'at 3: ja L3\n-1000 0: jeq r0, 0, L3; r0 = 0x0; jumped to 3\nat 0: jeq r0, 0, L3\nleft r0 = 0x0; at the opening\n' whynot --steps 1000 --listing late.s 1
 tells 0 'at 3: ja L3\nit was out of reach before what is kept\n' whynot --steps 1000 --journal 1024 --listing late.s 1
 
+# Long programs: a jump to a slot above 255, a slot that was reached 300 moves ago, a wide load between the branch and the slot, a loop of 301 slots, and the
+# slot 40,000. And what is behind seven returns.
+many() { yes "$2" | head -n "$1"; }
+{ echo 'jeq r0, 0, far'; many 299 'mov r1, 1'; echo exit; echo 'far: exit'; } > above.s
+tells 0 'exited at 301: r0 0x0\n-2 0: jeq r0, 0, L301; r0 = 0x0; jumped to 301\n' whynot --alone --listing above.s 1
+{ many 299 'mov r1, 1'; echo exit; } > ago.s
+tells 0 'exited at 299: r0 0x0\nit was reached 300 moves back\n' whynot --listing ago.s 0
+{ echo 'jne r0, 0, far'; echo exit; echo 'far: mov r1, 1'; many 297 'mov r1, 1'; echo 'lddw r1, 1'; echo 'mov r0, 1'; echo exit; } > passed.s
+tells 0 'exited at 1: r0 0x0\n-2 0: jne r0, 0, L2; r0 = 0x0; went on\n' whynot --alone --listing passed.s 302
+{ echo 'loop: mov r0, 1'; many 299 'mov r1, 1'; echo 'jne r0, 1, loop'; echo exit; } > round.s
+tells 0 'exited at 301: r0 0x1\n-2 300: jne r0, 1, L0; r0 = 0x1; went on\n' whynot --alone --listing round.s 0
+{ many 40000 'mov r1, 1'; echo exit; } > top.s
+tells 0 'exited at 40000: r0 0x0\nit was reached 1 moves back\n' whynot --listing top.s 40000
+refused 'refused V4: no instruction starts at the slot' whynot --listing top.s 40001
+listing seven.s 'callf a;exit;a: callf b;exit;b: callf c;exit;c: callf d;exit;d: callf e;exit;e: callf f;exit;f: callf g;exit;g: mov r0, 1;exit'
+tells 0 'at 14: mov r0, 1\nit can still be reached\n' whynot --steps 7 --listing seven.s 1
+
 # What names no slot, and what no instruction starts at: the first one counts. It is looked at last.
 v3='refused V3: neither a slot nor slots with commas between'
 v4='refused V4: no instruction starts at the slot'
