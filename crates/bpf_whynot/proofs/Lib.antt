@@ -14,3 +14,5 @@ pub mod Turning
 pub mod BranchGoing
 pub mod Finding
 pub mod Deciding
+pub mod Onward
+pub mod Staying

@@ -1,10 +1,12 @@
--- What an answer means: before the move that is told a goal can be come to, and from no state since.
+-- What an answer means: before the move that is told a goal can be come to, and from no state since, nor does any run come to one from there.
 use Rattle.std.specs.Prelude.{◌≡◌, ◌≤◌, ◌<◌, ◌⊎◌, ℕ, ◌-◌, Bool, true, false, List, length}
 use Rattle.bpf_journal.specs.Histories.{Record}
 use Rattle.bpf_journal.specs.Lookups.{state_before}
-use Rattle.bpf_steps.specs.State.{State}
+use Rattle.bpf_entries.specs.Status.{has_ended}
+use Rattle.bpf_steps.specs.Runs.{state_after}
+use Rattle.bpf_steps.specs.State.{State, IsState}
 use Rattle.bpf_whynot.specs.Answers.{Query, left_by, never_text, only, why_not}
-use Rattle.bpf_whynot.specs.Reach.{can_from}
+use Rattle.bpf_whynot.specs.Reach.{TellsReach, can_from, is_goal}
 
 -- The answer is that of a move so many back, in a history that leads to y: a goal can be come to from the state before it, and from no state
 -- after it, up to y.
@@ -28,3 +30,9 @@ pub record IsOfNone (can : ℕ → List ℕ → Bool) (s : Query) (h : List Reco
 abbrev pub AnswersAreOfTheLatest : Type 0
 AnswersAreOfTheLatest = (can : ℕ → List ℕ → Bool) (s : Query) (h : List Record) (y : State) → can_from can y ≡ false
     → IsOfMove can s h y ⊎ IsOfNone can s h y
+
+-- Out of reach is out of reach for good: from a state from which no goal can be come to, by a test that tells that, no run takes a step at one.
+abbrev pub OutOfReachStays : Type 0
+OutOfReachStays = (can : ℕ → List ℕ → Bool) (goals : List ℕ) (x : State) (n : ℕ)
+    → IsState x → TellsReach x.program goals can → can_from can x ≡ false
+    → has_ended (state_after n x).status ≡ false → is_goal goals (state_after n x).pc ≡ false
