@@ -11,7 +11,7 @@ use Rattle.bpf_whynot.proofs.Flowing.{stands_within}
 use Rattle.bpf_whynot.specs.Branches.{JustOne}
 use Rattle.bpf_whynot.specs.BranchLaws.{IsWayOut, OlderIsDecided, SureGoesOn}
 
-one_slot : (a b : ℕ) → (a == b) ≡ true → a ≡ b
+pub one_slot : (a b : ℕ) → (a == b) ≡ true → a ≡ b
 one_slot a b e = grind (arith, nat_tests)
 
 end_but : (a b c : Bool) → (a && not b) ≡ true → c ≡ false → (a && not c) ≡ true
@@ -56,7 +56,7 @@ sure_goes_on program young old p here there = (
   (λ w. without program young old p w there.1 here.1),
 )
 
-same_way : (a b : ℕ) → Some (pos a) ≡ Some (pos b) → a ≡ b
+pub same_way : (a b : ℕ) → Some (pos a) ≡ Some (pos b) → a ≡ b
 same_way a b e = cc
 
 just_one : (program : Checked) (young old p q way : ℕ) (i : Insn) → target_of p i ≡ Some (pos q)

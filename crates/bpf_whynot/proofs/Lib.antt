@@ -16,3 +16,5 @@ pub mod Finding
 pub mod Deciding
 pub mod Onward
 pub mod Staying
+pub mod Following
+pub mod Turned
