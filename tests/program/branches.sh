@@ -24,6 +24,13 @@ tells 0 "at 3: mov r0, 2\nleft r0 = 0x0$start-1 0: jeq r2, 0, L3; r2 = 0x0; jump
 listing same.s 'jeq r0, 0, on;on: exit'
 tells 0 "exited at 1: r0 0x0\nleft r0 = 0x0${start}no other branch$start" origin --branches --listing same.s
 
+# A branch that is told, turned: the other way wasn't sure, and here another branch leads from it to the same slot.
+listing either.s 'jeq r1, 0, out;jeq r2, 0, out;exit;out: exit'
+tells 0 "exited at 3: r0 0x0\nleft r0 = 0x0$start-2 0: jeq r1, 0, L3; r1 = 0x0; jumped to 3\nno other branch$start" origin --branches --listing either.s
+printf 'set reg r1 1\ncontinue\n' > turned
+tells 0 "exited at 3: r0 0x0\nleft r0 = 0x0$start-2 1: jeq r2, 0, L3; r2 = 0x0; jumped to 3\n-3 0: jeq r1, 0, L3; r1 = 0x1; went on\nno other branch$start" \
+    origin --branches --script turned --listing either.s
+
 # Values: through copies and arithmetic, one that a branch went on to change, two that two branches made, addresses that are followed, and a function that
 # finds it in a register of its caller. What no line tells is not asked about.
 listing copied.s 'jeq r2, 0, else;mov r3, 1;ja join;else: mov r3, 2;join: stxdw [r10-8], r3;ldxdw r0, [r10-8];lsh r0, 4;exit'
