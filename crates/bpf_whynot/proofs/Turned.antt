@@ -12,7 +12,7 @@ use Rattle.bpf_machine.proofs.StepLaws.{change_at}
 use Rattle.bpf_steps.specs.Next.{change_by, changed, jumps as is_taken, next, target}
 use Rattle.bpf_steps.specs.Runs.{state_after}
 use Rattle.bpf_steps.specs.State.{State, depth}
-use Rattle.bpf_whynot.specs.BranchLaws.{BranchesLeadThere, ComesTo, IsWayOut, NoneDecides, SureIsComeTo, TurnedBranchesLeadElsewhere, gone}
+use Rattle.bpf_whynot.specs.BranchLaws.{BranchesLeadThere, ComesTo, IsWayOut, LoneBranchesArePassedAgain, NoneDecides, SureIsComeTo, TurnedBranchesLeadElsewhere, gone}
 use Rattle.bpf_whynot.specs.Branches.{DecidesBy, JustOne}
 use Rattle.bpf_whynot.specs.Flows.{ends}
 use Rattle.bpf_whynot.specs.Reach.{calls, goes_on, jumps}
@@ -235,3 +235,15 @@ turned_branches_lead_elsewhere x n slot way i is stands told out other =
     let d = told.decided in
     turned x n slot way i is.checked stands
     (subst (λ (j : Insn). DecidesBy x.program slot x.pc j) (same_insn d.0 i (sym d.1 ∙ stands)) d.2) told.came told.latest out other
+
+pub lone_branches_are_passed_again : LoneBranchesArePassedAgain
+lone_branches_are_passed_again x n m slot way i is stands told out other alone came never =
+    (turned_branches_lead_elsewhere x n slot way i is stands told out other).1 m came none
+  where
+    none : NoneDecides (gone x way) m slot
+    none k low level d =
+        let kept = program_after k (gone x way) is.checked in
+        never k (omega (arith, low)) level
+        (alone (state_after k (gone x way)).pc d.0
+        (subst (λ (p : Checked). insn_at p (state_after k (gone x way)).pc ≡ Some d.0) kept d.1)
+        (subst (λ (p : Checked). DecidesBy p slot (state_after k (gone x way)).pc d.0) kept d.2))

@@ -72,3 +72,13 @@ TurnedBranchesLeadElsewhere =
     (x : State) (n slot way : ℕ) (i : Insn) → IsState x → insn_at x.program x.pc ≡ Some i → IsTold x n slot →
     IsWayOut x.pc i way → way ≢ (next x).pc →
     IsSure x.program slot (next x).pc × ((m : ℕ) → ComesTo (gone x way) m slot → NoneDecides (gone x way) m slot → ⊥)
+
+-- Where no other branch of the program decides that, the machine comes there only by this one again.
+abbrev pub DecidesAlone : Checked → ℕ → ℕ → Type 0
+DecidesAlone program slot p = (q : ℕ) (i : Insn) → insn_at program q ≡ Some i → DecidesBy program slot q i → q ≡ p
+
+abbrev pub LoneBranchesArePassedAgain : Type 0
+LoneBranchesArePassedAgain =
+    (x : State) (n m slot way : ℕ) (i : Insn) → IsState x → insn_at x.program x.pc ≡ Some i → IsTold x n slot →
+    IsWayOut x.pc i way → way ≢ (next x).pc → DecidesAlone x.program slot x.pc →
+    ComesTo (gone x way) m slot → NeverAt (gone x way) m x.pc → ⊥

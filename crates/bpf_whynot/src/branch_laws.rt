@@ -1,5 +1,5 @@
 //! Laws of the definitions, each proved as the contract of a function that does nothing.
-ghost use Rattle.bpf_whynot.specs.BranchLaws.{BranchesLeadThere, OlderIsDecided, SureGoesOn, SureIsComeTo, TurnedBranchesLeadElsewhere};
+ghost use Rattle.bpf_whynot.specs.BranchLaws.{BranchesLeadThere, LoneBranchesArePassedAgain, OlderIsDecided, SureGoesOn, SureIsComeTo, TurnedBranchesLeadElsewhere};
 
 /// Where a branch decided that a function came to a slot, and went a way that leads surely to an
 /// older slot, and from there surely to that one, it decided that the function came to the older
@@ -28,4 +28,10 @@ pub fn branches_lead_there()
 #[tactic(none)]
 pub fn turned_branches_lead_elsewhere()
     ensures { TurnedBranchesLeadElsewhere }
+{}
+
+/// Where no other branch of the program decides that, it comes there only by this one again.
+#[tactic(none)]
+pub fn lone_branches_are_passed_again()
+    ensures { LoneBranchesArePassedAgain }
 {}
