@@ -14,6 +14,14 @@ import subprocess
 import sys
 import tempfile
 
+# The package bpfdb lies beside this file, or around it where this is installed.
+HERE = os.path.dirname(os.path.abspath(__file__))
+sys.path.append(HERE if os.path.isdir(os.path.join(HERE, "bpfdb")) else os.path.dirname(HERE))
+from bpfdb.foreign import Unfit, command, for_shell, is_name, script
+from bpfdb.places import slots_of_line
+from bpfdb.session import WITH_VALUE, Hint, is_unknown, unexpected
+from bpfdb.texts import plain, plain_lines
+
 # Where pc, and r0 to r10, stand among the registers of the machine that gdb takes this one for.
 COUNTERS = {"i386:x86-64": "rip", "riscv:rv64": "pc"}
 REGISTERS = {
@@ -41,15 +49,8 @@ OBJECT_FOR_BPF = b"\x01\x00\xf7\x00"
 PART = 100
 NOT_CONNECTED = "bpfdb isn't connected: bpf-load FILE starts a program"
 # Where programs are looked for that belong to this file: in 'bin' of where it is installed, or beside it, and then as the shell does.
-HERE = os.path.dirname(os.path.abspath(__file__))
 BIN = os.path.join(HERE, "..", "..", "bin") if os.path.basename(HERE) == "bpfdb" else HERE
 PLACES = os.pathsep.join([BIN, os.environ.get("PATH", "")])
-# The package bpfdb lies beside this file, or has it where both are installed.
-sys.path.append(HERE if os.path.isdir(os.path.join(HERE, "bpfdb")) else os.path.dirname(HERE))
-writes_no_bytecode, sys.dont_write_bytecode = sys.dont_write_bytecode, True
-from bpfdb.places import slots_of_line
-from bpfdb.session import WITH_VALUE, Hint, is_unknown, unexpected
-sys.dont_write_bytecode = writes_no_bytecode
 
 
 class Commands:
@@ -118,7 +119,7 @@ def answer_to(packet):
     if not is_connected():
         raise gdb.GdbError(NOT_CONNECTED)
     # (gdb's own way to send a packet forgets the frames that it is about to find)
-    answer = re.search('received: "(.*)"', gdb.execute("maintenance packet " + packet, to_string=True)).group(1)
+    answer = re.search('received: "(.*)"', gdb.execute(command("maintenance packet", packet), to_string=True)).group(1)
     if answer.startswith("E"):
         raise gdb.GdbError("bpfdb answers %s" % answer)
     return answer
@@ -296,7 +297,7 @@ class Asker(gdb.Command):
     def invoke(self, argument, from_tty):
         try:
             self.obey(argument)
-        except gdb.error as fault:
+        except (gdb.error, Unfit) as fault:
             raise gdb.GdbError(str(fault))
 
 
@@ -378,7 +379,7 @@ class PastAsker(Asker):
             raise gdb.GdbError(NOT_CONNECTED)
         PastAsker.asks = True
         try:
-            return gdb.execute(" ".join(["monitor", *self.what(text)]), to_string=True).splitlines()
+            return gdb.execute(command("monitor", *self.what(text)), to_string=True).splitlines()
         finally:
             PastAsker.asks = False
 
@@ -386,7 +387,7 @@ class PastAsker(Asker):
         """The line of the source of a move, behind its own."""
         slot = re.match(r"-\d+ (?:.*?; )?(\d+): ", line)
         place = gdb.find_pc_line(SLOT * int(slot.group(1))) if slot else None
-        return " (%s:%d)" % (os.path.basename(place.symtab.filename), place.line) if place and place.symtab else ""
+        return " (%s:%d)" % (plain(os.path.basename(place.symtab.filename)), place.line) if place and place.symtab else ""
 
 
 class Origin(PastAsker):
@@ -426,8 +427,10 @@ class Origin(PastAsker):
 
 def register_of(name, frame):
     """The register in which a variable of a frame lies, None where it lies in none."""
+    if not is_name(name):
+        return None
     try:
-        lines = gdb.execute("info address " + name, to_string=True).splitlines()
+        lines = gdb.execute(command("info address", name), to_string=True).splitlines()
     except (gdb.error, UnicodeDecodeError):
         return None
     # (of a caller the place is asked for at its call)
@@ -484,7 +487,7 @@ class Registers(Asker):
         super().__init__("bpf-registers", gdb.COMMAND_DATA)
 
     def obey(self, argument):
-        gdb.execute("info registers %s pc" % " ".join("r%d" % number for number in range(11)))
+        gdb.execute("info registers r0 r1 r2 r3 r4 r5 r6 r7 r8 r9 r10 pc")
 
 
 class Map(Asker):
@@ -563,6 +566,12 @@ class Load(Asker):
         words = [os.path.expanduser(word) for word in gdb.string_to_argv(argument)] or self.words
         if not words:
             raise gdb.GdbError("bpf-load FILE [OPTIONS]")
+        self.start(words)
+
+    def start(self, words):
+        """Starts the program of these words."""
+        # (what can't be part of a command is refused before a program that runs is killed)
+        command(*words)
         refuse_unknown(words[1:])
         inferior = gdb.selected_inferior()
         if inferior.pid and not is_connected():
@@ -578,14 +587,14 @@ class Load(Asker):
         called("bpfdb", ["gdb", *options])
         if inferior.pid:
             gdb.execute("with confirm off -- kill", to_string=True)
-        gdb.execute("with confirm off -- file " + re.sub(r"([\\\s'\"])", r"\\\1", base + ".sym"), to_string=True)
+        gdb.execute(command("with confirm off -- file", re.sub(r"([\\\s'\"])", r"\\\1", base + ".sym")), to_string=True)
         self.words = words
-        quietly = "with suppress-cli-notifications on -- "
-        gdb.execute(quietly + "target remote | " + shlex.join([found("bpfdb"), "gdb", *options]), to_string=True)
+        quietly = "with suppress-cli-notifications on --"
+        gdb.execute(command(quietly, "target remote |", for_shell([found("bpfdb"), "gdb", *options])), to_string=True)
         entry = entry_of(base + ".sym")
         if entry:
             # (before it lie a jump and, it may be, a setup of data)
-            gdb.execute(quietly + "advance *%d" % entry)
+            gdb.execute(command(quietly, "advance *%d" % entry))
         gdb.execute("frame")
         commands.__init__(moves(), entry)
 
@@ -613,7 +622,7 @@ def load_object(file, options, base):
     machine_words, _ = taken(options, "--registers")
     os.environ.setdefault("BPFDB", found("bpfdb"))
     symbols = called("bpfdb-symbols", [*linking, *machine_words, file, base + ".sym"])
-    gdb.write(symbols.stderr.decode(errors="replace"), gdb.STDERR)
+    gdb.write(plain_lines(symbols.stderr.decode(errors="replace")), gdb.STDERR)
     if taken(options, "--maps")[0]:
         with open(base + ".bin", "wb") as output:
             output.write(program.stdout)
@@ -682,7 +691,7 @@ def called(name, words):
     """What a program wrote. A refusal of it is an error."""
     done = subprocess.run([found(name), *words], stdin=subprocess.DEVNULL, capture_output=True)
     if done.returncode:
-        raise gdb.GdbError(done.stderr.decode(errors="replace").strip())
+        raise gdb.GdbError(plain_lines(done.stderr.decode(errors="replace").strip()))
     return done
 
 
@@ -694,7 +703,7 @@ class Break(Asker):
         self.meant = meant
 
     def obey(self, argument):
-        gdb.execute(self.meant + " " + argument)
+        gdb.execute(command(self.meant, argument))
 
 
 class Refuse(Asker):
@@ -703,7 +712,7 @@ class Refuse(Asker):
     def __init__(self, name, why):
         super().__init__("maintenance bpf-refuse-" + name, gdb.COMMAND_MAINTENANCE)
         self.why = why
-        gdb.execute("define hook-%s\nmaintenance bpf-refuse-%s\nend" % (name, name))
+        gdb.execute(script("define hook-" + name, "maintenance bpf-refuse-" + name, "end"))
 
     def obey(self, argument):
         if is_connected():
@@ -738,7 +747,7 @@ gdb.events.new_objfile.connect(look_at_file)
 listing.read()
 gdb.unwinder.register_unwinder(None, Unwinder(), replace=True)
 gdb.disassembler.register_disassembler(Disassembler())
-Load()
+load = Load()
 Undo("bpf-undo")
 Redo("bpf-redo")
 LastWrite()

@@ -9,6 +9,7 @@ import traceback
 
 from bpfdb.breakpoint_requests import BreakpointRequests
 from bpfdb.command_requests import CommandRequests
+from bpfdb.foreign import Unfit
 from bpfdb.loading import Loaded, Wanted
 from bpfdb.machine import Machine
 from bpfdb.names import GdbNames, OwnNames, gdb_for
@@ -79,7 +80,7 @@ class Adapter(BreakpointRequests, WayRequests, StateRequests, CommandRequests):
         self.later = []
         try:
             body = self.obey(name, Arguments(message.get('arguments')))
-        except (Failed, Hint) as fault:
+        except (Failed, Hint, Unfit) as fault:
             self.fail(fields, str(fault))
         except Refused as refusal:
             self.fail(fields, refusal.said.strip() or f'bpfdb ended with status {refusal.status}')
@@ -103,7 +104,7 @@ class Adapter(BreakpointRequests, WayRequests, StateRequests, CommandRequests):
         """Does something for which there is no answer."""
         try:
             act()
-        except (Failed, Hint) as fault:
+        except (Failed, Hint, Unfit) as fault:
             self.say(f'{fault}\n', 'important')
         except Ended:
             self.say(self.why_ended() + '\n', 'important')
@@ -153,7 +154,7 @@ class Adapter(BreakpointRequests, WayRequests, StateRequests, CommandRequests):
                 self.pass_setup(machine)
             machine.history.begin()
             self.obey_script(machine, wanted)
-        except (Ended, Hint, Failed) as fault:
+        except (Ended, Hint, Failed, Unfit) as fault:
             status, why = program.end()
             raise fault if not isinstance(fault, Ended) else Refused(why, status) from None
         self.machine, self.names = machine, GdbNames(machine, gdb, version) if gdb else OwnNames(machine)

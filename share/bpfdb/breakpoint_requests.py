@@ -3,6 +3,7 @@
 import os
 import re
 
+from bpfdb.foreign import Unfit
 from bpfdb.machine import SLOT
 from bpfdb.protocol import NOTHING, Failed
 from bpfdb.session import Hint
@@ -115,7 +116,7 @@ class BreakpointRequests:
                 place = self.address_of(name), 1
             else:
                 place = self.names.place(name, self.level(arguments))
-        except Hint as why:
+        except (Hint, Unfit) as why:
             return {'dataId': None, 'description': str(why)}
         if place is None:
             return {'dataId': None, 'description': f'{name} is in no memory: bytes are watched, not registers'}
@@ -142,7 +143,7 @@ class BreakpointRequests:
         """Whether a breakpoint's condition holds. One that has no value does, and the editor is told why it has none."""
         try:
             return self.names.holds(stop.condition)
-        except (Hint, Failed) as fault:
+        except (Hint, Failed, Unfit) as fault:
             self.say(f'the condition {stop.condition}: {fault}\n', 'important')
             return True
 
@@ -151,6 +152,6 @@ class BreakpointRequests:
         def value(found):
             try:
                 return self.names.evaluate(found[1], 0)['value']
-            except (Hint, Failed) as fault:
+            except (Hint, Failed, Unfit) as fault:
                 return f'<{fault}>'
         self.say(BRACES.sub(value, stop.message) + '\n', 'stdout')

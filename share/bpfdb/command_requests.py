@@ -31,14 +31,25 @@ class CommandRequests:
             if context in ('hover', 'watch') and (text[1:].split() or [''])[0] not in VIEWS:
                 raise Failed('only commands that show something are asked for again and again')
             return {'result': self.command(text[1:].strip()), 'variablesReference': 0}
-        found = self.names.evaluate(text, self.level(arguments))
+        found = self.evaluated(text, self.level(arguments), context == 'repl')
         view = found.pop('view', None)
         return {'result': found.pop('value'), 'variablesReference': self.hold(view) if view else 0, **found}
+
+    def evaluated(self, text, number, may_write):
+        """The value of an expression, which only in the console may write: then that is an edit."""
+        before = self.machine.history.now
+        if may_write:
+            self.machine.history.begin()
+        found = self.names.evaluate(text, number, may_write)
+        if self.machine.history.now != before:
+            found.pop('view', None)
+            self.moved_by_hand(None)
+        return found
 
     def command(self, line):
         """Obeys a line of bpfdb's script. What it replies."""
         words = line.split()
-        if not words or '\n' in line or '\0' in line:
+        if not words or '\n' in line:
             raise Failed('a command of bpfdb is wanted behind the colon')
         if words[0] == 'quit':
             raise Failed('the editor ends the session')
@@ -81,7 +92,9 @@ class CommandRequests:
     def redo(self, words):
         """Makes the next commands again that were taken back."""
         moves = self.machine.history.redo(self.count_of(words))
-        reply = self.machine.demand(f'redo {max(moves, 1)}')[0]
+        if not moves:
+            raise Failed('refused Q13: nothing to redo')
+        reply = self.machine.demand(f'redo {moves}')[0]
         self.moved_by_hand(MOVE.match(reply))
         return reply
 
@@ -96,7 +109,7 @@ class CommandRequests:
     def goals(self, text):
         """The slots of a place, in bpfdb's words: of FILE:LINE all at which an instruction starts, of a function or a label the first."""
         source = self.machine.loaded.source
-        line = re.fullmatch(r'(.+):(\d+)', text)
+        line = re.fullmatch(r'(.+):([0-9]{1,9})', text)
         if line:
             paths = [path for path in self.paths() if path == line[1] or path.endswith('/' + line[1])]
             slots = slots_of_line(line[1], int(line[2]), {slot: at for slot, (_, at, _) in source.lines.items()

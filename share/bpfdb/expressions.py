@@ -2,8 +2,9 @@
 
 import re
 
+from bpfdb.foreign import cut
 from bpfdb.session import Hint
-from bpfdb.texts import MASK
+from bpfdb.texts import MASK, number
 
 TOKEN = re.compile(r"\s*(0[xX][0-9a-fA-F]+|[0-9]+|'(?:[^'\\]|\\.)'|\$?[A-Za-z_]\w*|<<|>>|<=|>=|==|!=|&&|\|\||[-+*/%&|^~!<>()])")
 REGISTER = re.compile(r'\$?(r10|r[0-9]|pc|sp|fp)')
@@ -63,7 +64,7 @@ class Expression:
 
     def need(self, wanted):
         if not self.take(wanted):
-            raise Hint(f'{wanted} is missing in {self.text}')
+            raise Hint(f'{wanted} is missing in {cut(self.text)}')
 
     def level(self, at):
         """An expression whose operators bind as these do, or more. (Both sides of && and || have their values; nothing is changed by that.)"""
@@ -130,13 +131,13 @@ class Expression:
     def word(self):
         """A number, a character, a register or a label."""
         if not self.tokens:
-            raise Hint(f'a value is missing in {self.text or "an empty expression"}')
+            raise Hint(f'a value is missing in {cut(self.text) or "an empty expression"}')
         text = self.tokens.pop(0)
         if text[0].isdigit():
-            number = int(text, 0) if text[:2] in ('0x', '0X') else int(text)
-            if number > MASK:
-                raise Hint(f'{text} has more than 64 bits')
-            return Value(number, number >> 63 == 0)
+            value = number(text.replace('X', 'x'))
+            if value is None:
+                raise Hint(f'{cut(text)} has more than 64 bits')
+            return Value(value, value >> 63 == 0)
         if text[0] == "'":
             return Value(ESCAPES.get(text[2], ord(text[2])) if text[1] == '\\' else ord(text[1]), True)
         register = REGISTER.fullmatch(text)
@@ -147,7 +148,7 @@ class Expression:
             return Value(self.registers[name], False)
         if text in self.labels:
             return Value(self.labels[text], False)
-        raise Hint(f'there is no register and no label {text}' if text[0] not in '()*/%&|^<>=!' else f'a value is missing before {text}')
+        raise Hint(f'there is no register and no label {cut(text)}' if text[0] not in '()*/%&|^<>=!' else f'a value is missing before {text}')
 
 
 def extended(bits, size, signed):

@@ -11,7 +11,7 @@ from bpfdb.texts import ran, start_of
 
 # The journal of a session that names none, in bytes; and the steps of a forward command, as bpfdb has them.
 JOURNAL, STEPS = 4194304, 1000000
-SHAPES = re.compile(r'\d+x\d+(,\d+x\d+)*')
+SHAPES = re.compile(r'[0-9]{1,9}x[0-9]{1,9}(,[0-9]{1,9}x[0-9]{1,9})*')
 # Words of a launch that are the editors' own, besides those that begin with two underscores: of all of them, of VS Code, of dap-mode and of Kate.
 OF_EDITORS = {'type', 'request', 'name', 'console', 'presentation', 'preLaunchTask', 'postDebugTask', 'internalConsoleOptions', 'serverReadyAction',
               'suppressMultipleSessionWarning', 'windows', 'osx', 'linux', 'adapter', 'debugServer', 'debugPort', 'host', 'hostName', 'command'}
@@ -43,8 +43,6 @@ class Wanted:
 
     def path(self, name):
         """A path, from the folder that `cwd` names on."""
-        if '\0' in name:
-            raise Failed('a name of a file has a byte zero')
         return os.path.normpath(os.path.join(self.folder, os.path.expanduser(name))) if name else ''
 
     def is_object(self):

@@ -63,6 +63,13 @@ class History:
         self.now += count
         self.top = self.now
 
+    def retract(self, count):
+        """Notes edits that were made and taken back at once. What was undone before is forgotten by them, and they are not to be made again."""
+        for _ in range(count):
+            self.forward(1, True)
+        self.now -= count
+        self.top = self.now
+
     def has_edits(self):
         """Whether a move before the state is an edit."""
         return bool(self.edits) and self.edits[0] < self.now

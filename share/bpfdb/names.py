@@ -7,9 +7,11 @@ import shutil
 import subprocess
 import tempfile
 
+from bpfdb import foreign
 from bpfdb.expressions import REGISTER, Expression
 from bpfdb.protocol import Failed
 from bpfdb.session import Ended, Hint
+from bpfdb.texts import plain
 from bpfdb.views import View, row
 
 HERE = os.path.dirname(os.path.realpath(__file__))
@@ -18,6 +20,9 @@ IN_GDB = ("python import os, sys; sys.dont_write_bytecode = True; sys.path.appen
           "import bpfdb.in_gdb; bpfdb.in_gdb.main()")
 # A register of bpfdb among words of C, which gdb knows with a `$`.
 BARE = re.compile(r'(?<![\w$.>])r(10|[0-9])\b')
+# What is a register whatever names the program has.
+OWN = re.compile(r'\$?(?:r10|r[0-9])|\$(?:pc|sp|fp)')
+WRITES = "it would write, which is for the console and for what is set"
 # A name that is neither a register nor a type of bpfdb's own expressions.
 WORD = re.compile(r'(?<![\w$])(?!(?:r10|r[0-9]|pc|[us](?:8|16|32|64))\b)[A-Za-z_]')
 # The most rows of a value.
@@ -54,7 +59,7 @@ class OwnNames:
         machine = self.machine
         return Expression(text, machine.registers_of(number), machine.loaded.source.labels, machine.read)
 
-    def evaluate(self, text, number):
+    def evaluate(self, text, number, may_write=False):
         """The value of an expression in a frame, as the protocol has it."""
         value = self.expression(text, number).value()
         place = self.expression(text, number).place()
@@ -119,13 +124,22 @@ def unless_refused(lines):
     return lines
 
 
+class Written(Hint):
+    """A call wrote that was to write nothing: it is refused, and its edits were taken back."""
+
+    def __init__(self, count):
+        super().__init__(WRITES)
+        self.count = count
+
+
 class Gdb:
     """gdb with bpfdb behind it, to which the adapter's lines go. (in_gdb.py answers there.)"""
 
     def __init__(self, program, name):
         asked, answered = os.pipe(), os.pipe()
+        # (by its own locale gdb may read no names but those of ASCII)
         environment = dict(os.environ, BPFDB=shutil.which(program) or program, DEBUGINFOD_URLS='', BPFDB_CHANNEL=f'{asked[0]},{answered[1]}',
-                           BPFDB_PACKAGE=os.path.dirname(HERE))
+                           BPFDB_PACKAGE=os.path.dirname(HERE), LC_ALL='C.UTF-8')
         self.errors = tempfile.TemporaryFile()
         # (a group of its own: an interrupt doesn't end it)
         self.child = subprocess.Popen([name, '-q', '-nx', '-batch', '-ex', IN_GDB], stdin=subprocess.DEVNULL,
@@ -149,6 +163,8 @@ class Gdb:
         answer = json.loads(line)
         if 'lost' in answer:
             raise Ended
+        if 'written' in answer:
+            raise Written(answer['written'])
         if 'error' in answer:
             raise Hint(answer['error'])
         return answer['done']
@@ -194,14 +210,42 @@ class GdbNames(OwnNames):
     def scopes(self, number):
         return [('Locals', Locals(self, number))]
 
-    def evaluate(self, text, number):
+    def call(self, name, *words):
+        """What gdb answers. What it wrote against the rule, and what is taken back of it, is in the history no more."""
         try:
-            return self.shown(self.gdb.call('evaluate', BARE.sub(r'$r\1', text), number), number)
+            return self.gdb.call(name, *words)
+        except Written as fault:
+            self.machine.history.retract(fault.count)
+            self.machine.kept = {}
+            raise
+
+    def in_c(self, text, may_write=False):
+        """An expression as gdb has it."""
+        if not may_write and foreign.assigns(text):
+            raise Hint(WRITES)
+        return BARE.sub(r'$r\1', foreign.expression(text))
+
+    def evaluate(self, text, number, may_write=False):
+        if OWN.fullmatch(text):
+            return super().evaluate(text, self.level(number))
+        try:
+            found, moves = self.call('evaluate' if may_write else 'look', self.in_c(text, may_write), number)
+        except Written:
+            raise
         except Hint as refusal:
             try:
                 return super().evaluate(text, self.level(number))
             except Hint:
                 raise refusal from None
+        self.count(moves)
+        return self.shown(found, number)
+
+    def count(self, moves):
+        """Counts edits that gdb made."""
+        for _ in range(moves):
+            self.machine.history.forward(1, True)
+        if moves:
+            self.machine.kept = {}
 
     def level(self, number):
         """The machine's frame of one of gdb's, of which several may be in one where functions are inlined."""
@@ -210,41 +254,50 @@ class GdbNames(OwnNames):
 
     def shown(self, found, number):
         """A value of gdb's as the protocol has it."""
-        view = Members(self, found['expression'], number) if found.pop('members') else None
-        found.pop('expression')
-        return {**found, **({'view': view} if view else {})}
+        view = Members(self, found['path'], number) if found['members'] else None
+        kept = {name: found[name] for name in ('value', 'type', 'memoryReference') if name in found}
+        return {**kept, **({'view': view} if view else {})}
 
     def holds(self, condition):
         """The same. What has no names of C means what it means by bpfdb alone, and takes a twentieth of the time."""
         if not WORD.search(condition):
             return super().holds(condition)
-        return self.gdb.call('holds', BARE.sub(r'$r\1', condition))
+        return self.call('holds', self.in_c(condition))
 
     def place(self, text, number):
         try:
-            found = self.gdb.call('place', BARE.sub(r'$r\1', text), number)
+            found = self.place_at([['text', self.in_c(text)]], number)
+        except Written:
+            raise
         except Hint:
             found = None
-        return tuple(found) if found else super().place(text, self.level(number))
+        return found or super().place(text, self.level(number))
+
+    def place_at(self, path, number):
+        """The address and the size of what is at a path; None of what has no address."""
+        found = self.call('place', path, number)
+        return tuple(found) if found else None
 
     def assign(self, text, value, number):
-        if REGISTER.fullmatch(text):
-            return super().assign(text, str(self.gdb.call('number', BARE.sub(r'$r\1', value), number)), self.level(number))
+        if OWN.fullmatch(text):
+            return super().assign(text, str(self.call('number', self.in_c(value), number)), self.level(number))
         try:
-            shown, moves = self.gdb.call('assign', BARE.sub(r'$r\1', text), BARE.sub(r'$r\1', value), number)
+            return self.assign_at([['text', self.in_c(text)]], value, number)
         except Hint as refusal:
             try:
                 return super().assign(text, value, self.level(number))
             except (Hint, Failed):
                 raise refusal from None
-        for _ in range(moves):
-            self.machine.history.forward(1, True)
-        self.machine.kept = {}
+
+    def assign_at(self, path, value, number):
+        """Sets what is at a path. The value that it has then, as text."""
+        shown, moves = self.call('assign', path, self.in_c(value), number)
+        self.count(moves)
         return shown
 
     def origin(self, words):
         text = ' '.join(words)
-        return unless_refused(self.gdb.call('origin', BARE.sub(r'$r\1', text)))
+        return unless_refused(self.gdb.call('origin', self.in_c(text)))
 
     def whynot(self, slots):
         return unless_refused(self.gdb.call('whynot', slots))
@@ -261,39 +314,39 @@ class Locals(View):
         self.names, self.number = names, number
 
     def found(self):
-        return self.names.gdb.call('locals', self.number)
+        return self.names.call('locals', self.number)
 
     def rows(self, first, count, hold):
         made = []
         for one in self.found():
-            view = hold(Members(self.names, one['expression'], self.number)) if one['members'] else 0
+            view = hold(Members(self.names, one['path'], self.number)) if one['members'] else 0
             made.append(row(one['name'], one['value'], one['type'], view, expression=one['expression'],
                             **({'memoryReference': one['memoryReference']} if 'memoryReference' in one else {})))
         return made[first:first + count if count else MOST_ROWS]
 
     def one(self, name):
-        """The expression of a row."""
-        found = next((one['expression'] for one in self.found() if one['name'] == name), None)
+        """The path of a row, which has the name that is shown."""
+        found = next((one['path'] for one in self.found() if plain(one['name']) == name), None)
         if found is None:
             raise Failed(f'there is no {name}')
         return found
 
     def assign(self, name, text, evaluate):
-        return self.names.assign(self.one(name), text, self.number)
+        return self.names.assign_at(self.one(name), text, self.number)
 
     def place(self, name):
-        return self.names.place(self.one(name), self.number)
+        return self.names.place_at(self.one(name), self.number)
 
 
 class Members(Locals):
     """What a value of C consists of."""
 
-    def __init__(self, names, expression, number):
+    def __init__(self, names, path, number):
         super().__init__(names, number)
-        self.expression = expression
+        self.path = path
 
     def found(self):
-        return self.names.gdb.call('members', self.expression, self.number)
+        return self.names.call('members', self.path, self.number)
 
 
 def gdb_for(program):

@@ -2,12 +2,19 @@
 
 import json
 import os
+import re
 import select
+
+from bpfdb.texts import plain, plain_lines
 
 # What a header, and a message, may have at most.
 LONGEST_HEADER, LONGEST_MESSAGE = 4096, 1 << 24
 # How many bytes are asked for at once.
 PART = 65536
+# What no text of a request has: a byte zero, and half a character, for which no bytes stand.
+BROKEN = re.compile('[\0\ud800-\udfff]')
+# Of what is told: what is no text to be read, and what may have several lines.
+EXACT, WITH_LINES = ('path', 'data', 'command'), ('output', 'result', 'content', 'description', 'message', 'format', 'reply', 'text')
 
 
 class Broken(Exception):
@@ -31,7 +38,7 @@ class Channel:
     def send(self, kind, **fields):
         """Writes a message. A client that reads no more ends the channel."""
         self.sent += 1
-        text = json.dumps({'seq': self.sent, 'type': kind, **fields}, ensure_ascii=True).encode()
+        text = json.dumps({'seq': self.sent, 'type': kind, **shown(fields)}, ensure_ascii=True).encode()
         content = memoryview(b'Content-Length: %d\r\n\r\n%s' % (len(text), text))
         try:
             while content:
@@ -87,6 +94,17 @@ class Channel:
         return bool(part)
 
 
+def shown(value, name=''):
+    """What is told, in whose texts those of others steer nothing and hide nothing."""
+    if isinstance(value, dict):
+        return {key: shown(one, key) for key, one in value.items()}
+    if isinstance(value, list):
+        return [shown(one, name) for one in value]
+    if not isinstance(value, str) or name in EXACT:
+        return value
+    return plain_lines(value) if name in WITH_LINES else plain(value)
+
+
 def is_whole(value):
     """Whether a value is a whole number (true and false are none)."""
     return isinstance(value, int) and not isinstance(value, bool)
@@ -122,7 +140,10 @@ class Arguments:
         return self.take(name, default, lambda value: is_whole(value) and abs(value) < 1 << 64, 'a whole number')
 
     def text(self, name, default=None):
-        return self.take(name, default, lambda value: isinstance(value, str), 'a text')
+        text = self.take(name, default, lambda value: isinstance(value, str), 'a text')
+        if BROKEN.search(text):
+            raise Failed(f'{name}: a text without a byte zero and half characters is wanted')
+        return text
 
     def flag(self, name, default=False):
         return self.take(name, default, lambda value: isinstance(value, bool), 'true or false')

@@ -49,8 +49,9 @@ class Program:
         self.line, self.kept, self.moves, self.most, self.lines = line, kept, 0, 0, []
         # the words for the object that was linked to its program, where its answers are to have the object's names
         self.linked_of = linked_of
-        # (a group of its own: an interrupt doesn't end it)
-        self.child = subprocess.Popen(line, stdin=subprocess.PIPE, stdout=subprocess.PIPE, stderr=subprocess.PIPE, text=True,
+        # (a file, since nothing reads it before the end; and a group of its own: an interrupt doesn't end it)
+        self.errors = in_memory()
+        self.child = subprocess.Popen(line, stdin=subprocess.PIPE, stdout=subprocess.PIPE, stderr=self.errors, text=True,
                                       pass_fds=[file.fileno() for file in kept], encoding='utf-8', errors='surrogateescape', preexec_fn=os.setpgrp)
 
     def ask(self, line):
@@ -119,13 +120,14 @@ class Program:
         with contextlib.suppress(OSError):
             self.child.stdin.close()
         self.child.stdout.close()
-        errors = self.child.stderr.read()
-        return self.child.wait(), errors
+        status = self.child.wait()
+        self.errors.seek(0)
+        return status, self.errors.read().decode(errors='surrogateescape')
 
     def kill(self):
         """Ends it, whatever it does."""
         self.child.kill()
-        for stream in (self.child.stdin, self.child.stdout, self.child.stderr):
+        for stream in (self.child.stdin, self.child.stdout, self.errors):
             with contextlib.suppress(OSError):
                 stream.close()
         return self.child.wait()

@@ -11,17 +11,33 @@ MASK = (1 << 64) - 1
 # The bytes that a line of bpfdb may have (so much is shown of a text's, too), a text of which lines are shown, and what is kept of a pipe.
 LONGEST_LINE, LONGEST_TEXT, LONGEST_FILE = 1024, 1 << 24, 1 << 26
 NUMBER = re.compile(r'0x[0-9a-fA-F]+|[0-9]+')
-# What a terminal obeys and doesn't show: control bytes, marks that turn the direction of a text, and bytes that are no UTF-8.
-UNSEEN = re.compile('[\x00-\x1f\x7f-\x9f\u061c\u200e\u200f\u202a-\u202e\u2066-\u2069\udc80-\udcff]')
+# The digits of the largest number, without zeros before them. (Python reads some thousands at most.)
+MOST_DIGITS = 20
+# What a terminal obeys, and what a reader doesn't see: control characters, marks that turn the direction of a text, separators of lines and paragraphs,
+# what Unicode lets be ignored (`Default_Ignorable_Code_Point`), marks of annotations, and what stands for bytes that are no UTF-8. It is what bpfdb
+# itself spells out of names.
+UNSEEN = re.compile('[\x00-\x1f\x7f-\x9f\xad\u034f\u061c\u115f-\u1160\u17b4-\u17b5\u180b-\u180f\u200b-\u200f\u2028-\u202e\u2060-\u206f\u3164\ud800-\udfff'
+                    '\ufe00-\ufe0f\ufeff\uffa0\ufff0-\ufffb\ufffd\U0001bca0-\U0001bca3\U0001d173-\U0001d17a\U000e0000-\U000e0fff]')
 
 
 class Refused(Exception):
     """Why something isn't done: a line."""
 
 
+def spelled(found):
+    """The bytes of a character, each as \\xNN. (A surrogate stands for a byte that is no UTF-8, or for nothing.)"""
+    errors = 'surrogateescape' if '\udc80' <= found[0] <= '\udcff' else 'surrogatepass'
+    return ''.join(f'\\x{byte:02x}' for byte in found[0].encode(errors=errors))
+
+
 def plain(text):
-    """A text whose bytes that a terminal would obey are shown as \\xNN."""
-    return UNSEEN.sub(lambda found: ''.join(f'\\x{byte:02x}' for byte in found[0].encode(errors='surrogateescape')), text)
+    """A text of one line whose characters that a terminal would obey, or that nobody sees, are shown as \\xNN, a byte each."""
+    return UNSEEN.sub(spelled, text)
+
+
+def plain_lines(text):
+    """The same of a text of several lines, which line feeds end."""
+    return '\n'.join(map(plain, text.split('\n')))
 
 
 def warn(text, end='\n'):
@@ -29,14 +45,14 @@ def warn(text, end='\n'):
     if sys.stderr is None:
         return
     with contextlib.suppress(OSError):
-        print('\n'.join(plain(line) for line in text.split('\n')), end=end, file=sys.stderr, flush=True)
+        print(plain_lines(text), end=end, file=sys.stderr, flush=True)
 
 
 def number(text):
     """A number as bpfdb reads it, None if it is none."""
     if not NUMBER.fullmatch(text):
         return None
-    value = int(text, 16 if text.startswith('0x') else 10)
+    value = int(text, 16) if text.startswith('0x') else int(text.lstrip('0')[:MOST_DIGITS + 1] or '0')
     return value if value <= MASK else None
 
 

@@ -1,5 +1,6 @@
 # bpfdb-dap, by an editor of the tests (dap/client.py), over bpfdb alone and, where there is one, over gdb: README's story and docs/GDB.md's at lines
-# of C, steps there and back, breakpoints, edits (dap/stories.py), what no editor should send, and what happens around it (dap/hostile.py). Each
+# of C, steps there and back, breakpoints, edits (dap/stories.py), what no editor should send, and what happens around it (dap/hostile.py), and names
+# of an object, of files and in requests that would be commands (dap/hostile_names.py; dap/boundary.py looks for where such could pass). Each
 # message is held against the protocol's own declarations, where Debian's package node-vscode-debugprotocol is installed. And Emacs by its dap-mode.
 
 TOP=$top BPFDB=$program
@@ -52,12 +53,18 @@ if has python3 'bpfdb-dap'; then
     fi
     [ -f /usr/share/nodejs/@vscode/debugprotocol/lib/debugProtocol.d.ts ] ||
         left_out "the protocol's declarations" 'there is no node-vscode-debugprotocol'
-    played='alone hostile'
+    played='alone hostile boundary'
     play alone stories bpfdb
     play hostile hostile
+    play boundary boundary
     if gdb -nx -batch -ex 'python import gdb.disassembler' > /dev/null 2>&1; then
         play gdb stories gdb
         played="$played gdb"
+        if has_clang 'names that would steer'; then
+            mkdir hostile_names
+            (cd hostile_names && exec python3 -B "$parts/dap/hostile_names.py") > found/names 2>&1 &
+            started="$started $!" played="$played names"
+        fi
     else
         left_out 'bpfdb-dap over gdb' 'there is no gdb of version 13 or later'
     fi
