@@ -595,8 +595,35 @@ class Load(Asker):
         if entry:
             # (before it lie a jump and, it may be, a setup of data)
             gdb.execute(command(quietly, "advance *%d" % entry))
+        if has_stored_arguments():
+            entry = behind_prologue(entry)
+            gdb.execute(command(quietly, "advance *%d" % entry))
         gdb.execute("frame")
         commands.__init__(moves(), entry)
+
+
+def has_stored_arguments():
+    """Whether the function that begins keeps arguments in memory, as code does that isn't optimized: they have their values behind its prologue."""
+    frame = gdb.newest_frame()
+    try:
+        block = frame.block()
+    except RuntimeError:
+        return False
+    return any(symbol.is_argument and symbol.value(frame).address is not None for symbol in block)
+
+
+def behind_prologue(place):
+    """Where gdb has a breakpoint of the function that begins at a place: where its second line begins in the table of lines, or else the place."""
+    symtab, block = gdb.find_pc_line(place).symtab, gdb.block_for_pc(place)
+    while block and not block.function:
+        block = block.superblock
+    if not symtab or not block or block.start != place:
+        return place
+    rows = [row for row in symtab.linetable() if place <= row.pc < block.end]
+    at = 1
+    while at < len(rows) and rows[at].line < rows[at - 1].line:
+        at += 1
+    return rows[at].pc if at < len(rows) else place
 
 
 def is_object(file):

@@ -160,7 +160,7 @@ class Adapter(BreakpointRequests, WayRequests, StateRequests, CommandRequests):
         self.machine, self.names = machine, GdbNames(machine, gdb, version) if gdb else OwnNames(machine)
         self.views, self.frames = [None], []
         self.wanted, self.traced, self.instructions = wanted, 0, os.path.basename(wanted.file) + ' (instructions)'
-        self.runner = Runner(machine, self.stops, wanted.steps, self.holds, self.tell)
+        self.runner = Runner(machine, self.stops, wanted.steps, self.holds, self.tell, self.names.body)
         lines = '' if loaded.source.lines or not wanted.is_object() else ', without lines: the object has none'
         self.say(f'bpfdb-dap: {os.path.basename(wanted.file)} over {said}{lines}\n')
 

@@ -77,7 +77,7 @@ class BreakpointRequests:
         wanted, firsts = min(later), {}
         for slot in sorted(slot for slot, at in lines.items() if at == wanted):
             firsts.setdefault(machine.start_of(slot), slot)
-        return wanted, list(firsts.values())
+        return wanted, list(map(self.names.body, firsts.values()))
 
     def do_setFunctionBreakpoints(self, arguments):
         made = []
@@ -85,7 +85,7 @@ class BreakpointRequests:
             name = one.text('name').strip()
             named = [slot for slot, function in self.machine.functions.items() if function == name]
             slots = named or ([self.machine.loaded.source.labels[name]] if name in self.machine.loaded.source.labels else [])
-            stop = self.breakpoint(one, slots)
+            stop = self.breakpoint(one, map(self.names.body, slots))
             stop.problem = stop.problem or ('' if slots else f'there is no function and no label {name}')
             made.append(stop)
         return self.set_stops('functions', made)

@@ -146,6 +146,12 @@ def frames():
     return found
 
 
+def behind(slot):
+    """The slot behind the prologue of the function that begins at one."""
+    settle()
+    return bpf.behind_prologue(bpf.SLOT * slot) // bpf.SLOT
+
+
 def name_of(tell):
     """What a call tells for a name; None where its bytes are no text."""
     try:
@@ -305,7 +311,7 @@ def known():
 
 
 CALLS = {**{function.__name__.rstrip('_'): function for function in
-            (version, load, ask, moved, frames, locals_, evaluate, assign, origin, whynot, known)},
+            (version, load, ask, moved, frames, behind, locals_, evaluate, assign, origin, whynot, known)},
          **{function.__name__: unwritten(function) for function in (members, holds, number, place)}, 'look': unwritten(evaluate)}
 
 

@@ -25,6 +25,8 @@ OWN = re.compile(r'\$?(?:r10|r[0-9])|\$(?:pc|sp|fp)')
 WRITES = "it would write, which is for the console and for what is set"
 # A name that is neither a register nor a type of bpfdb's own expressions.
 WORD = re.compile(r'(?<![\w$])(?!(?:r10|r[0-9]|pc|[us](?:8|16|32|64))\b)[A-Za-z_]')
+# What goes elsewhere than to the next instruction.
+LEAVES = re.compile('j|call|exit')
 # The most rows of a value.
 MOST_ROWS = 1000
 
@@ -50,6 +52,10 @@ class OwnNames:
         machine = self.machine
         slots = [machine.slot(), *(machine.before(returns) for returns, _ in machine.callers())]
         return [Frame(machine.function(slot), slot, level) for level, slot in enumerate(slots)]
+
+    def body(self, slot):
+        """Where a function that begins at a slot is stopped in: there, since the registers have its arguments."""
+        return slot
 
     def scopes(self, number):
         """Further parts of the tree of variables, with their names."""
@@ -197,7 +203,7 @@ class GdbNames(OwnNames):
 
     def __init__(self, machine, gdb, version):
         super().__init__(machine)
-        self.gdb, self.version = gdb, version
+        self.gdb, self.version, self.bodies = gdb, version, {}
 
     def moved(self):
         self.gdb.call('moved')
@@ -206,6 +212,17 @@ class GdbNames(OwnNames):
         before = self.machine.before
         return [Frame(name or self.machine.function(slot), before(slot) if level else slot, level, path, line or None)
                 for name, slot, level, path, line in self.gdb.call('frames')]
+
+    def body(self, slot):
+        """The same by gdb: behind its prologue, where variables in memory have the arguments too, if each way through the function leads there."""
+        machine = self.machine
+        if slot not in machine.functions or machine.loaded.source.of_instructions:
+            return slot
+        if slot not in self.bodies:
+            behind = self.gdb.call('behind', slot)
+            before = [machine.code[other] for other in machine.slots_of(slot) if other < behind]
+            self.bodies[slot] = slot if any(LEAVES.match(text) for text in before) else behind
+        return self.bodies[slot]
 
     def scopes(self, number):
         return [('Locals', Locals(self, number))]

@@ -21,10 +21,10 @@ class Stop:
 
 
 class Runner:
-    """Runs a machine. `holds` says whether a condition holds, and `tell` shows a line."""
+    """Runs a machine. `holds` says whether a condition holds, `tell` shows a line, and `body` says where a function that begins is stopped in."""
 
-    def __init__(self, machine, stops, limit, holds, tell):
-        self.machine, self.stops, self.limit, self.holds, self.tell, self.with_lines = machine, stops, limit, holds, tell, {}
+    def __init__(self, machine, stops, limit, holds, tell, body):
+        self.machine, self.stops, self.limit, self.holds, self.tell, self.body, self.with_lines = machine, stops, limit, holds, tell, body, {}
 
     # lines
 
@@ -177,12 +177,25 @@ class Runner:
                 move = self.machine.move('stepi')
                 stop = None if move.why == 'done' else self.stop(move)
                 yield
-            if stop or calls and into or returns:
+            if calls and into and not stop:
+                return (yield from self.into_body())
+            if stop or returns:
                 return stop or Stop('step')
             slot, text = move.at()
             line = self.line(slot)
             if line is not None and line != start:
                 return Stop('step')
+
+    def into_body(self):
+        """Goes on from the first instruction of a function through its prologue."""
+        body = self.body(self.machine.slot())
+        while self.machine.slot() < body:
+            move = self.machine.move('stepi')
+            stop = None if move.why == 'done' else self.stop(move)
+            if stop:
+                return stop
+            yield
+        return Stop('step')
 
     def line_back(self):
         """Goes back to where the line before this one began, or the present line if it has begun before; calls are passed. A step too far
@@ -216,6 +229,10 @@ class Runner:
         """The stop behind a step back, where a line begins: instructions between lines before it are made again."""
         while self.line(self.machine.slot()) is None:
             self.machine.move('redo 1')
+        slot = self.machine.slot()
+        if self.machine.depth() and self.body(slot) > slot:
+            # (a prologue isn't stopped in: before it is the call)
+            self.machine.move('reverse-stepi')
         return Stop('step')
 
     # many steps within a line

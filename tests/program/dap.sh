@@ -45,8 +45,9 @@ if has python3 'bpfdb-dap'; then
     printf 'stepi 2\nquit\nstepi\n' > script
     printf 'mov r0, 0\nja end ; too far\nexit\nend:\n' > far.s
     printf 'frob r0\n' > wrong.s
-    if has_clang 'long lines, and lines without code, in bpfdb-dap'; then
+    if has_clang 'long lines, lines without code, and code of -O0, in bpfdb-dap'; then
         clang -g -O1 -target bpf -c "$parts/c/line.c"
+        clang -g -O0 -fstack-size-section -mcpu=v3 -target bpf -c "$parts/c/local.c"
         cp "$parts/gdb/verdict.c" .
         clang -g -O2 -target bpf -c verdict.c
         printf '\7\2' > kind

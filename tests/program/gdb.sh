@@ -70,6 +70,16 @@ of_parts() {
     transcript gdb "$sessions/parts.txt"
 }
 
+# of_producer NAME WANTED OPTION: of an object that has this producer gdb is told that one.
+of_producer() {
+    clang -g "$3" -O1 -target bpf -c overrun.c -o produced.o
+    python3 "$top/tests/trials/objects.py" produced produced.o produced.o "$1"
+    BPFDB=$program "$top/share/bpfdb-symbols" produced.o produced.sym
+    gdb -nx -batch -ex 'python print(gdb.lookup_global_symbol("entry").symtab.producer)' produced.sym > found/lines 2>&1
+    echo "$2" > wanted/lines
+    hold "gdb: the producer '$1' with $3"
+}
+
 # window LAYOUT: gdb's window of instructions, at a terminal, has those of BPF before the first step, and going back works there.
 window() {
     count=$((count + 1))
@@ -154,6 +164,9 @@ if has python3 'sessions in gdb'; then
             for name in flows sized data odd; do compiled $name; done
             transcript gdb "$sessions/maps.txt"
             transcript gdb "$sessions/odd.txt"
+            cp "$parts/c/local.c" .
+            clang -g -O0 -fstack-size-section -mcpu=v3 -I "$parts/c" -target bpf -c local.c -o unoptimized.o
+            transcript gdb "$sessions/unoptimized.txt"
             # (code of -O2, and a function of it whose variables stay in memory)
             clang -g -O2 -fstack-size-section -target bpf -c overrun.c -o optimized.o
             sed 's/((noinline)) void copy/((noinline, optnone)) void copy/' overrun.c > kept.c
@@ -163,6 +176,10 @@ if has python3 'sessions in gdb'; then
             clang -g -O2 -target bpf -c verdict.c
             printf '\7\2' > kind
             transcript gdb "$sessions/verdict.txt"
+            for version in -gdwarf-4 -gdwarf-5; do
+                of_producer 'Deb clang version 9' 'clang version 9' $version
+                for name in 'clang version 9 b' 'No a clang version 9' 'D-b clang version 9'; do of_producer "$name" "$name" $version; done
+            done
             of_parts -gdwarf-4
             of_parts -gdwarf-5
         fi

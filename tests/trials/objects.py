@@ -2,6 +2,7 @@
 
 objects.py names|maps|data COUNT FILE   writes an object that has so many sections of one long name, symbols of maps, or sections of data, each
                                         with the address of the next
+objects.py produced OBJECT FILE NAME    writes an object of clang's with another producer, which is no longer than its own
 objects.py damaged SCRIPT OBJECT        lets the script take the object with bytes changed, and cut off: tells what ends with other than a line
 objects.py sections FILE                the sections of an ELF file, each with its address and its name"""
 import contextlib
@@ -9,6 +10,7 @@ import importlib.machinery
 import importlib.util
 import io
 import os
+import re
 import struct
 import sys
 import traceback
@@ -104,8 +106,19 @@ def damaged(script, name):
             print("%s: %s" % (what, traceback.format_exc()))
 
 
+def produced(name, to, producer):
+    """An object with another producer."""
+    with open(name, "rb") as opened:
+        file = opened.read()
+    own = re.search(rb"[^\0]*clang version [^\0]*", file)[0]
+    with open(to, "wb") as opened:
+        opened.write(file.replace(own, producer.encode().ljust(len(own), b"\0")))
+
+
 def main(what, *words):
-    if what == "damaged":
+    if what == "produced":
+        produced(*words)
+    elif what == "damaged":
         damaged(*words)
     elif what == "sections":
         with open(words[0], "rb") as opened:

@@ -586,4 +586,44 @@ def names():
     left(editor)
 
 
+@only('gdb')
+def unoptimized():
+    """Code of -O0 keeps its arguments in memory: each way into a function stops where they have their values, and back from there is the call."""
+    if not os.path.isfile('local.o'):
+        return
+    source = os.path.join(os.environ['TOP'], 'tests/program/c/local.c')
+
+    def arguments():
+        return editor.number('n'), editor.value('q->a'), editor.value('q->b')
+    # (the context has 13 bytes)
+    editor, stop = started('local.o', context='context.bin')
+    hold(stop, ('entry', 'entry', 6), 'the entry')
+    hold((editor.number('count'), editor.number('bytes')), (13, 0x100000000), 'its arguments')
+    editor.ask('setFunctionBreakpoints', breakpoints=[{'name': 'sum'}])
+    hold(editor.go('continue'), ('breakpoint', 'sum', 4), 'a function')
+    hold(arguments(), (13, '9', '7'), 'its arguments')
+    editor.ask('setFunctionBreakpoints', breakpoints=[])
+    editor.go('reverseContinue')
+    hold(editor.lines(source, 4), [(True, 4)], 'the line where it begins')
+    hold(editor.go('continue'), ('breakpoint', 'sum', 4), 'is stopped at')
+    hold(arguments(), (13, '9', '7'), 'with its arguments')
+    editor.lines(source)
+    hold(editor.go('stepBack'), ('step', 'entry', 8), 'back is the call')
+    call = editor.state()
+    hold(editor.go('stepIn'), ('step', 'sum', 4), 'a step into it')
+    hold(arguments(), (13, '9', '7'), 'with its arguments')
+    editor.hand('undo')
+    editor.stop()
+    hold(editor.state(), call, 'which is taken back as a whole')
+    left(editor)
+
+
+@story
+def registers():
+    """A register has the same value, in the same form, over both."""
+    editor, _ = started()
+    hold([editor.value(text) for text in ('r1', '$r1', 'r2', 'r0', 'pc')], ['0x100000000', '0x100000000', '0xd (13)', '0x0', '0x0'], 'registers')
+    left(editor)
+
+
 client.play(f'bpfdb-dap over {OVER}', STORIES)
