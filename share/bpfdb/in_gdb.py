@@ -1,18 +1,15 @@
 """What of names.py happens in gdb, which imports this: calls are answered, a line of JSON each, over the descriptors that BPFDB_CHANNEL names.
 
-bpfdb-gdb.py connects gdb with bpfdb. Lines of bpfdb's script go to bpfdb past gdb, which reads its state anew behind them."""
+connector.py connects gdb with bpfdb. Lines of bpfdb's script go to bpfdb past gdb, which reads its state anew behind them."""
 
 import json
 import os
 
-import __main__ as bpf
 import gdb
 
+from bpfdb import connector as bpf
 from bpfdb import foreign
 
-HERE = os.path.dirname(os.path.abspath(__file__))
-# Where bpfdb-gdb.py lies: beside the package, or within it where both are installed.
-CONNECTORS = [os.path.join(HERE, '..', 'bpfdb-gdb.py'), os.path.join(HERE, 'bpfdb-gdb.py')]
 # The most members of a value that are told, and the most characters of an error.
 MOST_MEMBERS, LONGEST_ERROR = 1000, 2000
 # What stands for a name whose bytes are no UTF-8.
@@ -115,9 +112,6 @@ def stepped(value, text, step):
 
 
 def version():
-    import gdb.disassembler
-    connector = next(path for path in CONNECTORS if os.path.isfile(path))
-    gdb.execute(foreign.command('source', connector), to_string=True)
     return gdb.VERSION
 
 
@@ -326,7 +320,7 @@ def serve(source, target):
         except UnicodeError:
             answer = {'error': 'a name of the object is no text'}
         except (gdb.error, gdb.GdbError, gdb.MemoryError, ValueError, TypeError, LookupError, RuntimeError) as fault:
-            gone = not bpf.is_connected() if hasattr(bpf, 'is_connected') and name not in ('version', 'load') else False
+            gone = name not in ('version', 'load') and not bpf.is_connected()
             answer = {'lost': True} if gone else {'error': str(fault)[:LONGEST_ERROR]}
         target.write(json.dumps(answer) + '\n')
         target.flush()

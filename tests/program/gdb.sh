@@ -135,7 +135,7 @@ if has python3 'sessions in gdb'; then
 
     sessions=$parts/gdb
     if serves gdb 'sessions in gdb'; then
-        for name in steps stops ends edits faults calls commands limits source sections traps bare load names habits origin whynot windows; do
+        for name in steps stops ends edits faults calls commands limits source sections traps bare load names habits origin whynot windows own; do
             transcript gdb "$sessions/$name.txt"
         done
         transcript gdb story1.txt
