@@ -81,7 +81,7 @@ class OwnNames:
         if REGISTER.fullmatch(text):
             return None
         address, colon, count = text.rpartition(':')
-        if colon and count.isdigit() and len(count) < 4:
+        if colon and count.isdecimal() and len(count) < 4:
             return self.expression(address, number).value().bits, int(count)
         return self.expression(text, number).place() or (self.expression(text, number).value().bits, 1)
 

@@ -25,7 +25,7 @@ with steps back. The editor starts it.
 
 def port(text):
     """A port's number."""
-    if not text.isdigit() or len(text) > 5 or int(text) > 65535:
+    if not text.isdecimal() or len(text) > 5 or int(text) > 65535:
         raise argparse.ArgumentTypeError(f'{text}: a number from 0 to 65535 is wanted')
     return int(text)
 

@@ -84,7 +84,7 @@ class Bytes(View):
     def at(self, name):
         """The number of the row of a name."""
         digits = name[1:-1]
-        at = int(digits) if name[:1] == '[' and digits.isdigit() and len(digits) < 9 else -1
+        at = int(digits) if name[:1] == '[' and digits.isdecimal() and len(digits) < 9 else -1
         if not 0 <= at < self.count():
             raise Failed(f'there is no {name}')
         return at
@@ -138,7 +138,7 @@ class Stack(Bytes):
 
     def at(self, name):
         below = name[4:]
-        if name[:4] != 'r10-' or not below.isdigit() or len(below) > 3 or int(below) % WORD or not 0 < int(below) <= FRAME_SIZE:
+        if name[:4] != 'r10-' or not below.isdecimal() or len(below) > 3 or int(below) % WORD or not 0 < int(below) <= FRAME_SIZE:
             raise Failed(f'there is no {name}')
         return (FRAME_SIZE - int(below)) // WORD
 
@@ -159,7 +159,7 @@ class Context(Bytes):
         return f'+{at * WORD}'
 
     def at(self, name):
-        if name[:1] != '+' or not name[1:].isdigit() or len(name) > 6 or int(name) % WORD or int(name) >= self.size:
+        if name[:1] != '+' or not name[1:].isdecimal() or len(name) > 6 or int(name) % WORD or int(name) >= self.size:
             raise Failed(f'there is no {name}')
         return int(name) // WORD
 

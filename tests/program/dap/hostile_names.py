@@ -257,6 +257,10 @@ def requests():
         editor = Editor()
         editor.open('names.o', context='context.bin', over=over)
         before = moves(editor)
+        for scope in editor.ask('scopes', frameId=0)['scopes']:
+            # (digits that Python's numbers don't have)
+            for name in ('[\xb2]', '+\xb2', 'r10-\xb2', 'r\xb2', '\n'):
+                editor.refused('setVariable', variablesReference=scope['variablesReference'], name=name, value='1')
         for text in ('1)\nshell touch pwned\nprint (1', '1\nshell touch pwned', '$_shell("touch pwned")', '9' * 5000, '0x' + '9' * 5000, "'\ud800'", '\0', '(' * 100000, '-' * 100000):
             for field in ('value', 'expression'):
                 editor.tried('setExpression', **{'expression': 'r3', 'value': '1', field: text})
