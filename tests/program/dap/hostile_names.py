@@ -243,16 +243,15 @@ def files():
 @trial
 def requests():
     """What a client asks for is no command, and no expression of it runs one; what it may not have is refused by its name."""
+    editor = Editor()
+    editor.ask('initialize', adapterID='bpfdb')
     for key in ('maps', 'section', 'entry', 'stub', 'context', 'program', 'script', 'cwd'):
-        for text in ('8x2\nshell touch pwned\n', '8x2\rshell touch pwned', '8\0x2', '8x2\ud800'):
-            for over in ('gdb', 'bpfdb')[text[:2] == '8\0' or text[-1] == '\ud800':]:
-                editor = Editor()
-                editor.ask('initialize', adapterID='bpfdb')
-                response = editor.answer(editor.send('launch', {'program': 'names.o', 'context': 'context.bin', 'over': over, key: text}))
-                if text[:2] == '8\0' or text[-1] == '\ud800':
-                    hold(response.get('message'), f'{key}: a text without a byte zero and half characters is wanted', f'{key} {ascii(text)}')
-                editor.leave()
-                unharmed(f'{key} {ascii(text)}')
+        for text, over in (('8x2\nshell touch pwned\n', 'gdb'), ('8x2\rshell touch pwned', 'gdb'), ('8\0x2', 'bpfdb'), ('8x2\ud800', 'bpfdb')):
+            message = editor.refused('launch', **{'program': 'names.o', 'context': 'context.bin', 'over': over, key: text})
+            if over == 'bpfdb':
+                hold(message, f'{key}: a text without a byte zero and half characters is wanted', f'{key} {ascii(text)}')
+            unharmed(f'{key} {ascii(text)}')
+    hold(editor.leave(), (0, ''), 'the end')
     for over in ('gdb', 'bpfdb'):
         editor = Editor()
         editor.open('names.o', context='context.bin', over=over)
