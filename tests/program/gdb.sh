@@ -72,7 +72,7 @@ of_parts() {
 
 # of_producer NAME WANTED OPTION: of an object that has this producer gdb is told that one.
 of_producer() {
-    clang -g "$3" -O1 -target bpf -c overrun.c -o produced.o
+    clang -g "$3" -O1 -fstack-size-section -target bpf -c overrun.c -o produced.o
     python3 "$top/tests/trials/objects.py" produced produced.o produced.o "$1"
     BPFDB=$program "$top/share/bpfdb-symbols" produced.o produced.sym
     gdb -nx -batch -ex 'python print(gdb.lookup_global_symbol("entry").symtab.producer)' produced.sym > found/lines 2>&1
