@@ -52,6 +52,21 @@ tells 0 '{"kind":"exited","slot":5,"r0":"0xe"}
 {"kind":"move","moves":9,"slot":1,"insn":"stdw [r10-8], 0","parts":[{"part":"0x2000001f8:8","value":"0x0"}]}
 {"kind":"move","moves":10,"slot":0,"insn":"mov r1, 7","parts":[{"part":"r1","value":"0x7"}]}\n' origin --json --listing call.s r0
 
+# A graph of eight functions, the most that call one another, in which the last one's values came from its own: step 9 of 19 is its first one, and its
+# other steps follow.
+listing eight.s 'mov r1, 5;callf f1;exit;f1: callf f2;exit;f2: callf f3;exit;f3: callf f4;exit;f4: callf f5;exit;f5: callf f6;exit;f6: callf f7;exit;f7: mov r6, r1;add r6, 1;mov r0, r6;exit'
+tells 0 'strict digraph origin {
+  node [shape=box];
+  n0 [label="exited at 2: r0 0x6"];
+  n1 [label="-9 r0 = 0x6; 17: mov r0, r6; from r6 at depth 7"];
+  n2 [label="-10 r6 at depth 7 = 0x6; 16: add r6, 1; from r6 at depth 7"];
+  n3 [label="-11 r6 at depth 7 = 0x5; 15: mov r6, r1; from r1"];
+  n4 [label="-19 r1 = 0x5; 0: mov r1, 5"];
+  n3 -> n4;
+  n2 -> n3;
+  n1 -> n2;
+}\n' origin --dot --listing eight.s r0
+
 # Branches, of a trace and of an answer; a byte of the context.
 listing first.s 'jeq r1, 0, none;ldxb r0, [r1+0];exit;none: mov r0, 1;exit'
 bytes context 09

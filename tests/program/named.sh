@@ -103,7 +103,7 @@ usage "unexpected argument '--anywhere' found" run --anywhere folder/empty
 
 find_compilers 'sections of tests that name objects'
 for compiler in $compilers; do
-    for name in program mock; do
+    for name in program mock other; do
         "$compiler" -g -O2 -target bpf -c "$parts/named/$name.c" -o folder/$name.o 2> found/err || complain "$compiler: $name.c: $(cat found/err)"
     done
     # The first byte; 100 and the number of bytes; a count in a map, of which the cell is one more; the time, answered by a constant or by another object.
@@ -113,6 +113,8 @@ for compiler in $compilers; do
     tests 0 '1..1\nok 1\n' '-- object program.o\n-- section count\n-- cells\n0 0 0000000029000000\n-- result\n42\n-- map-after\n0 0 000000002a000000\n'
     tests 0 '1..1\nok 1\n' '-- object program.o\n-- section time\n-- stub ktime_get_ns=7\n-- result\n7\n'
     tests 0 '1..1\nok 1\n' '-- object program.o\n-- section time\n-- with mock.o\n-- result\n1000\n'
+    # (sixteen objects are joined, the most, and the last of them answers the helper)
+    tests 0 '1..1\nok 1\n' "-- object program.o\n-- section time\n$(printf -- '-- with other.o\\n%.0s' 1 2 3 4 5 6 7 8 9 10 11 12 13 14 15)-- with mock.o\n-- result\n1000\n"
     # A test for each program of an object; behind each its own faults, in its own line.
     tests 1 "1..3\nok 1 - a\nnot ok 2 - b\n# the test in line 7\n# came: exited at 1: r0 0x1\n# wanted: result 9\n# debug: bpfdb-show 'b' 'folder/t.test'\nok 3 - c\n" \
         '-- name\na\n-- object program.o\n-- section count\n-- result\n1\n-- name\nb\n-- object program.o\n-- section two\n-- entry first_of_two\n-- result\n9\n-- name\nc\n-- object program.o\n-- section two\n-- entry second\n\n-- result\n2\n'

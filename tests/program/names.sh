@@ -7,15 +7,15 @@ held() {
     grep -q ' held$' found/trial && count=$((count + $(sed -n 's/^\([0-9]*\) held$/\1/p' found/trial)))
 }
 
-# map_of NAME: the number of a map of places.o.
+# map_of NAME: the number of a map of the object that was linked last.
 map_of() {
     sed -n "s/^map \([0-9]*\): $1\$/\1/p" told
 }
 
-# named MAP OFFSET NAME: the name of a byte of a map, at the opening.
+# named MAP OFFSET NAME: the name of a byte of a map of $object, at the opening.
 named() {
     address=$(printf '0x%x' $((0x300000000 + 0x100000 * $(map_of "$1") + $2)))
-    "$program" origin --script empty --object places.o "$address" > found/out 2> found/err
+    "$program" origin --script empty --object "$object" "$address" > found/out 2> found/err
     count=$((count + 1))
     case $(tail -n 1 found/out) in
         "left $address:1 = "*"; at the opening; in $3") ;;
@@ -29,6 +29,7 @@ bytes five 05 00
 find_compilers 'origin --object'
 for compiler in $compilers; do
     "$compiler" -g -O2 -target bpf -c "$parts/names/places.c" -o places.o 2> found/err || complain "$compiler: places.c: $(cat found/err)"
+    object=places.o
     "$program" link places.o > words 2> told || complain "places.o: $(cat told)"
     # struct class has 80 bytes: packets at 0, flag at 8, limits (of 8 bytes each) at 12, state at 28, the union at 32, parts at 36, bits at 44, next at 48, and
     # matrix at 56.
@@ -130,6 +131,27 @@ EOF
         refused "$(cat refusal)" diff --object -m four --other-mem five damaged.o
         refused "$(cat refusal)" diff --alone --object -m four --other-mem five damaged.o
     fi
+    # Limits, by hand from limits.c: among 1,024 members one is looked for, and among 1,025 none. A name that stands for a type is one of the 32 types that are
+    # gone through, and so is the struct at their end: so behind 31 names its field is told, and behind 32 only how far the byte lies in it. The maps have the
+    # numbers 0 to 8, and the sections behind them 9 and 10.
+    "$compiler" -g -O2 -target bpf -c "$parts/names/limits.c" -o limits.o 2> found/err || complain "$compiler: limits.c: $(cat found/err)"
+    object=limits.o
+    "$program" link limits.o > words 2> told || complain "limits.o: $(cat told)"
+    count=$((count + 1))
+    [ "$(map_of plain_9) $(map_of .data.wide_1025)" = '8 10' ] || complain "maps of limits.o: $(cat told)"
+    # (their numbers to the base 4: 5 is 011, and 1,000 is 33220)
+    named wide_65 5 'wide_65[0].m011'
+    named wide_65 64 'wide_65[0].last'
+    named .data.wide_1024 1000 'wide_1024.m33220'
+    named .data.wide_1024 1023 'wide_1024.m33333'
+    named .data.wide_1025 0 'wide_1025'
+    named .data.wide_1025 1024 'wide_1025+1024'
+    named deep_9 4 'deep_9[0].second'
+    named deep_31 4 'deep_31[0].second'
+    named deep_32 4 'deep_32[0]+4'
+    named plain_7 1 'plain_7[0]+1'
+    named plain_8 1 'plain_8[0]+1'
+    named plain_9 4 'plain_9[0].second'
     # As JSON a name is a member.
     "$program" origin --json --script empty --object places.o "$(printf '0x%x' $((0x300000000 + 260)))" > found/out 2> found/err
     count=$((count + 1))
@@ -145,4 +167,5 @@ EOF
     has python3 'names of places in maps' || continue
     held whole places.o
     held turned places.o 7
+    held whole limits.o
 done

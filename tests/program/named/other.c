@@ -1,0 +1,2 @@
+/* A function that answers no helper. */
+unsigned long long other(void) { return 2; }
