@@ -1,5 +1,5 @@
 -- The maps of a program that an object was linked to, as they are named.
-use Rattle.std.specs.Prelude.{ℕ, zero, suc, ◌≡◌, ◌⊎◌, ◌+◌, ◌-◌, ◌*◌, ◌/◌, ◌%◌, ◌==◌, nat_lt, Bool, ◌&&◌, if◌then◌else◌, List, [], ◌∷◌, ◌++◌, length, slice_get, slice_index, codes, decimal, get_or, Option, Some, None, Ok, Err}
+use Rattle.std.specs.Prelude.{ℕ, zero, suc, ◌≡◌, ◌≢◌, ◌⊎◌, ◌+◌, ◌-◌, ◌*◌, ◌/◌, ◌%◌, ◌==◌, nat_lt, Bool, ◌&&◌, if◌then◌else◌, List, [], ◌∷◌, ◌++◌, length, slice_get, slice_index, codes, decimal, get_or, Option, Some, None, Ok, Err}
 use Rattle.std.specs.Option.{option_map}
 use Rattle.bpf_isa.specs.declared.maps.MapShape.{MapShape}
 use Rattle.bpf_btf.specs.Layout.{is_called}
@@ -7,6 +7,7 @@ use Rattle.bpf_btf.specs.Maps.{last_below, value_type}
 use Rattle.bpf_btf.specs.Sections.{IsRead, IsReadFault}
 use Rattle.bpf_btf.specs.Types.{Types, type_of}
 use Rattle.bpf_btf.specs.declared.fault.BtfFault.{BtfFault}
+use Rattle.bpf_btf.specs.declared.fault.BtfFault.TheVariants as btf
 use Rattle.bpf_link.specs.Data.{data_of}
 use Rattle.bpf_link.specs.Links.{planned}
 use Rattle.bpf_link.specs.MapTypes.{types_bytes, types_found}
@@ -62,12 +63,14 @@ first_maps plan types own sections shapes places (suc n) =
 abbrev pub named_maps : Plan → Types → ℕ → List ℕ → List MapShape → List ℕ → List NamedMap
 named_maps plan types own sections shapes places = first_maps plan types own sections shapes places (length shapes)
 
--- The types of an object are those that its BTF has: none where that isn't read. (A section without types and names is a header of 24 bytes.)
+-- A section without types and names: a header of 24 bytes.
 abbrev pub no_types : List ℕ
 no_types = 0x9f ∷ 0xeb ∷ 1 ∷ 0 ∷ 24 ∷ 0 ∷ 0 ∷ 0 ∷ 0 ∷ 0 ∷ 0 ∷ 0 ∷ 0 ∷ 0 ∷ 0 ∷ 0 ∷ 0 ∷ 0 ∷ 0 ∷ 0 ∷ 0 ∷ 0 ∷ 0 ∷ 0 ∷ []
 
+-- The types of an object are those that its BTF has: none where that isn't read for a fault of its own. (That memory ran out is none.)
 abbrev pub AreTypesOf : List ℕ → Types → Type 0
-AreTypesOf bytes types = IsRead bytes types ⊎ ((fault : BtfFault) × IsReadFault bytes fault × IsRead no_types types)
+AreTypesOf bytes types =
+    IsRead bytes types ⊎ ((fault : BtfFault) × (fault ≢ btf.Memory) × IsReadFault bytes fault × IsRead no_types types)
 
 -- What is known of the names of a section's program, which has so many maps of its own, and maps of these shapes, whose names stand there.
 pub record AreNames (object section : List ℕ) (own : ℕ) (shapes : List MapShape) (places : List ℕ) (names : Names) : Type 0 where
