@@ -108,6 +108,59 @@ END
     runs few '1,1 3,1 4,0 5,1 6,1 8,0 10,0 13,1 15,1' "$few"
     runs many '1,1 3,1 4,1 5,0 6,1 8,0 10,0 13,1 15,1' "$many"
     runs both '1,1 3,1 4,1 5,1 6,1 8,0 10,0 13,1 15,1' "$few$many"
+    # A program that takes a packet by the kernel's struct, before which stand words that are of no line of it: the same lines and branches as over a context.
+    # By hand from packet.c at -O0, where each line has instructions of its own: with one byte it leaves from line 36, where it jumps one way; of two bytes
+    # the first is compared at line 38, and the second at line 40 unless the first is 7; and each way ends at line 43. (The compiler chooses which way
+    # jumps: so of each line the counts of its ways are held, in their order. A line that didn't run has hyphens.)
+    short='-- name\nshort\n-- mem\n01\n-- result\n1\n' seven='-- name\nseven\n-- mem\n0709\n-- result\n2\n'
+    nine='-- name\nnine\n-- mem\n0109\n-- result\n3\n' other='-- name\nother\n-- mem\n0120\n-- result\n32\n'
+    # record FILE: its record in cover.info.
+    record() {
+        sed -n "/^SF:.*\/$1\$/,/^end_of_record\$/p" cover.info
+    }
+    # lists NAME FILE LINES WAYS TESTS: the lines and ways of a file that tests of the sections in $asked run.
+    lists() {
+        count=$((count + 1))
+        printf -- "$asked$5" > packet.test
+        "$program" test --cover-info packet.test > cover.info 2> told || complain "packet.test: $made: $1: $(cat told)"
+        lines=$(record "$2" | sed -n 's/^DA://p' | tr '\n' ' ')
+        ways=$(record "$2" | sed -n 's/^BRDA:\([0-9]*\),[0-9]*,[0-9]*,\(.*\)$/\1:\2/p' | sort | tr '\n' ' ')
+        [ "$lines" = "$3 " ] && [ "$ways" = "$4" ] || complain "packet.test: $made: $1: of $2 $lines and $ways, and not $3 and $4"
+    }
+    # ways_of_packet: each set of tests.
+    ways_of_packet() {
+        lists short packet.c '32,1 34,1 35,1 36,1 37,1 38,0 39,0 40,0 41,0 42,0 43,1' '36:0 36:1 38:- 38:- 40:- 40:- ' "$short"
+        lists seven packet.c '32,1 34,1 35,1 36,1 37,0 38,1 39,1 40,0 41,0 42,0 43,1' '36:0 36:1 38:0 38:1 40:- 40:- ' "$seven"
+        lists nine packet.c '32,1 34,1 35,1 36,1 37,0 38,1 39,0 40,1 41,1 42,0 43,1' '36:0 36:1 38:0 38:1 40:0 40:1 ' "$nine"
+        lists other packet.c '32,1 34,1 35,1 36,1 37,0 38,1 39,0 40,1 41,0 42,1 43,1' '36:0 36:1 38:0 38:1 40:0 40:1 ' "$other"
+        lists all packet.c '32,1 34,1 35,1 36,1 37,1 38,1 39,1 40,1 41,1 42,1 43,1' '36:1 36:1 38:1 38:1 40:1 40:1 ' "$short$seven$nine$other"
+    }
+    clang -O0 -g -target bpf -c "$parts/tracefile/nine.c" -o nine.o 2> found/err || complain "nine.c: $(cat found/err)"
+    for struct in OWN XDP TC; do
+        case $struct in
+        OWN) taken='' ;;
+        XDP) taken='-- struct xdp\n' ;;
+        TC) taken='-- struct tc\n' ;;
+        esac
+        # Alone; with bytes at the start, which it is given behind its code, so that a jump stands before it; and with a function of another object.
+        for more in NONE SEED CALLS; do
+            made="$struct $more"
+            clang -O0 -g "-D$struct" "-D$more" -target bpf -c "$parts/tracefile/packet.c" -o packet.o 2> found/err || complain "packet.c: $made: $(cat found/err)"
+            asked="-- object packet.o\n$taken"
+            [ "$more" != CALLS ] || asked="$asked-- with nine.o\n"
+            ways_of_packet
+            [ "$more" != CALLS ] || {
+                lists 'seven in the other object' nine.c '2,0' '' "$seven"
+                lists 'nine in the other object' nine.c '2,1' '' "$nine"
+            }
+        done
+        # At -O2 lines share instructions, but each byte is still read in its line.
+        count=$((count + 1))
+        clang -O2 -g "-D$struct" -target bpf -c "$parts/tracefile/packet.c" -o packet.o 2> found/err || complain "packet.c: $struct: $(cat found/err)"
+        printf -- "-- object packet.o\n$taken$seven" > packet.test
+        "$program" test --cover-info packet.test > cover.info 2> told || complain "packet.test: $struct at -O2: $(cat told)"
+        [ "$(grep -e '^DA:3[68],' -e '^DA:40,' cover.info | tr '\n' ' ')" = 'DA:36,1 DA:38,1 DA:40,0 ' ] || complain "packet.test: $struct at -O2: $(cat cover.info)"
+    done
     # Each line of its record, by what else bpfdb tells of it, as it is compiled each way; and with tests that have the object alone, whose records come twice.
     if has python3 'records of C'; then
         grep -v -e '^int never' pick.c | sed '8,11d' > whole.c

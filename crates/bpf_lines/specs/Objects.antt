@@ -1,10 +1,12 @@
 -- The table of a program that was linked: the rows of the objects that it comes from.
-use Rattle.std.specs.Prelude.{◌≡◌, ◌⊎◌, ◌<◌, ℕ, ◌+◌, ◌*◌, ◌==◌, if◌then◌else◌, List, [], ◌∷◌, ◌++◌, Ok, Err, codes, get_or, length, sum_by}
+use Rattle.std.specs.Prelude.{◌≡◌, ◌⊎◌, ◌<◌, ℕ, ◌+◌, ◌*◌, ◌/◌, ◌==◌, if◌then◌else◌, List, [], ◌∷◌, ◌++◌, Option, Some, None, Ok, Err, codes, get_or, length, sum_by}
 use Rattle.std.specs.List.{AllZip}
 use Rattle.bpf_link.specs.Links.{planned}
 use Rattle.bpf_link.specs.Parts.{slots_in}
 use Rattle.bpf_link.specs.declared.fault.LinkFault.{LinkFault}
 use Rattle.bpf_link.specs.declared.plan.Plan.{Plan}
+use Rattle.bpf_packet.specs.Entry.{entry_words}
+use Rattle.bpf_packet.specs.declared.packet.Packet.{Packet}
 use Rattle.bpf_lines.specs.Parts.{ArePartLines, IsLinesFault}
 use Rattle.bpf_lines.specs.Rows.{rows}
 use Rattle.bpf_lines.specs.declared.objects.LinesFault.{LinesFault}
@@ -54,10 +56,16 @@ abbrev pub rows_of_all : List ObjectLines → List ℕ → ℕ → List ℕ
 rows_of_all [] words first = []
 rows_of_all (lines ∷ rest) words first = object_rows lines words first ++ rows_of_all rest words (first + slots_of lines)
 
--- The slot at which so many slots of code begin. Where the words are more, slot 0 is a jump before them, and what is behind them is the setup.
-abbrev pub begin_of : List ℕ → ℕ → ℕ
-begin_of words count = if length words == 8 * count then 0 else 1
+-- How many slots stand before the program itself: those that give it its packet, where it is asked to take one by a struct of the kernel's.
+abbrev pub entry_slots : Option Packet → ℕ
+entry_slots None = 0
+entry_slots (Some packet) = length (entry_words packet) / 8
 
--- The table of a program that was linked of one object, or of several that were joined.
-abbrev pub program_table : List ℕ → List ObjectLines → List ℕ
-program_table words all = rows_of_all all words (begin_of words (sum_by slots_of all))
+-- The slot at which so many slots of code begin, behind those. Where the words are more, a jump stands between, and the setup behind the code.
+abbrev pub begin_of : Option Packet → List ℕ → ℕ → ℕ
+begin_of packet words count =
+    if length words == 8 * (entry_slots packet + count) then entry_slots packet else entry_slots packet + 1
+
+-- The table of a program that was linked, with such a packet or none, of one object, or of several that were joined.
+abbrev pub program_table : Option Packet → List ℕ → List ObjectLines → List ℕ
+program_table packet words all = rows_of_all all words (begin_of packet words (sum_by slots_of all))

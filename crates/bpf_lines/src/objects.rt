@@ -1,13 +1,14 @@
 //! What is told of the slots of objects' code, and the table of a program.
-ghost use Rattle.std.specs.Prelude.{◌≡◌, ◌<◌, ◌*◌, ◌==◌, ◌++◌, ◌∷◌, [], All, codes, IfOk, IfErr, length, sum_by};
+ghost use Rattle.std.specs.Prelude.{◌≡◌, ◌≤◌, ◌<◌, ◌*◌, ◌==◌, ◌++◌, ◌∷◌, [], All, codes, IfOk, IfErr, length, sum_by};
 ghost use Rattle.counted_io.specs.Writing.{Writes, WritesAfter};
 ghost use Rattle.bpf_join.specs.Chains.{others};
-ghost use Rattle.bpf_lines.specs.Objects.{AreBehind, AreLinesOf, HasPartLines, IsFunctionsRefusal, IsLinesRefusal, object_rows, program_table, rows_of_all, slots_of};
+ghost use Rattle.bpf_lines.specs.Objects.{AreBehind, AreLinesOf, HasPartLines, IsFunctionsRefusal, IsLinesRefusal, begin_of, entry_slots, object_rows, program_table, rows_of_all, slots_of};
 ghost use Rattle.bpf_lines.specs.declared.objects.ObjectLines.{ObjectLines as Told};
 
 use crate::part_lines::{PartLines, part_lines};
 use crate::rows::put_rows;
 use bpf_link::{Bytes, LinkFault, Plan, Side, planned};
+use bpf_packet::Packet;
 use counted_io::{Counted, WriteFault, put};
 use std::alloc::Global;
 use std::io::Write;
@@ -201,15 +202,44 @@ fn is_all(all: &[ObjectLines<'_>], bytes: usize) -> bool
     }
 }
 
-/// Writes the table of a program that was linked of one object, or of several that were joined.
+/// How many slots stand before a program that takes a packet by such a struct, which give it that.
+fn entry_slots(packet: Option<Packet>) -> usize
+    ensures value { result ≡ entry_slots packet }
+    ensures few { result ≤ 26 }
+{
+    match packet {
+        None => 0,
+        Some(Packet::Xdp) => 13,
+        Some(Packet::Tc) => 26,
+    }
+}
+
+/// The slot at which the code of several objects begins.
+fn begin_of(packet: Option<Packet>, words: &[u8], all: &[ObjectLines<'_>]) -> usize
+    ensures { result ≡ begin_of packet words.now (sum_by slots_of all.now) }
+{
+    let entry = entry_slots(packet);
+    if words.len() < 8 * entry {
+        return entry + 1;
+    }
+    if is_all(all, words.len() - 8 * entry) {
+        return entry;
+    }
+    entry + 1
+}
+
+/// Writes the table of a program that was linked of one object, or of several that were joined. What
+/// struct it was asked to take its packet by, if one, is what `link_with` was asked for.
 pub fn write_table<W: Write>(
     writer: &mut Counted<W>,
+    packet: Option<Packet>,
     words: &[u8],
     all: &[ObjectLines<'_>],
 ) -> Result<(), WriteFault>
     requires { All HasPartLines all.now }
-    ensures { Writes W.contents writer.old writer.new result (program_table words.now all.now) }
+    ensures { Writes W.contents writer.old writer.new result
+        (program_table packet words.now all.now) }
 {
-    let first = if is_all(all, words.len()) { 0 } else { 1 };
+    let first = begin_of(packet, words, all);
     put_objects(writer, Ok(()), all, words, first)
 }

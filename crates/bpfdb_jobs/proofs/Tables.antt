@@ -25,9 +25,9 @@ refuses-table job refusal object why = subst (λ b. RefusesLines b job refusal) 
 -- the table of an object alone, or joined with others
 pub prints-table : (job : Job) (object : List ℕ) (counted : Option ℕ) (program : Linked) (own : ObjectLines) (all : List ObjectLines)
     → job.options.is_object ≡ true → IsLinkedTo job object counted program → AreLinesOf job.file.now (section_of job) own
-    → AreBehind (own ∷ []) (others_of job.other job) all → Prints Lines job (printed (program_table program.words.items all))
+    → AreBehind (own ∷ []) (others_of job.other job) all → Prints Lines job (printed (program_table job.options.packet program.words.items all))
 prints-table job object counted program own all is_object linked lines behind =
-    let table = program_table program.words.items all in
+    let table = program_table job.options.packet program.words.items all in
     let told : IsTableOf job program.words.items table = record { own = own; first = lines; all = all; behind = behind; rows = refl } in
     (table, subst (λ b. IsTable b job table) (sym is_object) (object, counted, program, linked, told), refl)
 

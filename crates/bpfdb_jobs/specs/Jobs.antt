@@ -349,7 +349,7 @@ pub record IsTableOf (job : Job) (words table : List ℕ) : Type 0 where
   pub first : AreLinesOf job.file.now (section_of job) own
   pub all : List ObjectLines
   pub behind : AreBehind (own ∷ []) (others_of job.other job) all
-  pub rows : table ≡ program_table words all
+  pub rows : table ≡ program_table job.options.packet words all
 
 abbrev pub IsTable : Bool → Job → List ℕ → Type 0
 IsTable false job table = IsLineTable job.file.now table

@@ -58,13 +58,13 @@ RefusesLinking job fault = RefusesStubs job fault ⊎ (RefusesLink job job.file.
 abbrev pub HasPlace : Bool → Job → List ℕ → Option (Bor (List ℕ)) → Type 0
 HasPlace false job words goals = goals ≡ None
 HasPlace true job words None = ⊥
-HasPlace true job words (Some goals) = AreObjectSlots job.file.now (section_of job) words (asked_of job) goals.now
+HasPlace true job words (Some goals) = AreObjectSlots job.file.now (section_of job) job.options.packet words (asked_of job) goals.now
 
 -- Where each slot stands in C, by that table, where branches are told.
 abbrev pub HasPlaces : Bool → Job → List ℕ → SlotTexts → Type 0
 HasPlaces false job words places = places ≡ None
 HasPlaces true job words None = ⊥
-HasPlaces true job words (Some texts) = ArePlaces job.file.now (section_of job) words (map (λ text. text.items) texts.now)
+HasPlaces true job words (Some texts) = ArePlaces job.file.now (section_of job) job.options.packet words (map (λ text. text.items) texts.now)
 
 -- It is known what the program was linked of.
 abbrev pub IsLinkedOf : Job → Linked → Option LinkedObject → Type 0

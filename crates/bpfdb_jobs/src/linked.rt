@@ -107,7 +107,14 @@ fn do_linked<R: Read, W: Write, E: Write>(
     }
     let words = linked.words.as_slice();
     let what = asked(job).as_bytes();
-    match object_slots(alloc, job.file, section_of(job), words, what) {
+    match object_slots(
+        alloc,
+        job.file,
+        section_of(job),
+        job.options.packet,
+        words,
+        what,
+    ) {
         Ok(slots) => {
             let goals = Some(slots.as_slice());
             do_asked(alloc, job, linked, goals, reader, writer, errors)
@@ -138,7 +145,7 @@ fn do_asked<R: Read, W: Write, E: Write>(
         return do_over(alloc, job, linked, goals, None, reader, writer, errors);
     }
     let words = linked.words.as_slice();
-    match object_places(alloc, job.file, section_of(job), words) {
+    match object_places(alloc, job.file, section_of(job), job.options.packet, words) {
         Ok(texts) => {
             let places = Some(texts.as_slice());
             do_over(alloc, job, linked, goals, places, reader, writer, errors)

@@ -61,7 +61,8 @@ fn own_lines<W: Write, E: Write>(
     match first_lines(alloc, job.file, section_of(job)) {
         Ok(own) => {
             let all = own.as_slice();
-            let written = write_table(writer, linked.words.as_slice(), all);
+            let words = linked.words.as_slice();
+            let written = write_table(writer, job.options.packet, words, all);
             let flushed = flush_after(writer, written);
             ended(flushed, errors)
         }
@@ -126,7 +127,8 @@ fn joined_table<W: Write, E: Write>(
     match with_functions(alloc, own, functions, job.further) {
         Ok(told) => {
             let all = told.as_slice();
-            let written = write_table(writer, linked.words.as_slice(), all);
+            let words = linked.words.as_slice();
+            let written = write_table(writer, job.options.packet, words, all);
             let flushed = flush_after(writer, written);
             ended(flushed, errors)
         }

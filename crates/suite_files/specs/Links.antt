@@ -71,11 +71,11 @@ pub record AreLines (asked : Asked) (object : List ℕ) (with : List (List ℕ))
   pub first : AreLinesOf object (name_of asked.section) own
   pub others : AreBehind (own ∷ []) with all
 
--- A table of them, where one is wanted: the one that `lines` writes of the same objects.
+-- A table of them, where one is wanted: the one that `lines` writes of the same objects, behind what gives the program the packet that is asked for.
 abbrev pub IsTableOf : Bool → Asked → List ℕ → List (List ℕ) → List ℕ → List ℕ → Type 0
 IsTableOf false asked object with words table = table ≡ []
 IsTableOf true asked object with words table =
-    (all : List ObjectLines) × AreLines asked object with all × (table ≡ program_table words all)
+    (all : List ObjectLines) × AreLines asked object with all × (table ≡ program_table asked.packet words all)
 
 -- Why there is none: the stubs first, then what is joined, then the object.
 abbrev pub IsUnlinked : Asked → List ℕ → List (List ℕ) → ChainFault → Type 0

@@ -13,6 +13,7 @@ use bpf_lines::{LinesFault, ObjectLines, first_lines, with_functions, write_tabl
 use bpf_link::{
     LinkFault, LinkOptions, Linked, MOST_STUBS, Stub, fault_names, link_with, stubs_in,
 };
+use bpf_packet::Packet;
 use counted_io::{Counted, WriteFault};
 use input_texts::Text;
 use std::alloc::{AllocError, Global};
@@ -162,12 +163,17 @@ fn told_of_other(refused: &LinesFault<'_>) -> ChainFault
 }
 
 /// The table of a program's slots, of which this is told.
-fn written(alloc: Global, words: &[u8], all: &[ObjectLines<'_>]) -> Result<Vec<u8>, AllocError>
+fn written(
+    alloc: Global,
+    packet: Option<Packet>,
+    words: &[u8],
+    all: &[ObjectLines<'_>],
+) -> Result<Vec<u8>, AllocError>
     requires { All HasPartLines all.now }
-    ensures { IfOk result (λ table. table.items ≡ program_table words.now all.now) }
+    ensures { IfOk result (λ table. table.items ≡ program_table packet words.now all.now) }
 {
     let mut writer = Counted::new(Vec::new(alloc));
-    match write_table(&mut writer, words, all) {
+    match write_table(&mut writer, packet, words, all) {
         Ok(()) => Ok(writer.into_inner()),
         Err(WriteFault) => Err(AllocError),
     }
@@ -216,7 +222,7 @@ pub fn table_of(
         return Ok(Ok(Vec::new(alloc)));
     }
     match lines_of(alloc, asked, object, with) {
-        Ok(all) => match written(alloc, words, all.as_slice()) {
+        Ok(all) => match written(alloc, asked.packet, words, all.as_slice()) {
             Ok(table) => Ok(Ok(table)),
             Err(fault) => Err(fault),
         },

@@ -9,5 +9,5 @@ pub returns-in-Ok-table_of-clause-ok : goal.returns-in-Ok-table_of-clause-ok
 returns-in-Ok-table_of-clause-ok c = (
   c.in-Ok.ensures.ok.0,
   c.in-Ok.ensures.ok.1,
-  c.in-Ok-table_of.ensures ∙ ap (program_table c.args.words.now) (c.as_slice.ensures.value ∙ c.in-Ok.ensures.ok.2),
+  c.in-Ok-table_of.ensures ∙ ap (program_table c.args.packet c.args.words.now) (c.as_slice.ensures.value ∙ c.in-Ok.ensures.ok.2),
 )

@@ -16,7 +16,7 @@ do_asked-requires-in-Ok-clause-linked g c =
       c.requires.linked,
       subst (λ (b : Bool). HasPlace b job words (Some c.as_slice.result)) asks
           (rw c.as_slice.ensures.value
-          (subst (λ (text : List ℕ). AreObjectSlots job.file.now (section_of job) words text c.in-Ok.slots.items) what
+          (subst (λ (text : List ℕ). AreObjectSlots job.file.now (section_of job) job.options.packet words text c.in-Ok.slots.items) what
           (rw (c.section_of.ensures, c.as_slice-words.ensures.value) at c.in-Ok.ensures.ok))),
     )
 

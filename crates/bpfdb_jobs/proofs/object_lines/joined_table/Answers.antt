@@ -39,12 +39,12 @@ returns-in-Ok-with_functions-clause-does g c =
     let job = c.args.job.now in
     let linked = c.requires.linked in
     let all = c.in-Ok-with_functions.told.items in
-    let written = rw (c.as_slice.ensures.value, c.as_slice-all.ensures.value) at c.write_table-written.ensures in
+    let written = rw (c.as_slice-words.ensures.value, c.as_slice-all.ensures.value) at c.write_table-written.ensures in
     let lines = rw c.section_of.ensures at c.in-Ok.ensures.ok in
     let behind =
     subst (λ o. AreBehind (lines.0 ∷ []) (others_of o job) all) (sym c.requires.job.other) (subst (λ b. AreBehind b (others_of (Some c.args.functions) job) all) lines.2 c.in-Ok-with_functions.ensures.ok)
     in
-    out-printed Lines job (program_table c.args.linked.now.words.items all) c.flush_after-flushed.result c.ended.result
+    out-printed Lines job (program_table job.options.packet c.args.linked.now.words.items all) c.flush_after-flushed.result c.ended.result
     (prints-table job linked.0 linked.1 c.args.linked.now lines.0 all c.requires.job.object linked.2 lines.1 behind)
     (Writes-text g.W.Write.contents _ _ _ _ _ (c.flush_after-flushed.ensures _ _ written) (append-nil _))
     c.ended.ensures.ok c.ended.ensures.err

@@ -30,9 +30,9 @@ pub returns-in-Ok-first_lines-clause-does : goal.returns-in-Ok-first_lines-claus
 returns-in-Ok-first_lines-clause-does g c =
     let alone = subst (λ o. ObjectOf o c.args.job.now c.args.job.now.file.now None) (sym c.requires.job.other) (refl, refl) in
     let linked : IsLinkedTo c.args.job.now c.args.job.now.file.now None c.in-Ok.linked = record { stubs = c.args.stubs.now; asked = c.requires.stubs; of_object = alone; linked = c.in-Ok.ensures.ok } in
-    let written = rw (c.as_slice.ensures.value, c.as_slice-all.ensures.value) at c.write_table-written.ensures in
+    let written = rw (c.as_slice-words.ensures.value, c.as_slice-all.ensures.value) at c.write_table-written.ensures in
     let lines = rw c.section_of.ensures at c.in-Ok-first_lines.ensures.ok in
-    out-printed Lines c.args.job.now (program_table c.in-Ok.linked.words.items c.in-Ok-first_lines.own.items) c.flush_after-flushed.result c.ended.result
+    out-printed Lines c.args.job.now (program_table c.args.job.now.options.packet c.in-Ok.linked.words.items c.in-Ok-first_lines.own.items) c.flush_after-flushed.result c.ended.result
     (prints-table c.args.job.now c.args.job.now.file.now None c.in-Ok.linked lines.0 c.in-Ok-first_lines.own.items c.requires.job.object linked lines.1
     (alone-behind c.args.job.now lines.0 c.in-Ok-first_lines.own.items c.requires.job.other lines.2))
     (Writes-text g.W.Write.contents _ _ _ _ _ (c.flush_after-flushed.ensures _ _ written) (append-nil _))
