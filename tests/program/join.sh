@@ -24,9 +24,15 @@ gives() {
     cmp -s again words && cmp -s found/err told || complain "$section$with: another program than step by step"
 }
 
+# answer VALUE SECTION OBJECT: what the program of a section of asks.o gives, where the functions of this object answer.
+answer() {
+    "$program" link --section "$2" --with "$3" asks.o > words 2> told || complain "$2 with $3: $(cat told)"
+    result "$1\n" run words
+}
+
 find_compilers 'link --with'
 for compiler in $compilers; do
-    for name in program functions mock twice pointers fields; do
+    for name in program functions mock twice pointers fields asks answers; do
         "$compiler" -g -O2 -target bpf -c "$parts/join/$name.c" -o $name.o 2> found/err || complain "$compiler: $name.c: $(cat found/err)"
     done
 
@@ -132,5 +138,21 @@ open("cut.o", "wb").write(data)'
         grep -q '^refused E25 at slot [0-9]*: unknown helper 5 (bpf_ktime_get_ns)' told || complain "names behind their section: $(cat told)"
         "$program" link --section time --with functions.o cut.o > words 2> told
         grep -q '^refused E8: no such code section' told || complain "names behind their section, joined: $(cat told)"
+        # Of two functions of a helper's name the one answers whose symbol stands last; one that begins inside of a slot answers nothing.
+        python3 "$top/tests/trials/symbols.py" answers.o
+        answer 0x9 named both.o
+        answer 0x7 named turned.o
+        refused 'refused E25 at slot 0: unknown helper 8 (bpf_get_smp_processor_id): --with OBJECT or --stub 8=VALUE answers it: inside, slot 0' \
+            link --with inside.o --section inside asks.o
     fi
+    # The same function is one where it is whole; and a function answers the last helper that has a name, too.
+    answer 0x6 inside answers.o
+    answer 0x3 latest answers.o
+    # A function is asked before a stub, which answers the calls that are left.
+    "$program" link --section inside --stub 8=1 --with answers.o asks.o > words 2> told || complain "a stub and a function: $(cat told)"
+    result '0x6\n' run words
+    count=$((count + 1))
+    [ "$(cat told)" = 'calls answered by --stub: 0' ] || complain "a stub and a function: $(cat told)"
+    "$program" link --section inside --stub 8=1 asks.o > words 2> told || complain "a stub: $(cat told)"
+    result '0x1\n' run words
 done
