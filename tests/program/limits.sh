@@ -258,6 +258,116 @@ ROWS
 )
 . ./counted
 
+# The kernel counts environment and arguments to the stack. So with 32 kB of them a little more is enough, of which no more is taken: each subcommand, also over
+# objects, and what gdb asks, with the same output and status as without a limit. `STACKS=1 sh tests/program.sh limits` prints the least stack of each.
+stack=320
+room=$(head -c 32700 /dev/zero | tr '\0' x)
+# in_stack SIZE ARGUMENT..: runs the program so on the file `script`. What is found: its status, output and standard error.
+in_stack() {
+    (
+        ulimit -s "$1"
+        shift
+        exec env -i "ROOM=$room" "$program" "$@"
+    ) < script > found/out 2> found/err
+    echo $? > found/status
+}
+# least: the least stack of the job whose results are wanted, in kB, by steps of 4 kB.
+least() {
+    low=64 high=1024
+    while [ $((high - low)) -gt 4 ]; do
+        middle=$(((low + high) / 8 * 4))
+        in_stack $middle "$@" 2> /dev/null
+        if agree status && agree out && agree err; then high=$middle; else low=$middle; fi
+    done
+    echo "$high kB of stack: bpfdb $* < $input"
+}
+# (the requests of a line are framed by `asked_by`: the sum of a packet's bytes stands behind it)
+asked_by() {
+    for request in "$@"; do
+        case $request in
+            monitor\ *) request=qRcmd,$(printf '%s' "${request#monitor }" | od -An -v -tx1 | tr -d ' \n') ;;
+        esac
+        sum=$(printf '%s' "$request" | od -An -v -tu1 | awk '{ for (i = 1; i <= NF; i++) sum += $i } END { printf "%02x", sum % 256 }')
+        printf '$%s#%s' "$request" "$sum"
+    done
+}
+: > nothing
+printf 'continue\ninfo regs\nundo\nredo\nset reg r0 7\ndisas 0 5\nlast-write 0x200000000\nreverse-continue\n' > commands
+printf 'b70000002a0000009500000000000000 \n' > cases
+asked_by c > asked-c
+asked_by 'monitor help' > asked-help
+asked_by 'monitor info regs' > asked-regs
+asked_by 'monitor origin' c 'monitor origin r9' > asked-origin
+asked_by 'monitor whynot 0' c 'monitor whynot 0' > asked-whynot
+asked_by c bc g m0,40 'monitor origin r0' 'monitor whynot 1' qXfer:features:read:target.xml:0,400 > asked-all
+printf -- '-- name\na\n-- object overrun.o\n-- result\n0\n-- name\nb\n-- object typed.o\n-- mem\n2a\n-- result\n1\n' > objects.test
+printf -- '-- object overrun.o\n-- with calls.o\n-- with calls.o\n-- result\n0\n' > joined.test
+printf -- '-- object overrun.o\n-- section none\n-- with calls.o\n-- result\n0\n' > none.test
+printf -- '-- object overrun.o\n-- with calls.o\n-- with script\n-- result\n0\n' > wrong.test
+printf '1 0: mov r0, 1\n' > steps
+printf 'loop: add r0, 1\njlt r0, 3, loop\nexit\n' > count.s
+: > stacks
+while IFS='|' read -r input arguments; do
+    cp "$input" script
+    # (words without blanks)
+    # shellcheck disable=SC2086
+    run $arguments
+    for part in status out err; do mv found/$part wanted/$part; done
+    # shellcheck disable=SC2086
+    in_stack $stack $arguments
+    compare "$stack kB of stack and 32 kB of environment: bpfdb $arguments < $input"
+    # shellcheck disable=SC2086
+    [ -z "${STACKS:-}" ] || least $arguments >> stacks
+done <<ROWS
+nothing|run --object typed.o
+nothing|run --strict --object overrun.o
+nothing|trace --object overrun.o
+nothing|trace --branches --object typed.o
+nothing|trace --json --object overrun.o
+nothing|trace --profile --object overrun.o
+commands|debug --object overrun.o
+nothing|origin --object overrun.o
+nothing|origin --branches --addresses --object typed.o
+nothing|origin --dot --object overrun.o
+nothing|origin --json --object overrun.o
+nothing|origin --script commands --object overrun.o
+nothing|whynot --object overrun.o 0
+nothing|whynot --json --addresses --object typed.o 1
+nothing|whynot --script commands --object typed.o 1
+nothing|diff --other-mem nothing --object overrun.o
+nothing|diff --writes --other-mem cases --object typed.o
+nothing|diff --trace steps --object overrun.o
+nothing|check --object typed.o
+nothing|disasm --object typed.o
+nothing|lines --object --with calls.o overrun.o
+nothing|link typed.o
+nothing|link --section none --with calls.o overrun.o
+nothing|link --with calls.o --with calls.o --with calls.o overrun.o
+nothing|link --joined --with calls.o overrun.o
+nothing|link --entries events=7 typed.o
+nothing|link --packet xdp overrun.o
+nothing|asm labels.s
+cases|batch
+nothing|test cells.test
+nothing|test --json objects.test
+nothing|test --cover objects.test
+nothing|test --cover-info joined.test
+nothing|test joined.test
+nothing|test none.test
+nothing|test wrong.test
+nothing|test --show program joined.test
+asked-c|gdb --object overrun.o
+asked-help|gdb --object overrun.o
+asked-regs|gdb --object overrun.o
+asked-origin|gdb --object overrun.o
+asked-whynot|gdb --object overrun.o
+asked-all|gdb --object typed.o
+asked-all|gdb --registers riscv --listing count.s
+nothing|help
+nothing|rum
+ROWS
+cat stacks
+
 # Little memory of all kinds: the work is done, or one line says that memory ran out.
 # squeezed ROOMS ARGUMENT..: so it is in each of these address spaces, in kB, with `script` as input. 50,000 are enough. (Where it is below 4,000 the system
 # may not be able to load the program, which then has status 127.)
@@ -287,7 +397,6 @@ squeezed() {
 
 # Each subcommand: where there is hardly room to load the program, a small thing, and the greatest where there is more. (The steps are small there, since the stack
 # takes address space, too: what needs more of it than is left would be ended by a signal, between where the program can be loaded and where all fits.)
-printf 'loop: add r0, 1\njlt r0, 3, loop\nexit\n' > count.s
 printf 'loop: add r0, 2\njlt r0, 3, loop\nexit\n' > further.s
 printf 'continue\n' > path
 little=$(seq 3000 25 4000)
