@@ -30,6 +30,10 @@ unread 0 2000001fe 'ldxsh r1, [r10-2];exit'
 unread 0 2000001f8 'ldxsw r1, [r10-8];exit'
 reads 'stb [r10-1], 0;ldxsb r1, [r10-1];exit'
 
+# In a slot above 255.
+many=$(yes 'mov r0, 0;' | head -n 300 | tr -d '\n')
+unread 300 2000001ff "${many}ldxb r0, [r10-1];exit"
+
 # Atomic operations read, those that fetch nothing, too, and then write.
 unread 0 2000001f8 'atomic_add64 [r10-8], r0;exit'
 unread 0 2000001f8 'atomic_xchg64 [r10-8], r0;exit'
