@@ -130,6 +130,19 @@ tells 1 'word 1 ends otherwise: 0x6, none\n< 4 3: call 64; r0 = 0x0; word 1 = 0x
 tells 1 'word 1 ends otherwise: none, 0x6\n< not written\n> 4 3: call 64; r0 = 0x0; word 1 = 0x6\n< exited at 2: r0 0x0\n> exited at 4: r0 0x0\n' diff --alone --writes --listing word.s words.s
 tells 1 'word 0 ends otherwise: 0x5, 0x6\n< 2 1: call 64; r0 = 0x0; word 0 = 0x5\n> 2 1: call 64; r0 = 0x0; word 0 = 0x6\n< exited at 2: r0 0x0\n> exited at 2: r0 0x0\n' \
     diff --alone --writes --listing word.s other.s
+# However many maps, entries and words are the same before: the fifth map, entry 300, and the word behind sixteen.
+listing fifth-map.s 'ldmapval r2, 4, 3;stb [r2+0], 9;exit'
+listing other-fifth.s 'ldmapval r2, 4, 3;stb [r2+0], 8;exit'
+listing far-entry.s 'ldmapval r2, 0, 300;stb [r2+0], 9;exit'
+listing other-far.s 'ldmapval r2, 0, 300;stb [r2+0], 8;exit'
+listing seventeen.s 'mov r6, 16;l: mov r1, 7;call 64;add r6, -1;jne r6, 0, l;mov r1, 5;call 64;exit'
+listing other-word.s 'mov r6, 16;l: mov r1, 7;call 64;add r6, -1;jne r6, 0, l;mov r1, 6;call 64;exit'
+tells 1 '0x300400003:1 ends otherwise: 0x9, 0x8\n< 2 2: stb [r2+0], 9; 0x300400003:1 = 0x9\n> 2 2: stb [r2+0], 8; 0x300400003:1 = 0x8\n< exited at 3: r0 0x0\n> exited at 3: r0 0x0\n' \
+    diff --alone --writes --maps 4x1,4x1,4x1,4x1,4x1 --listing fifth-map.s other-fifth.s
+tells 1 '0x30000012c:1 ends otherwise: 0x9, 0x8\n< 2 2: stb [r2+0], 9; 0x30000012c:1 = 0x9\n> 2 2: stb [r2+0], 8; 0x30000012c:1 = 0x8\n< exited at 3: r0 0x0\n> exited at 3: r0 0x0\n' \
+    diff --alone --writes --maps 1x301 --listing far-entry.s other-far.s
+tells 1 'word 16 ends otherwise: 0x5, 0x6\n< 67 6: call 64; r0 = 0x0; word 16 = 0x5\n> 67 6: call 64; r0 = 0x0; word 16 = 0x6\n< exited at 7: r0 0x0\n> exited at 7: r0 0x0\n' \
+    diff --alone --writes --listing seventeen.s other-word.s
 tells 1 'r0 ends otherwise: 0x1, 0x2\n< 1 0: mov r0, 1; r0 = 0x1\n> 1 0: mov r0, 2; r0 = 0x2\n< exited at 1: r0 0x1\n> exited at 1: r0 0x2\n' diff --alone --writes --listing one.s two.s
 listing end.s exit
 tells 1 'r0 ends otherwise: 0x0, 0x1\n< not written\n> 1 0: mov r0, 1; r0 = 0x1\n< exited at 0: r0 0x0\n> exited at 1: r0 0x1\n' diff --alone --writes --listing end.s one.s
@@ -154,7 +167,10 @@ listing null.s 'ldxb r0, [r0+0];exit'
 listing next.s 'ldxb r0, [r0+1];exit'
 listing null-later.s 'mov r3, 1;ldxb r0, [r0+0];exit'
 listing null-too.s 'mov r0, 8;ldxb r3, [r3+0];stb [r1+0], 1;exit'
+listing token.s 'mov r1, 5;call 1;exit'
+listing other-token.s 'mov r1, 6;call 1;exit'
 listing loop.s 'l: ja l'
+tells 1 'same writes\n< fault token 0x5 at 1\n> fault token 0x6 at 1\n' diff --writes --listing token.s other-token.s
 tells 1 'same writes\n< exited at 0: r0 0x0\n> fault access 0x0 at 0\n' diff --writes --listing end.s null.s
 tells 1 'same writes\n< fault access 0x0 at 0\n> fault access 0x1 at 0\n' diff --writes --listing null.s next.s
 tells 0 'same writes\n< fault access 0x0 at 0\n> fault access 0x0 at 1\n' diff --writes --listing null.s null-later.s
