@@ -44,6 +44,7 @@ for compiler in $compilers; do
         gives 0x3a length
         gives 0x2 spilled
         gives 0xbf6 called
+        gives 0x4d exchanged
         gives 0x422 beside
         gives 0x44 walked
         gives 0x111b sorted
@@ -99,8 +100,10 @@ for compiler in $compilers; do
         unfit "$mixed: xdp" mixed
         unfit "$mixed: xdp" walks
         unfit "$arithmetic: xdp" indexed
+        unfit "$arithmetic: xdp" or_of
         unfit "$escapes: xdp" keeps
         unfit "$escapes: xdp" passes
+        unfit "$escapes: xdp" as_flags
         unfit "$escapes: xdp" returns
         unfit "$escapes: xdp" through_frame
         unfit "$escapes: xdp" through_address

@@ -55,6 +55,15 @@ int indexed(struct xdp_md *ctx)
 }
 
 SEC("xdp")
+int or_of(struct xdp_md *ctx)
+{
+	long bits = 0;
+
+	asm volatile("%0 |= %1" : "+r"(bits) : "r"(ctx));
+	return bits != 0;
+}
+
+SEC("xdp")
 int keeps(struct xdp_md *ctx)
 {
 	kept = ctx;
@@ -65,6 +74,13 @@ SEC("xdp")
 int passes(struct xdp_md *ctx)
 {
 	return ((long (*)(void *))64)(ctx);
+}
+
+/* The fourth register of an update, its flags. */
+SEC("xdp")
+int as_flags(struct xdp_md *ctx)
+{
+	return ((long (*)(void *, void *, void *, void *))2)(0, 0, 0, ctx);
 }
 
 SEC("xdp")

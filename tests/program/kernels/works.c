@@ -60,6 +60,22 @@ int called(struct xdp_md *ctx)
 	return sum + first(2000, ctx) + (int)(end(&ctx->data_end) - ctx->data);
 }
 
+/*
+ * A compare-exchange leaves in r0, which had the context's address, what was in the frame: an address four bytes before the number 77. (The bytes
+ * are `atomic_cmpxchg64 [r10-8], r3`, for which clang asks for a newer processor.)
+ */
+SEC("xdp")
+int exchanged(struct xdp_md *ctx)
+{
+	long number;
+
+	asm volatile("r3 = 77\n*(u32 *)(r10 - 12) = r3\n"
+		     "r2 = r10\nr2 += -16\n*(u64 *)(r10 - 8) = r2\n"
+		     "r0 = %1\nr3 = 0\n.byte 0xdb, 0x3a, 0xf8, 0xff, 0xf1, 0, 0, 0\n"
+		     "%0 = *(u32 *)(r0 + 4)" : "=r"(number) : "r"(ctx) : "r0", "r2", "r3", "memory");
+	return number;
+}
+
 /* A verdict is 32 bits, with a sign. */
 SEC("xdp")
 int negative(struct xdp_md *ctx)
