@@ -74,9 +74,10 @@ for compiler in $compilers; do
     "$program" link --section cells joined.o > again 2> told || complain "maps, linked again: $(cat told)"
     cmp -s words again && cmp -s first told || complain 'a joined object has another program'
     count=$((count + 1))
-    "$program" link --joined program.o > same.o
-    cmp -s program.o same.o || complain 'an object that is joined to none'
-    count=$((count + 1))
+    # (an object that nothing is joined to would be copied, whatever it is; that of a packet's program isn't written)
+    usage "'--joined' needs '--with', '--entries', or several '--entry'" link --joined program.o
+    usage "'--joined' needs '--with', '--entries', or several '--entry'" link --joined --section cells --entry cells --stub 8=7 program.o
+    usage "the argument '--joined' cannot be used with '--packet <KIND>'" link --joined --packet xdp --with functions.o program.o
 
     # What is wanting, and what is wrong with either object.
     refused 'refused E25 at slot 0: unknown helper 8 (bpf_get_smp_processor_id): --with OBJECT or --stub 8=VALUE answers it: unanswered, slot 0' \

@@ -1,5 +1,5 @@
 -- What a plan says, by what `clap`'s exact matches give for the words.
-use Rattle.std.specs.Prelude.{◌≡◌, ◌⊎◌, ◌<◌, ◌≤◌, ◌^◌, ◌||◌, ◌&&◌, ℕ, Bool, true, false, not, if◌then◌else◌, List, [], Option, Some, None, is_some, option_map, unwrap_or, codes, drop, length, map}
+use Rattle.std.specs.Prelude.{◌≡◌, ◌⊎◌, ◌<◌, ◌≤◌, ◌^◌, ◌||◌, ◌&&◌, ℕ, Bool, true, false, not, if◌then◌else◌, List, [], Option, Some, None, is_some, option_map, unwrap_or, codes, drop, length, map, nat_le}
 use Rattle.std.specs.List.{list_all}
 use Rattle.std.specs.Option.{option_map_or}
 use Rattle.std.specs.Str.{bytes_eq}
@@ -15,7 +15,7 @@ use Rattle.bpfdb_cli.specs.declared.plans.PlanFault.TheVariants.{Usage, Memory}
 use Rattle.bpf_packet.specs.Names.{packet_name}
 use Rattle.bpf_packet.specs.declared.packet.Packet.{Packet}
 use Rattle.input_texts.specs.Counts.{are_counts}
-use Rattle.input_texts.specs.Turns.{offset_in}
+use Rattle.input_texts.specs.Turns.{has_place, offset_in}
 use Rattle.bpfdb_limits.specs.Limits.{IsLimit, default_journal, default_limit, greatest_count}
 use Rattle.bpfdb_options.specs.Lines.{default_lines, most_further}
 use Rattle.bpfdb_options.specs.Registers.{registers_name}
@@ -187,8 +187,23 @@ is_json_tracefile rows = is_given (first_of (codes "cover-info") rows) && is_giv
 abbrev pub is_json_graph : List Row → Bool
 is_json_graph rows = is_given (first_of (codes "dot") rows) && is_given (first_of (codes "json") rows)
 
+-- `--joined` writes the object that something makes of FILE: others that are joined to it, other entries of its maps, or programs in turn.
+-- That of a packet's program isn't written.
+abbrev pub names_one : List Text → Bool
+names_one entries = nat_le (length entries) 1 && list_all (λ text. not (has_place text)) entries
+
+abbrev pub joins_nothing : List Row → Bool
+joins_nothing rows = is_given (first_of (codes "joined") rows) && (not (is_some (first_of (codes "with") rows))
+    && (not (is_some (first_of (codes "entries") rows)) && names_one (unwrap_or (all_of (codes "entry") rows) [])))
+
+abbrev pub joins_packet : List Row → Bool
+joins_packet rows = is_given (first_of (codes "joined") rows) && is_some (first_of (codes "packet") rows)
+
+abbrev pub object_fits : Text → List Row → Bool
+object_fits name rows = not (joins_nothing rows) && (not (joins_packet rows) && run_fits name rows)
+
 abbrev pub graph_fits : Text → List Row → Bool
-graph_fits name rows = not (is_json_graph rows) && run_fits name rows
+graph_fits name rows = not (is_json_graph rows) && object_fits name rows
 
 abbrev pub told_fits : Text → List Row → Bool
 told_fits name rows = not (shows_json rows) && (not (is_json_tracefile rows) && graph_fits name rows)

@@ -1,13 +1,14 @@
 //! From the words of a command line to a plan.
-ghost use Rattle.std.specs.Prelude.{◌≡◌, ◌≤◌, ◌<◌, ◌^◌, IfErr, IfNone, IfOk, IfSome, MatchOption, OnErr, OnOk, OnSome, Option, Some, List, codes, drop, false, is_some, length, map, not, option_map, true, ◌&&◌};
+ghost use Rattle.std.specs.Prelude.{◌≡◌, ◌≤◌, ◌<◌, ◌^◌, [], IfErr, IfNone, IfOk, IfSome, MatchOption, OnErr, OnOk, OnSome, Option, Some, List, codes, drop, false, is_some, length, map, nat_le, not, option_map, true, unwrap_or, ◌&&◌};
 ghost use Rattle.std.specs.List.{list_all};
 ghost use Rattle.std.specs.Str.Parse.{IsNumeral, digits_value, without_leading_plus};
 ghost use Rattle.input_texts.specs.Counts.{are_counts};
-ghost use Rattle.clap.specs.Words.{Row, Text, first_of, found_of, rows_of, subcommand_rows_of};
+ghost use Rattle.input_texts.specs.Turns.{has_place};
+ghost use Rattle.clap.specs.Words.{Row, Text, all_of, first_of, found_of, rows_of, subcommand_rows_of};
 ghost use Rattle.bpfdb_limits.specs.Limits.{IsLimit};
 ghost use Rattle.bpfdb_options.specs.Lines.{most_further};
 ghost use Rattle.bpfdb_cli.specs.Scaffolding.{AskAlike};
-ghost use Rattle.bpfdb_cli.specs.Plans.{AreInRange, Chooses, HasKindIfTold, IsFaultOf, IsNumber, IsPlan, IsPlanOf, NamesPart, NamesRegisters, Says, Tells, asks_of_link, counts_strictly, go_together, is_given, link_fits, names_other, number_or, other_in, run_fits, given_or, NamesPacket, counts_in, entries_fit, further_in, has_offset, graph_fits, is_json_graph, is_json_tracefile, most_counts, names_side, writes_fit, shows_json, told_fits};
+ghost use Rattle.bpfdb_cli.specs.Plans.{AreInRange, Chooses, HasKindIfTold, IsFaultOf, IsNumber, IsPlan, IsPlanOf, NamesPart, NamesRegisters, Says, Tells, asks_of_link, counts_strictly, go_together, is_given, joins_nothing, joins_packet, names_one, object_fits, link_fits, names_other, number_or, other_in, run_fits, given_or, NamesPacket, counts_in, entries_fit, further_in, has_offset, graph_fits, is_json_graph, is_json_tracefile, most_counts, names_side, writes_fit, shows_json, told_fits};
 
 use crate::command_line::command_line;
 use crate::plans::{MOST_COUNTS, Plan, PlanFault};
@@ -17,7 +18,7 @@ use bpfdb_limits::{DEFAULT_JOURNAL, DEFAULT_LIMIT, GREATEST_COUNT, is_limit};
 use bpfdb_options::{DEFAULT_LINES, MOST_FURTHER, Options, Registers, Subcommand, TestPart};
 use clap::error::ErrorKind;
 use clap::{ArgMatches, Command, Error};
-use input_texts::{are_counts, offset_in};
+use input_texts::{are_counts, has_place, offset_in};
 use std::alloc::Global;
 
 /// What is said of a name that `--registers` doesn't take. It would be said of a number, too, that
@@ -50,6 +51,10 @@ const SHOW_AND_JSON: &str = "the argument '--show <PART>' cannot be used with '-
 const TRACEFILE_AND_JSON: &str = "the argument '--cover-info' cannot be used with '--json'";
 
 const DOT_AND_JSON: &str = "the argument '--dot' cannot be used with '--json'";
+
+const JOINED_ALONE: &str = "'--joined' needs '--with', '--entries', or several '--entry'";
+
+const JOINED_AND_PACKET: &str = "the argument '--joined' cannot be used with '--packet <KIND>'";
 
 const MANY_OBJECTS: &str = "the argument '--with <OBJECT>' is used more than 16 times";
 
@@ -234,8 +239,64 @@ fn misfit_of_graph(name: &str, found: &ArgMatches<'_>) -> Option<&'static str>
     if is_json_graph(found) {
         Some(DOT_AND_JSON)
     } else {
+        misfit_of_object(name, found)
+    }
+}
+
+/// Why no object is written, if it isn't.
+fn misfit_of_object(name: &str, found: &ArgMatches<'_>) -> Option<&'static str>
+    ensures none { IfNone result (object_fits name.now (rows_of (found_of found.now)) ≡ true) }
+    ensures some { OnSome result (object_fits name.now (rows_of (found_of found.now)) ≡ false) }
+{
+    if joins_nothing(found) {
+        return Some(JOINED_ALONE);
+    }
+    if joins_packet(found) {
+        Some(JOINED_AND_PACKET)
+    } else {
         misfit_of_run(name, found)
     }
+}
+
+/// Whether the object is to be written that nothing makes of FILE.
+fn joins_nothing(found: &ArgMatches<'_>) -> bool
+    ensures { result ≡ joins_nothing (rows_of (found_of found.now)) }
+{
+    if !is_given(found, "joined") || has_text(found, "with") {
+        return false;
+    }
+    !has_text(found, "entries") && has_one_entry(found)
+}
+
+/// Whether a packet's program is to be written as an object.
+fn joins_packet(found: &ArgMatches<'_>) -> bool
+    ensures { result ≡ joins_packet (rows_of (found_of found.now)) }
+{
+    is_given(found, "joined") && has_text(found, "packet")
+}
+
+/// Whether no programs are called in turn.
+fn has_one_entry(found: &ArgMatches<'_>) -> bool
+    ensures { result ≡ names_one (unwrap_or (all_of (codes "entry") (rows_of (found_of found.now))) []) }
+{
+    match found.get_strs("entry") {
+        Some(texts) => is_one(texts),
+        None => true,
+    }
+}
+
+/// Whether some texts name one program at most, and no offset of it.
+fn is_one(texts: &[&str]) -> bool
+    ensures { result ≡ (nat_le (length texts.now) 1 && list_all (λ text. not (has_place text.now)) texts.now) }
+{
+    texts.len() <= 1 && have_no_places(texts)
+}
+
+/// Whether none of some texts has an `@`.
+fn have_no_places(texts: &[&str]) -> bool
+    ensures { result ≡ list_all (λ text. not (has_place text.now)) texts.now }
+{
+    texts.iter().all(|text| !has_place(text.as_bytes()))
 }
 
 /// Whether a part of a test is to be shown as JSON.
