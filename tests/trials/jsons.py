@@ -11,7 +11,7 @@ import dots
 
 PART = r"(?:r\d+(?: at depth \d)?|0x[0-9a-f]+(?::\d+)?|word \d+)"
 COUNT = {"step", "slot", "moves", "limit", "steps", "count", "instructions", "slots", "line", "tests", "test", "map", "index", "more", "ran",
-         "both", "branches", "to", "byte"}
+         "both", "branches", "to", "byte", "context", "after"}
 
 
 def row(kind, pattern, **given):
@@ -40,6 +40,9 @@ REPORT = [
     row("came", r"# came: (?P<came>.*)"),
     row("wanted", r"# wanted: (?P<wanted>.*)"),
     row("debug", r"# debug: (?P<debug>.*)"),
+    row("byte", r"# byte (?P<byte>\d+) came: (?P<came>.*)"),
+    row("byte", r"# byte (?P<byte>\d+) wanted: (?P<wanted>.*)"),
+    row("length", r"# bytes of the context: (?P<context>\d+), of mem-after: (?P<after>\d+)"),
     row("cell", r"# cell (?P<map>\d+) (?P<index>\d+) came: (?P<came>.*)"),
     row("cell", r"# cell (?P<map>\d+) (?P<index>\d+) wanted: (?P<wanted>.*)"),
     row("cells", r"# more wrong cells: (?P<more>\d+)"),

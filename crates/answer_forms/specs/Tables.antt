@@ -126,6 +126,9 @@ report_shapes =
     ∷ shape (codes "came") (codes "# came: ") (text (codes "came") [] ∷ []) Nothing
     ∷ shape (codes "wanted") (codes "# wanted: ") (text (codes "wanted") [] ∷ []) Nothing
     ∷ shape (codes "debug") (codes "# debug: ") (text (codes "debug") [] ∷ []) Nothing
+    ∷ shape (codes "byte") (codes "# byte ") (count (codes "byte") (codes " came: ") ∷ text (codes "came") [] ∷ []) Nothing
+    ∷ shape (codes "byte") (codes "# byte ") (count (codes "byte") (codes " wanted: ") ∷ text (codes "wanted") [] ∷ []) Nothing
+    ∷ shape (codes "length") (codes "# bytes of the context: ") (count (codes "context") (codes ", of mem-after: ") ∷ count (codes "after") [] ∷ []) Nothing
     ∷ shape (codes "cell") (codes "# cell ")
     (count (codes "map") (codes " ") ∷ count (codes "index") (codes " came: ") ∷ text (codes "came") [] ∷ []) Nothing
     ∷ shape (codes "cell") (codes "# cell ")

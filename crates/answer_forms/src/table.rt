@@ -342,7 +342,7 @@ const SOURCES: [Shape; 2] = [
 ];
 
 /// What `test` prints.
-const REPORT: [Shape; 14] = [
+const REPORT: [Shape; 17] = [
     Shape {
         kind: b"plan",
         begin: b"1..",
@@ -395,6 +395,30 @@ const REPORT: [Shape; 14] = [
         kind: b"debug",
         begin: b"# debug: ",
         fields: &[Field::Text(b"debug", b"")],
+        rest: Rest::Nothing,
+    },
+    Shape {
+        kind: b"byte",
+        begin: b"# byte ",
+        fields: &[Field::Count(b"byte", b" came: "), Field::Text(b"came", b"")],
+        rest: Rest::Nothing,
+    },
+    Shape {
+        kind: b"byte",
+        begin: b"# byte ",
+        fields: &[
+            Field::Count(b"byte", b" wanted: "),
+            Field::Text(b"wanted", b""),
+        ],
+        rest: Rest::Nothing,
+    },
+    Shape {
+        kind: b"length",
+        begin: b"# bytes of the context: ",
+        fields: &[
+            Field::Count(b"context", b", of mem-after: "),
+            Field::Count(b"after", b""),
+        ],
         rest: Rest::Nothing,
     },
     Shape {
