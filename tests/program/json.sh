@@ -198,6 +198,32 @@ END
 echo 1 > wanted/status
 : > wanted/err
 compare 'a report as objects of JSON'
+# What a test says of the bytes and the cells that it left.
+printf -- '-- listing\nstb [r1+1], 5\nexit\n-- mem\n010203\n-- maps\n2x1\n-- result\n0\n-- name\na\n-- mem-after\n01.4\n-- name\nb\n-- mem-after\n0105 0300\n-- map-after\n0 0 .. 01\n' > left.test
+"$program" test --json left.test > found/out 2> found/err
+echo $? > found/status
+cat > wanted/out <<'END'
+{"kind":"plan","tests":2}
+{"kind":"failed","test":1,"name":"a"}
+{"kind":"place","line":10}
+{"kind":"came","came":"exited at 1: r0 0x0"}
+{"kind":"wanted","wanted":"result 0, and mem-after"}
+{"kind":"byte","byte":1,"came":"0x100000001: 05"}
+{"kind":"byte","byte":1,"wanted":".4"}
+{"kind":"length","context":3,"after":2}
+{"kind":"debug","debug":"bpfdb-show 'a' 'left.test'"}
+{"kind":"failed","test":2,"name":"b"}
+{"kind":"place","line":14}
+{"kind":"came","came":"exited at 1: r0 0x0"}
+{"kind":"wanted","wanted":"result 0, and mem-after, and map-after"}
+{"kind":"byte","byte":3,"came":"none"}
+{"kind":"byte","byte":3,"wanted":"00"}
+{"kind":"length","context":3,"after":4}
+{"kind":"cell","map":0,"index":0,"came":"0x300000000: 0000"}
+{"kind":"cell","map":0,"index":0,"wanted":".. 01"}
+{"kind":"debug","debug":"bpfdb-show 'b' 'left.test'"}
+END
+compare 'what was left of a test, as objects of JSON'
 
 # All that these folders have, and programs at random.
 if has python3 'answers as objects of JSON'; then

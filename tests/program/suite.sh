@@ -142,6 +142,38 @@ awk 'BEGIN { print "1..40000"; for (i = 1; i <= 40000; i++) print "ok " i " - x"
 )
 failures=$((failures + $?))
 count=$((count + 2))
+# The report on the greatest context tells of its last byte, of one behind it, and of the first; where tests share it, of each that fails.
+zeros=$(head -c 131072 /dev/zero | tr '\0' 0)
+printf -- '-- listing\nadd r1, 65535\nstb [r1+0], 0xa5\nexit\n-- mem\n%s\n-- result\n0\n-- name\nthe last\n-- mem-after\n%s\n' "$zeros" "$zeros" > great
+printf -- '-- name\none behind it\n-- mem-after\n%sa5 .1\n-- name\nnone\n-- mem-after\n-- name\nall\n-- mem-after\n%s5a\n' "${zeros#00}" "${zeros#00}" >> great
+sed -i '$s/5a$/a5/' great
+# unlike NUMBER NAME LINE LINES: the report on a test that leaves other bytes than are wanted.
+unlike() {
+    printf "not ok $1 - $2\n# the test in line $3\n# came: exited at 2: r0 0x0\n# wanted: result 0, and mem-after\n$4# debug: bpfdb-show '$2' 'great'\n"
+}
+{
+    echo 1..4
+    unlike 1 'the last' 9 '# byte 65535 came: 0x10000ffff: a5\n# byte 65535 wanted: 00\n'
+    unlike 2 'one behind it' 13 '# byte 65536 came: none\n# byte 65536 wanted: .1\n# bytes of the context: 65536, of mem-after: 65537\n'
+    unlike 3 none 17 '# byte 0 came: 0x100000000: 00\n# byte 0 wanted: none\n# bytes of the context: 65536, of mem-after: 0\n'
+    echo 'ok 4 - all'
+} > wanted/out
+tested 'bpfdb test of a context of 65,536 bytes and of what is left of it' 1 great
+{
+    printf -- '-- listing\nadd r1, 65535\nstxb [r1+0], r3\nexit\n-- mem\n%s\n-- mem-after\n%sa5\n-- result\n0\n' "$zeros" "${zeros#00}"
+    awk 'BEGIN { for (i = 1; i <= 2000; i++) printf "-- name\nx\n-- regs\nr3 = %d\n", i % 2 ? 165 : 90 }'
+} > many
+(
+    ulimit -t 3
+    failures=0
+    : > script
+    run test many
+    [ "$(cat found/status) $(grep -c '^ok ' found/out) $(grep -c '^# byte 65535 came: 0x10000ffff: 5a$' found/out)" = '1 1000 1000' ] ||
+        complain 'bpfdb test of 2,000 tests that share a context of 65,536 bytes and what is to be left of it, half of which leave another last byte'
+    exit "$failures"
+)
+failures=$((failures + $?))
+count=$((count + 1))
 # So is what is expected, with its zeros and blanks, whether a test passes or fails, and so are maps.
 zeros=$(head -c 200000 /dev/zero | tr '\0' 0)
 {

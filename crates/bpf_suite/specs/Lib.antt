@@ -1,6 +1,7 @@
 pub mod Benches
 pub mod Bodies
 pub mod Cells
+pub mod Contexts
 pub mod Covers
 pub mod Endings
 pub mod Faults

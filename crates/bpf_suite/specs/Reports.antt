@@ -7,6 +7,7 @@ use Rattle.bpfdb_script.specs.Texts.{text_of_bytes}
 use Rattle.counted_io.specs.Counted.{Tally, one_more}
 use Rattle.counted_io.specs.Writing.{Writes}
 use Rattle.bpf_suite.specs.Bodies.{trimmed}
+use Rattle.bpf_suite.specs.Contexts.{context_text}
 use Rattle.bpf_suite.specs.Faults.{has_part}
 use Rattle.bpf_suite.specs.Outcomes.{Comes, Outcome, outcome_text}
 use Rattle.bpf_suite.specs.Shown.{quoted}
@@ -70,7 +71,7 @@ show_line file name = codes "# debug: bpfdb-show " ++ quoted name ++ codes " " +
 unfoldable pub diagnosis : List ℕ → List Section → Outcome → List ℕ
 diagnosis file test outcome =
     codes "# the test in line " ++ decimal (first_line test) ++ codes "\n# came: " ++ outcome_text outcome ++ codes "\n# wanted: " ++ wanted test
-    ++ cells_text (wrong_cells test outcome) outcome ++ show_line file (title test)
+    ++ context_text test outcome ++ cells_text (wrong_cells test outcome) outcome ++ show_line file (title test)
 
 -- The lines of a test.
 abbrev pub verdict_word : Bool → List ℕ

@@ -154,7 +154,7 @@ fn fits_digit(digit: u8, value: u8) -> bool
 }
 
 /// Whether two digits fit a byte.
-fn fits_byte(digits: &[u8], byte: u8) -> bool
+pub fn fits_byte(digits: &[u8], byte: u8) -> bool
     ensures value { result ≡ fits_byte digits.now byte }
     ensures long { IsTrue result → 2 ≤ length digits.now }
 {

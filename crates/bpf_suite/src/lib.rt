@@ -4,6 +4,7 @@
 mod bench;
 mod body;
 mod cells;
+mod contexts;
 mod cover;
 mod ending;
 mod expected;

@@ -8,6 +8,7 @@ ghost use Rattle.bpf_suite.specs.Tests.{setting};
 ghost use Rattle.bpf_suite.specs.Verdicts.{passes, wrong_cells};
 
 use crate::bench::{Bench, shares_program};
+use crate::contexts::put_context;
 use crate::kind::Part;
 use crate::list::{Own, TestList};
 use crate::outcome::put_outcome;
@@ -281,7 +282,8 @@ fn verdict_word(passed: bool) -> &'static [u8]
     if passed { b"ok " } else { b"not ok " }
 }
 
-/// Writes what came of a test, what was wanted, which cells are wrong, and how it is debugged.
+/// Writes what came of a test, what was wanted, which byte and cells are wrong, and how it is
+/// debugged.
 fn put_diagnosis<W: Write>(
     writer: &mut Counted<W>,
     so_far: Result<(), WriteFault>,
@@ -305,7 +307,8 @@ fn put_diagnosis<W: Write>(
     let told = put_outcome(writer, begun, outcome);
     let followed = put(writer, told, b"\n# wanted: ");
     let said = put_wanted(writer, followed, test);
-    let celled = put_cells(writer, said, outcome, wrong);
+    let left = put_context(writer, said, test, outcome);
+    let celled = put_cells(writer, left, outcome, wrong);
     put_show_line(writer, celled, file, sections.title())
 }
 

@@ -20,7 +20,7 @@ use std::alloc::{AllocError, Global};
 use std::io::Write;
 
 /// The address of the context's first byte.
-const CONTEXT_BASE: u64 = 0x1_0000_0000;
+pub const CONTEXT_BASE: u64 = 0x1_0000_0000;
 
 /// Whether a test passes with this outcome, where it is known which cells are wrong.
 pub fn passes(
