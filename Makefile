@@ -1,6 +1,6 @@
-# bpfdb: try, run, check, test, wrong-bodies, dist, install, uninstall, pages and fmt. The toolchain's command is rt; docs/WORKING.md lists what
+# bpfdb: try, run, check, test, wasm, wrong-bodies, dist, install, uninstall, pages and fmt. The toolchain's command is rt; docs/WORKING.md lists what
 # else is called.
-.PHONY: try run check test wrong-bodies dist install uninstall files pages fmt
+.PHONY: try run check test wasm wrong-bodies dist install uninstall files pages fmt
 
 PREFIX = /usr/local
 DESTDIR =
@@ -8,7 +8,7 @@ BIN = $(PREFIX)/bin
 MAN = $(PREFIX)/share/man/man1
 SHARE = $(PREFIX)/share/bpfdb
 DOC = $(PREFIX)/share/doc/bpfdb
-PAGES = COMMANDS LISTING MACHINE JOURNAL GDB EDITORS PAGE CONTEXTS XDP LINUX TESTS HEADLINE PROMISES PERFORMANCE
+PAGES = COMMANDS LISTING MACHINE JOURNAL GDB EDITORS PAGE WASM CONTEXTS XDP LINUX TESTS HEADLINE PROMISES PERFORMANCE
 
 # The programs whose command lines shells complete.
 COMPLETED = bpfdb bpfdb-shell bpfdb-page bpfdb-dap bpfdb-context
@@ -30,6 +30,10 @@ check:
 # program from outside.
 test:
 	@sh tests/gate.sh
+
+# bpfdb as WebAssembly, in out/wasm: bpfdb.wasm, bpfdb.mjs for node, and bpfdb.html, a page.
+wasm:
+	@sh tests/wasm.sh
 
 # Tries each wrong body of crates/*/must-fail and crates/*/wrong-bodies, or those of CRATES.
 wrong-bodies:

@@ -3,12 +3,15 @@
 # that it is made of, as after rt ci. It is rt ci that proves, over a copy that has only the crates below the program, without wrong bodies:
 # where the toolchain keeps what rt ci proved on this machine, that is taken over. Over one's own checks `rt run` in the crate's folder is
 # quicker. A line says which crate is proved, and how many are left.
+# With words MODULE and VERDICT it also keeps the program's module of LLVM, and the line that says that it is proved (tests/module.py): bpfdb itself is proved once
+# more for that.
 set -u
 cd "$(dirname "$0")/.." || exit 1
 . tests/machine.sh
 crate=bpfdb
 program=crates/$crate/out/$crate
 crates=$(below "$crate")
+module=${1:-} verdict=${2:-}
 
 # sources: the files that the program is made of, those of the crates' folders out, must-fail and wrong-bodies left out.
 sources() {
@@ -17,7 +20,12 @@ sources() {
     done
 }
 
-if [ -x "$program" ] && [ -z "$(sources | xargs -I FILE find FILE -newer "$program")" ]; then
+# is_new FILE: it stands there, and no source is newer.
+is_new() {
+    [ -e "$1" ] && [ -z "$(sources | xargs -I FILE find FILE -newer "$1")" ]
+}
+
+if is_new "$program" && { [ -z "$module" ] || { is_new "$module" && [ -e "$verdict" ]; }; }; then
     exit 0
 fi
 command -v rt > /dev/null || { echo "FAILED: there is no 'rt', the command of the Rattle toolchain (README.md says where it comes from)." >&2; exit 1; }
@@ -66,3 +74,8 @@ if [ "$(cat "$logs/status")" != 0 ]; then
     exit 1
 fi
 mkdir -p "crates/$crate/out" && cp "$copy/$program" "$program.new" && mv "$program.new" "$program"
+if [ -n "$module" ]; then
+    rm -f "$module" "$verdict"
+    echo "Proving $crate once more, for its module."
+    python3 tests/module.py "$copy/crates/$crate" "$module" "$verdict" > "$logs/module" || { cat "$logs/module"; echo "FAILED: there is no module of $crate."; exit 1; }
+fi

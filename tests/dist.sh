@@ -1,6 +1,6 @@
 #!/bin/sh
 # `make dist`: what is handed on of a built program, in the folder out/dist (or the one that is named): an archive, a Debian package where there is
-# dpkg-deb, and their SHA256SUMS. In it are the program, its shell, the tools for gdb, for contexts and for pages, man pages, the pages for users, the examples, the
+# dpkg-deb, bpfdb as WebAssembly where `make wasm` has made it of these sources, and their SHA256SUMS. In it are the program, its shell, the tools for gdb, for contexts and for pages, man pages, the pages for users, the examples, the
 # license, the changelog, in the archive a README at its top, and a file BUILD with the commit and the last line of the gate, which `make test` leaves in out/passed. A tree
 # that differs from its commit, or whose commit the gate hasn't passed, gives none. The same commit gives the same bytes, under any umask.
 set -u
@@ -115,6 +115,11 @@ if command -v dpkg-deb > /dev/null; then
 else
     echo 'There is no dpkg-deb here, so no Debian package is made.'
 fi
-(cd "$to" && sha256sum bpfdb[-_]* > SHA256SUMS)
+if [ -z "$(find crates share/wasm CHANGELOG.md examples -newer out/wasm/bpfdb.html -type f ! -path '*/out/*' 2>&1)" ]; then
+    cp out/wasm/bpfdb.wasm out/wasm/bpfdb.mjs out/wasm/bpfdb.html "$to" || exit 1
+else
+    echo 'There is no bpfdb for browsers and node, or an older one, so none is handed on: make wasm'
+fi
+(cd "$to" && sha256sum bpfdb* > SHA256SUMS)
 echo "In $to, of commit $commit:"
 cat "$to/SHA256SUMS"
