@@ -11,7 +11,7 @@ mkdir -p "$to" || exit 1
 # about: what the module says of itself.
 about() {
     echo "$version"
-    echo "$(cat "$verdict")"
+    cat "$verdict"
     cat << 'ABOUT'
 
 Proved: the program in Rattle, as the line above says, by the contracts that docs/PROMISES.md tells. It is the same proof as for the program for Linux.

@@ -77,7 +77,6 @@ def for_node():
     line, _, own = text(HERE, 'node.mjs').partition('\n')
     exported = re.findall(r'^export (?:async )?function (\w+)', own, re.MULTILINE)
     script = without_exports(bundle('node.mjs')).replace(line + '\n', '', 1)
-    # (what is imported of node stands first)
     return f'{line}\n{script}\nexport {{ {", ".join(exported)} }};\n'
 
 

@@ -12,9 +12,9 @@ export const ERRORS = { EPERM: 1, ENOENT: 2, EIO: 5, ENXIO: 6, EBADF: 9, EAGAIN:
   ENFILE: 23, EMFILE: 24, EFBIG: 27, ENOSPC: 28, EROFS: 30, EPIPE: 32, ENAMETOOLONG: 36, ELOOP: 40 };
 
 // Memory comes in pages. The module begins with the fewest, and has room for no more than the most.
-export const PAGE = 65536;
+const PAGE = 65536;
 const FEWEST_PAGES = 64, MOST_PAGES = 32768;
-export const LEAST_MEMORY = FEWEST_PAGES * PAGE, MOST_MEMORY = MOST_PAGES * PAGE;
+export const MOST_MEMORY = MOST_PAGES * PAGE;
 // The status of a run that the engine itself ended, as a shell tells it of a program that aborted. No input is known that comes to this.
 const ABORTED = 134;
 
@@ -26,7 +26,7 @@ export function canWait() {
 /** Runs the module once, over a host and with no more memory than these bytes. Answers the status, or a promise of it where the run waits. */
 export function start(module, host, mostMemory = MOST_MEMORY, waits = false) {
   const maximum = Math.min(Math.floor(mostMemory / PAGE), MOST_PAGES);
-  if (!(maximum >= FEWEST_PAGES)) throw new RangeError(`bpfdb needs ${LEAST_MEMORY} bytes of memory at least`);
+  if (!(maximum >= FEWEST_PAGES)) throw new RangeError(`bpfdb needs ${FEWEST_PAGES * PAGE} bytes of memory at least`);
   const memory = new WebAssembly.Memory({ initial: FEWEST_PAGES, maximum });
   const instance = new WebAssembly.Instance(module, { host: functions(memory, host, waits), env: { memory } });
   if (waits) return WebAssembly.promising(instance.exports.run)().catch(aborted);

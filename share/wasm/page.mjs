@@ -171,29 +171,32 @@ class Shown {
 /** A run: its words, where its output goes, and the lines that it was given. Where the engine can't wait for a line, a run that wants one is begun anew with all lines. */
 class Run {
   constructor(line, words, to) {
-    Object.assign(this, { words, to, lines: [], waits: canWait(), seen: [0, 0, 0] });
+    Object.assign(this, { words, to, lines: [], typed: [], waits: canWait(), seen: [0, 0, 0] });
     this.shown = new Shown(line);
     this.start();
   }
 
   start() {
+    this.worker?.terminate();
     this.told = [0, 0, 0];
-    this.asked = false;
+    this.asked = this.wanted = false;
     this.began = performance.now();
     const address = URL.createObjectURL(new Blob([kept.worker], { type: "text/javascript" }));
-    this.worker = new Worker(address);
-    this.worker.onmessage = ({ data }) => this.hear(data);
-    this.worker.onerror = (event) => this.end(`the thread ended: ${event.message}`);
-    const { words, lines, waits } = this;
-    this.worker.postMessage({ run: { module, words, files: [...files], lines, waits, memory: MEMORY, room: ROOM } });
+    const worker = new Worker(address), { words, lines, waits } = this;
+    // (what one said that was begun anew since is old)
+    worker.onmessage = ({ data }) => worker === this.worker && this.hear(data);
+    worker.onerror = (event) => worker === this.worker && this.end(`the thread ended: ${event.message}`);
+    this.worker = worker;
+    worker.postMessage({ run: { module, words, files: [...files], lines, waits, memory: MEMORY, room: ROOM } });
     URL.revokeObjectURL(address);
   }
 
   hear({ file, bytes, asks, status }) {
     if (bytes) this.write(file, bytes);
-    if (asks) this.ask();
+    if (asks) this.wanted = true;
+    if (asks && this.waits) this.ask();
     if (status === undefined) return;
-    if (this.asked && !this.waits && !this.closed) this.rest();
+    if (this.wanted && !this.waits && !this.closed) this.rest();
     else this.end(status ? `status ${status}` : "", status);
   }
 
@@ -205,23 +208,32 @@ class Run {
     if (known < bytes.length) this.shown.write(file, bytes.subarray(known), file === 2 || this.to === undefined);
   }
 
+  // Standard input is wanted: a line that was typed before that is given now.
   ask() {
     this.asked = true;
-    if (!this.closed) setPrompt(true);
+    if (this.typed.length) this.give(this.typed.shift());
+    else if (!this.closed) setPrompt(true, !this.isOpen);
+    this.isOpen = true;
   }
 
   // A session that isn't waiting, but would go on with another line.
   rest() {
-    this.worker.terminate();
     const took = performance.now() - this.began;
     if (took > SLOW) this.shown.add(`this browser can't let a run wait, so each line runs the session anew: ${Math.round(took / 1000)} s\n`, "told");
+    this.ask();
   }
 
   // A line of standard input, or its end.
   feed(line) {
+    if (this.asked) this.give(line);
+    else this.typed.push(line);
+  }
+
+  give(line) {
+    this.asked = false;
     this.closed = line === null;
-    if (line !== null) this.shown.add(`> ${line}\n`, "typed");
-    const bytes = line === null ? null : encoder.encode(`${line}\n`);
+    if (!this.closed) this.shown.add(`> ${line}\n`, "typed");
+    const bytes = this.closed ? null : encoder.encode(`${line}\n`);
     if (this.waits) return this.worker.postMessage({ line: bytes });
     if (bytes) this.lines.push(bytes);
     this.start();
@@ -233,6 +245,7 @@ class Run {
 
   end(told, status) {
     this.worker.terminate();
+    this.worker = undefined;
     if (told) this.shown.add(`(${told})\n`, "told");
     if (this.to !== undefined && status === 0) {
       keep(this.to, this.shown.whole());
@@ -263,11 +276,11 @@ function begin(line, offers = []) {
   at("output").scrollIntoView({ block: "nearest" });
 }
 
-function setPrompt(isOpen) {
+function setPrompt(isOpen, takesFocus = false) {
   const line = at("line");
   for (const id of ["line", "send", "end"]) at(id).disabled = !isOpen;
   line.placeholder = isOpen ? "a command, as continue or reverse-stepi" : "no session is open";
-  if (isOpen && (document.activeElement === document.body || document.activeElement === at("words"))) line.focus();
+  if (takesFocus) line.focus();
   if (!isOpen) at("offered").replaceChildren();
 }
 
@@ -330,7 +343,7 @@ function listen() {
   at("stop").onclick = () => present?.stop();
   at("words").oninput = showSubcommands;
   for (const id of ["words", "line"]) at(id).onkeydown = (event) => recall(id, event);
-  document.onkeydown = (event) => event.key === "Escape" && present?.stop();
+  document.addEventListener("keydown", (event) => event.key === "Escape" && present?.stop());
   at("chosen").onchange = () => take([...at("chosen").files]);
   document.ondragover = (event) => (event.preventDefault(), document.body.classList.add("dropping"));
   document.ondragleave = () => document.body.classList.remove("dropping");

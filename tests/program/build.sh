@@ -72,6 +72,53 @@ compare 'make run: a crate that is not proved'
 grep -q -x 'not proved, for the test' told || complain "make run doesn't show what the prover said"
 [ ! -e copy/crates/bpfdb/out/bpfdb ] || complain 'make run builds a program that is not proved'
 
+# The module for `make wasm` is what the toolchain hands to its clang, and is kept just where its last line says that the crate is proved, over nothing that was kept
+# before. (A toolchain in its place tells $VERDICT and $STATUS.)
+mkdir -p kit/bin kit/toolchain/bin kit/toolchain/lib
+touch kit/page kit/toolchain/bin/clang kit/toolchain/bin/ld.lld
+cat > kit/bin/rtlib.py <<'LIBRARY'
+import os
+KIT = os.path.dirname(os.path.dirname(os.path.realpath(__file__)))
+RATTLE = f'{KIT}/bin/rattle'
+
+
+def root_above(folder):
+    return folder
+
+
+class Crate:
+    def __init__(self, folder, root, known):
+        self.folder = folder
+
+    def words(self, flags, keeps):
+        return ['--crate-name', 'bpfdb'] if not keeps else []
+LIBRARY
+cat > kit/bin/rattle <<'RATTLE'
+#!/bin/sh
+[ "$1 $2 $3 $4 $6" = 'build --crate-name bpfdb --toolchain -o' ] || exit 2
+cd "$(dirname "$7")" && echo 'a module' > module.bc && "$5/bin/clang" -c -x ir module.bc -o "$7" && echo "$VERDICT"
+exit "$STATUS"
+RATTLE
+sed 's/^\[ "\$\*" = ci \] || exit 2$/[ "$*" != doc ] || { echo "$KIT\/page"; exit; }/' bin/rt > rt && cat rt > bin/rt && chmod 755 kit/bin/rattle
+if has python3 'the module of bpfdb'; then
+    cp "$top/tests/module.py" copy/tests
+    words='logic=proved functions=3 target=x sum=0 native=nat,char,string logic-built=trusted libraries-built=trusted statements=trusted'
+    for row in "0|0|$words" "1|0|$words incremental=trusted" "1|0|logic=open functions=3" "1|1|$words"; do
+        rm -rf copy/crates/bpfdb/out copy/module copy/verdict
+        rest=${row#*|}
+        (
+            cd copy && STATUS=${rest%%|*} VERDICT=${rest#*|} KIT=$work/build/kit ORDER=$work/build/order WRONG='' PATH=$work/build/bin:$PATH \
+                sh tests/build.sh module verdict
+        ) > told 2> found/err
+        echo $? > found/status
+        cat copy/module copy/verdict > found/out 2> /dev/null
+        if [ "${row%%|*}" = 0 ]; then printf 'a module\n%s\n' "$words"; elif [ "${rest#*|}" = "$words" ]; then echo 'a module'; fi > wanted/out
+        echo "${row%%|*}" > wanted/status
+        : > wanted/err
+        compare "the module, where the toolchain says: ${rest#*|}, ${rest%%|*}"
+    done
+fi
+
 # make check, where there is no program, or not the one that BPFDB names.
 cp "$top/tests/check.sh" copy/tests
 for row in "There is no program to test. \`make run\` proves and builds one; make check BPFDB=PROGRAM tests another, as one from an archive of \`make dist\`.|" \

@@ -61,6 +61,16 @@ else
     dist "$PWD/made"
     [ "$(cat found/status)" = 0 ] || { complain 'make dist'; cat told found/err; }
     handed_on
+    # bpfdb as WebAssembly goes with it, where it is newer than what it is made of.
+    mkdir -p copy/out/wasm
+    for name in wasm mjs html; do echo "$name" > "copy/out/wasm/bpfdb.$name"; done
+    for row in 'bpfdb.html bpfdb.mjs bpfdb.wasm |share/page/page.js' '|share/wasm/heap.c'; do
+        touch "copy/${row#*|}"
+        dist "$PWD/made"
+        sed -n 's/.*  \(bpfdb\.[a-z]*\)$/\1/p' made/SHA256SUMS | tr '\n' ' ' > found/out
+        echo 0 > found/status
+        check "make dist: bpfdb as WebAssembly, with ${row#*|} changed since" 0 "${row%|*}" ''
+    done
     for mask in 077 002; do
         dist "$PWD/again" "$mask"
         same "make dist under umask $mask" made/SHA256SUMS again/SHA256SUMS

@@ -36,6 +36,14 @@ same("where the address came from", `0|fault access 0x10077656d at 25
 cut: there are more lines
 |`.replace("0|", "1|"), await told(["origin", "--lines", "3", "-m", "context.bin", "overrun.bin"], { files: overrun }));
 
+// And the other one: the packet that passes, and why one of IPv6 does not come to a line of C.
+const hex = (name) => new Uint8Array(Buffer.from(fs.readFileSync(`${examples}/${name}`, "latin1").replace(/\s/g, ""), "hex"));
+const firewall = { "firewall.bin": file("firewall/program.bin"), "context.bin": file("firewall/context.bin"), "ipv6.bin": file("firewall/ipv6.bin"),
+  "firewall.o": hex("firewall/object.hex") };
+same("a packet that should be dropped", "0|0x2\n|", await told(["run", "--maps", "8x5", "-m", "context.bin", "firewall.bin"], { files: firewall }));
+same("why not", "0|exited at 12: r0 0x2\n-14 31: jne r5, 8, L52; r5 = 0xdd86; jumped to 52; in firewall (firewall.c:47)\n|", await told(
+  ["whynot", "--alone", "--object", "--section", "xdp", "--entry", "bpfdb", "-m", "ipv6.bin", "firewall.o", "firewall.c:54"], { files: firewall }));
+
 // 64 bits, to their last one.
 const large = { "large.s": "lddw r0, 0xfedcba9876543210\nlddw r1, 0x8000000000000003\nmul r0, r1\nexit\n" };
 same("a product of 64 bits", "0|0xfc962fc962fc9630\n|", await told(["run", "--listing", "large.s"], { files: large }));

@@ -9,8 +9,10 @@ import sys
 import tempfile
 
 sys.path.insert(0, os.path.dirname(os.path.realpath(__file__)))
-from browser import Browser
+import browser
 
+# (the page compiles a module first)
+browser.PATIENCE = 300
 BPFDB = os.environ['BPFDB']
 # A text's contrast with what is behind it, the least of all texts that are shown, and where that is.
 CONTRAST = '''(() => {
@@ -42,7 +44,7 @@ class Trials:
             print(f'FAILED: {what}\n  wanted: {wanted!r}\n  found:  {found!r}')
 
 
-class Page(Browser):
+class Page(browser.Browser):
     """The page, and what a user does there."""
 
     def text(self, id_):
