@@ -77,5 +77,10 @@ mkdir -p "crates/$crate/out" && cp "$copy/$program" "$program.new" && mv "$progr
 if [ -n "$module" ]; then
     rm -f "$module" "$verdict"
     echo "Proving $crate once more, for its module."
-    python3 tests/module.py "$copy/crates/$crate" "$module" "$verdict" > "$logs/module" || { cat "$logs/module"; echo "FAILED: there is no module of $crate."; exit 1; }
+    if ! python3 tests/module.py "$copy/crates/$crate" "$module" "$verdict" > "$logs/module" 2>&1; then
+        rm -f "$module"
+        cat "$logs/module"
+        echo "FAILED: there is no module of $crate."
+        exit 1
+    fi
 fi

@@ -60,11 +60,13 @@ def in_memory(kind):
 
 
 def typed(text):
-    """The type at the beginning of an operand, and its value."""
-    found = re.match(r'\{[^{}]*\} |\S+ ', text)
-    if not found:
-        raise NotKnown
-    return found[0].strip(), text[found.end():]
+    """The type at the beginning of an operand, and its value: the first blank that isn't within brackets parts them."""
+    depth = 0
+    for at, each in enumerate(text):
+        depth += (each in OPENS) - (each in CLOSES)
+        if each == ' ' and depth == 0:
+            return text[:at], text[at + 1:]
+    raise NotKnown
 
 
 class Module:
