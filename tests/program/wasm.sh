@@ -51,7 +51,7 @@ LINES
 serve() {
     mkdir asked && mkfifo asked/asked || exit 1
     node "$top/tests/trials/wasm.mjs" "$wasm/bpfdb.mjs" "$PWD/asked" > served 2>&1 &
-    started="$started $!"
+    started=$!
     # (it reads the words, the folder and the streams of this process, so these are never others than they were)
     cat > bpfdb <<SERVED
 #!/bin/sh
@@ -139,6 +139,8 @@ if has node 'bpfdb as WebAssembly' && has python3 'bpfdb as WebAssembly'; then
             rows_of "$part"
         done
         echo end > asked/asked
+        wait "$started"
+        started=''
         if has chromium 'the page of bpfdb as WebAssembly'; then
             BPFDB=$program python3 "$top/tests/trials/wasm-pages.py" "$wasm/bpfdb.html" "$top" > told-page 2>&1
             total told-page
