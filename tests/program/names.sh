@@ -73,14 +73,14 @@ for compiler in $compilers; do
     [ "$(sed -n '2p' found/out)" = '-1 0x300000104:4 = 0xf; edit; in classes[3].limits[1].rate' ] || complain "an edit: $(cat found/out found/err)"
     "$program" origin --json --object places.o "$(printf '0x%x:4' $((0x300000000 + 260)))" > found/out 2> found/err
     grep -q '^{"kind":"move",.*,"from":\["r4"\],"initial":"slow\.rate","parts":\[{"part":"0x[0-9a-f]*:8","value":"0x3"}\]}$' found/out || complain "an initial value as JSON: $(cat found/out)"
-    # The shell asks with the object; where maps are given it has no names.
+    # The shell asks with the object, and says where a line stands in C; where maps are given it has no names.
     if command -v python3 > /dev/null; then
         count=$((count + 2))
         printf 'continue\norigin 0x300000104:4\n' | BPFDB=$program python3 "$top/share/bpfdb-shell" places.o > found/out 2> found/err
-        grep -q '^-[0-9]* 0x300000104:4 = 0xf; .*; in classes\[3\]\.limits\[1\]\.rate$' found/out || complain "the shell: $(cat found/out found/err)"
+        grep -q '^-[0-9]* 0x300000104:4 = 0xf; .*; in classes\[3\]\.limits\[1\]\.rate (places\.c:81)$' found/out || complain "the shell: $(cat found/out found/err)"
         # shellcheck disable=SC2046
         printf 'continue\norigin 0x300000104:4\n' | BPFDB=$program python3 "$top/share/bpfdb-shell" $(sed -n '1p' told) places.o > found/out 2> found/err
-        grep -q '^-[0-9]* 0x300000104:4 = 0xf; [^;]*; from r[0-9]$' found/out || complain "the shell with maps: $(cat found/out found/err)"
+        grep -q '^-[0-9]* 0x300000104:4 = 0xf; [^;]*; from r[0-9] (places\.c:81)$' found/out || complain "the shell with maps: $(cat found/out found/err)"
     fi
     # `whynot` tells them of what a branch compared, and so does the shell, with the places of branches.
     "$compiler" -g -O2 -target bpf -c "$parts/names/branch.c" -o branch.o 2> found/err || complain "branch.c: $(cat found/err)"
@@ -97,7 +97,7 @@ for compiler in $compilers; do
         count=$((count + 2))
         printf 'continue\nwhynot branch.c:8\n' | BPFDB=$program python3 "$top/share/bpfdb-shell" branch.o > found/out 2> found/err
         grep -q "$branch" found/out || complain "the branch in the shell: $(cat found/out found/err)"
-        grep -q '; in mode$' found/out || complain "what it compared, in the shell: $(cat found/out)"
+        grep -q '; in mode (branch\.c:13)$' found/out || complain "what it compared, in the shell: $(cat found/out)"
     fi
     # So does `diff`, of the values in which two runs differ, of each run; without BTF by symbols. BTF that `link` refuses is refused as by `origin`.
     "$compiler" -g -O2 -target bpf -c "$parts/names/parted.c" -o parted.o 2> found/err || complain "parted.c: $(cat found/err)"
