@@ -11,12 +11,12 @@ SHELLS = (('os', 'system'), ('os', 'popen'), ('subprocess', 'getoutput'), ('subp
 
 
 def scripts():
-    """Each file of Python: those of the package, and programs, whose first line, or whose name, says so."""
+    """Each file of Python: those whose name says so, and programs that begin with its name. (What is named *.sh is a shell's.)"""
     for folder, _, names in os.walk(SHARE):
         for name in sorted(names):
             path = os.path.join(folder, name)
             with open(path, 'rb') as file:
-                if name.endswith('.py') or b'python3' in file.read(4096):
+                if name.endswith('.py') or not name.endswith('.sh') and b'python3' in file.read(4096):
                     yield path
 
 
