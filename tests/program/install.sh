@@ -60,6 +60,7 @@ else
 644 share/doc/bpfdb/PROMISES.md
 644 share/doc/bpfdb/README.md
 644 share/doc/bpfdb/TESTS.md
+644 share/doc/bpfdb/WASM.md
 644 share/doc/bpfdb/XDP.md
 644 share/doc/bpfdb/page-firewall.png
 644 share/doc/bpfdb/page-overrun.png
