@@ -6,6 +6,7 @@ pub mod Faults
 pub mod Names
 pub mod Uses
 pub mod Tables
+pub mod Least
 pub mod Rewriting
 pub mod Entry
 pub mod Packets

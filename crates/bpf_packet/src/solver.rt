@@ -1,10 +1,15 @@
-//! Finds a table of what places hold. Nothing is promised of it: `is_right` looks at it afterwards.
-ghost use Rattle.std.specs.Prelude.{◌≡◌, ◌≤◌, ◌<◌, ◌+◌, ◌*◌, ◌/◌, length};
+//! Finds the least table of what places hold. Whether it is right `is_right` sees afterwards.
+ghost use Rattle.std.specs.Prelude.{◌≡◌, ◌≤◌, ◌<◌, ◌+◌, ◌*◌, ℕ, IfOk, List, true, length};
+ghost use Rattle.bpf_packet.specs.Flow.{after, at_entry, entering};
+ghost use Rattle.bpf_packet.specs.Holding.{held_in};
+ghost use Rattle.bpf_packet.specs.Least.{AllReach, IsLeast, StateReaches, plain, reaches};
 ghost use Rattle.bpf_packet.specs.Slots.{slots_in};
+ghost use Rattle.bpf_packet.specs.declared.held.Held.{Held as Holding};
 
 use crate::flow::{after, at_entry, entering};
-use crate::held::{Held, covers, held_in, is_frame, most_places};
+use crate::held::{Held, covers, is_frame, state_of};
 use crate::slot::{Slot, goes_on, jumps, slot_at, target_of};
+use crate::tables::is_reached;
 use std::alloc::{AllocError, Global};
 
 /// A table that isn't finished, and the slots whose states have risen since they were looked at.
@@ -15,7 +20,9 @@ struct Draft {
 }
 
 /// An address of the frame that lies here or before: one of 16, so that a loop that goes down rises seldom.
-fn lowered(held: Held) -> Held {
+fn lowered(held: Held) -> Held
+    ensures { plain result ≡ plain held }
+{
     match held {
         Held::Frame(at) => {
             if at < 64 {
@@ -28,7 +35,10 @@ fn lowered(held: Held) -> Held {
 }
 
 /// What covers both: the least, but for an address of the frame that lies before the other one.
-fn join(a: Held, b: Held) -> Held {
+#[tactic(auto, unfolding(crate::specs::Least::reaches))]
+fn join(a: Held, b: Held) -> Held
+    ensures { (other : Holding) → reaches other a ≡ true → reaches other b ≡ true → reaches other result ≡ true }
+{
     if covers(a, b) {
         return a;
     }
@@ -41,102 +51,180 @@ fn join(a: Held, b: Held) -> Held {
     Held::Either
 }
 
+/// A place of a table raised by what is given for it, and whether it rose.
+fn raise_place(table: &mut [Held], at: usize, given: Held) -> bool
+    requires { at < length table.old }
+    ensures { (other : List Holding) → AllReach other table.old → reaches (held_in other at) given ≡ true
+        → AllReach other table.new }
+{
+    let now = table[at];
+    if covers(now, given) {
+        return false;
+    }
+    table[at] = join(now, given);
+    true
+}
+
 /// A table with a state raised by what is given for its places, and whether it rose.
-fn raise(table: &mut [Held], p: usize, given: &[Held]) -> bool {
+fn raise(table: &mut [Held], p: usize, given: &[Held]) -> bool
+    requires inside { 75 * p + 75 ≤ length table.old }
+    requires size { length given.now ≡ 75 }
+    ensures { (other : List Holding) → AllReach other table.old → StateReaches other p given.now
+        → AllReach other table.new }
+{
     let mut rose = false;
-    for place in 0..most_places() {
-        let at = p.saturating_mul(75).saturating_add(place);
-        if at < table.len() && place < given.len() {
-            let now = table[at];
-            if !covers(now, given[place]) {
-                table[at] = join(now, given[place]);
-                rose = true;
-            }
-        }
+    for place in 0..75 {
+        rose = raise_place(table, 75 * p + place, given[place]) || rose;
     }
     rose
 }
 
-/// A draft with a state raised; the slot counts as risen if it is.
-fn raised(draft: Draft, p: usize, given: &[Held]) -> Result<Draft, AllocError> {
+/// A draft with a state raised, if there is such a slot, which counts as risen if it is.
+fn raised(draft: Draft, p: usize, given: &[Held]) -> Result<Draft, AllocError>
+    requires { length given.now ≡ 75 }
+    ensures size { IfOk result (λ new. length new.table.items ≡ length draft.table.items) }
+    ensures least { IfOk result (λ new. (other : List Holding) → AllReach other draft.table.items
+        → StateReaches other p given.now → AllReach other new.table.items) }
+{
     let mut draft = draft;
-    if raise(&mut draft.table, p, given) {
-        draft.risen.push(p)?;
+    if p >= draft.table.len() / 75 {
+        return Ok(draft);
     }
+    if !raise(&mut draft.table, p, given) {
+        return Ok(draft);
+    }
+    draft.risen.push(p)?;
     Ok(draft)
 }
 
 /// What an instruction leaves for the slot after it.
-fn left(slot: &Slot, state: &[Held]) -> [Held; 75] {
+fn left(slot: &Slot, state: &[Held]) -> [Held; 75]
+    ensures size { length result ≡ 75 }
+    ensures value { (place : ℕ) → place < 75 → held_in result place ≡ after slot.now state.now place }
+{
     let mut given = [Held::Nothing; 75];
-    for place in 0..given.len() {
+    for place in 0..75 {
         given[place] = after(slot, state, place);
     }
     given
 }
 
 /// What it leaves where it jumps.
-fn taken(slot: &Slot, state: &[Held]) -> [Held; 75] {
+fn taken(slot: &Slot, state: &[Held]) -> [Held; 75]
+    ensures size { length result ≡ 75 }
+    ensures value { (place : ℕ) → place < 75 → held_in result place ≡ entering slot.now state.now place }
+{
     let mut given = [Held::Nothing; 75];
-    for place in 0..given.len() {
+    for place in 0..75 {
         given[place] = entering(slot, state, place);
     }
     given
 }
 
 /// What is at the entry.
-fn first() -> [Held; 75] {
+fn first() -> [Held; 75]
+    ensures size { length result ≡ 75 }
+    ensures value { (place : ℕ) → place < 75 → held_in result place ≡ at_entry place }
+{
     let mut given = [Held::Nothing; 75];
-    for place in 0..given.len() {
+    for place in 0..75 {
         given[place] = at_entry(place);
     }
     given
 }
 
-/// The state of a slot in a table.
-fn copied(table: &[Held], p: usize) -> [Held; 75] {
-    let mut state = [Held::Nothing; 75];
-    for place in 0..state.len() {
-        state[place] = held_in(table, p.saturating_mul(75).saturating_add(place));
+/// A draft in which a slot that is come to has passed on what it leaves to the slot after it.
+fn passed_on(words: &[u8], p: usize, draft: Draft) -> Result<Draft, AllocError>
+    requires inside { p < slots_in words.now }
+    requires size { length draft.table.items ≡ 75 * slots_in words.now }
+    ensures size { IfOk result (λ new. length new.table.items ≡ length draft.table.items) }
+    ensures least { IfOk result (λ new. IsLeast words.now draft.table.items → IsLeast words.now new.table.items) }
+{
+    let slot = slot_at(words, p);
+    let state = state_of(&draft.table, p);
+    if !is_reached(state) || !goes_on(&slot) {
+        return Ok(draft);
     }
-    state
+    let given = left(&slot, state);
+    match raised(draft, p + 1, &given) {
+        Ok(new) => Ok(new),
+        Err(fault) => Err(fault),
+    }
+}
+
+/// A draft in which it has where it jumps.
+fn passed_over(words: &[u8], p: usize, draft: Draft) -> Result<Draft, AllocError>
+    requires inside { p < slots_in words.now }
+    requires short { p < 4294967296 }
+    requires size { length draft.table.items ≡ 75 * slots_in words.now }
+    ensures size { IfOk result (λ new. length new.table.items ≡ length draft.table.items) }
+    ensures least { IfOk result (λ new. IsLeast words.now draft.table.items → IsLeast words.now new.table.items) }
+{
+    let slot = slot_at(words, p);
+    let state = state_of(&draft.table, p);
+    if !is_reached(state) || !jumps(&slot) {
+        return Ok(draft);
+    }
+    let given = taken(&slot, state);
+    match raised(draft, target_of(p, &slot), &given) {
+        Ok(new) => Ok(new),
+        Err(fault) => Err(fault),
+    }
 }
 
 /// A draft in which a slot has passed on what it leaves.
 fn passed(words: &[u8], p: usize, draft: Draft) -> Result<Draft, AllocError>
     requires inside { p < slots_in words.now }
     requires short { p < 4294967296 }
+    requires size { length draft.table.items ≡ 75 * slots_in words.now }
+    ensures size { IfOk result (λ new. length new.table.items ≡ length draft.table.items) }
+    ensures least { IfOk result (λ new. IsLeast words.now draft.table.items → IsLeast words.now new.table.items) }
 {
-    let slot = slot_at(words, p);
-    let state = copied(&draft.table, p);
-    let mut draft = draft;
-    if goes_on(&slot) {
-        draft = raised(draft, p + 1, &left(&slot, &state))?;
+    match passed_on(words, p, draft) {
+        Ok(next) => passed_over(words, p, next),
+        Err(fault) => Err(fault),
     }
-    if jumps(&slot) {
-        draft = raised(draft, target_of(p, &slot), &taken(&slot, &state))?;
+}
+
+/// A table in which nothing is known.
+fn unknown(alloc: Global, slots: usize) -> Result<Vec<Held>, AllocError>
+    requires { slots ≤ 4294967296 }
+    ensures size { IfOk result (λ table. length table.items ≡ 75 * slots) }
+    ensures nothing { IfOk result (λ table. (other : List Holding) → AllReach other table.items) }
+{
+    match vec![in alloc; Held::Nothing; 75 * slots] {
+        Ok(table) => Ok(table),
+        Err(fault) => Err(fault),
     }
-    Ok(draft)
 }
 
 /// A draft in which nothing is known but what is at the entry.
-fn begun(alloc: Global, slots: usize) -> Result<Draft, AllocError> {
-    let table = vec![in alloc; Held::Nothing; slots.saturating_mul(75)]?;
-    let draft = Draft {
-        table,
-        risen: Vec::new(alloc),
+fn begun(alloc: Global, words: &[u8]) -> Result<Draft, AllocError>
+    requires { slots_in words.now ≤ 4294967296 }
+    ensures size { IfOk result (λ draft. length draft.table.items ≡ 75 * slots_in words.now) }
+    ensures least { IfOk result (λ draft. IsLeast words.now draft.table.items) }
+{
+    let table = match unknown(alloc, words.len() / 8) {
+        Ok(table) => table,
+        Err(fault) => return Err(fault),
     };
-    raised(draft, 0, &first())
+    let risen = Vec::new(alloc);
+    match raised(Draft { table, risen }, 0, &first()) {
+        Ok(draft) => Ok(draft),
+        Err(fault) => Err(fault),
+    }
 }
 
-/// A table for words: the least that is right, unless the words leave themselves.
+/// A table for words: right, unless the words leave themselves, and no table that is right says less,
+/// where an address of the frame counts as any other number.
 ///
 /// A state rises at most 20 times a place, so the rounds are at most 1500 a slot.
 pub fn solved(alloc: Global, words: &[u8]) -> Result<Vec<Held>, AllocError>
     requires { slots_in words.now ≤ 4294967296 }
+    ensures { IfOk result (λ table. IsLeast words.now table.items) }
 {
     let slots = words.len() / 8;
-    let mut draft = begun(alloc, slots)?;
+    let mut draft = begun(alloc, words)?;
     for _ in 0..slots.saturating_mul(1500).saturating_add(1) {
         let p = match draft.risen.pop() {
             Some(p) => p,

@@ -1,0 +1,7 @@
+use Rattle.std.proofs.Common.{◌≡◌, ◌<◌, ℕ, length}
+use Rattle.bpf_packet.specs.Flow.{at_entry}
+use Rattle.bpf_packet.specs.Holding.{held_in}
+use Rattle.bpf_packet.proofs.solver.first.Given as goal
+
+abbrev pub invariant-loop-place : goal.invariant-loop-place
+invariant-loop-place l = record { size : length l.given ≡ 75; value : (k : ℕ) → k < l.place → held_in l.given k ≡ at_entry k }
