@@ -97,6 +97,24 @@ head='-- maps\n1x1\n-- listing\nexit\n-- result\n0\n-- cells\n'
 } > many
 awk 'BEGIN { print "1..20000"; for (i = 1; i <= 20000; i++) print "ok " i " - x" }' > wanted/out
 tested 'bpfdb test of 20,000 tests that share 20,000 cells' 0 many
+# What they make of maps is kept for some tables, so tests that have other maps in turn, some of which lack a cell, take no longer.
+{
+    printf -- '-- listing\nexit\n-- result\n0\n-- cells\n'
+    yes '0 0 00' | head -n 20000
+    printf '0 1 00\n'
+    awk 'BEGIN { for (i = 1; i <= 6000; i++) print "-- name\nx\n-- maps\n1x" (i % 3 + 1) }'
+} > many
+(
+    ulimit -t 3
+    failures=0
+    : > script
+    run test many
+    [ "$(cat found/status) $(grep -c '^ok ' found/out) $(grep -c '^# came: refused Q14 at cell 0 1: ' found/out)" = '1 4000 2000' ] ||
+        complain 'bpfdb test of 6,000 tests that share 20,001 cells and have three tables of maps in turn, one of which lacks a cell'
+    exit "$failures"
+)
+failures=$((failures + $?))
+count=$((count + 1))
 # What is wrong of cells is found once for tests in a row that leave the same bytes, whether they pass or fail, in much less time than the
 # lines take for each of them.
 {

@@ -1,6 +1,6 @@
 -- What cells make of maps, as runs of bytes: a machine that is opened and gets these is as one that gets the cells.
 use Rattle.std.specs.Prelude.{ℕ, ◌≡◌, ◌≤◌, ◌-◌, ◌+◌, ◌*◌, ◌==◌, ⊤, if◌then◌else◌, List, [], ◌∷◌, ◌++◌, drop, length, replicate, take, Option, Some, None, Result, Ok, Err}
-use Rattle.std.specs.List.{list_all}
+use Rattle.std.specs.List.{All, list_all}
 use Rattle.std.specs.Option.{option_map_or}
 use Rattle.bpf_isa.specs.Programs.{Checked}
 use Rattle.bpf_isa.specs.declared.maps.MapShape.{MapShape}
@@ -37,6 +37,10 @@ IsImageOf cells image = (maps : List MapShape) → HasMaps image.maps maps → M
 abbrev pub HasImage : List Cell → Option Image → Type 0
 HasImage cells None = ⊤
 HasImage cells (Some image) = IsImageOf cells image
+
+-- Images of the same cells, each for the maps of its text.
+abbrev pub HaveImages : List Cell → List Image → Type 0
+HaveImages cells images = All (IsImageOf cells) images
 
 -- An image for a program of a test: it is what the test's cells make of its maps.
 pub record IsImageFor (t : Setting) (code : Checked) (image : Image) : Type 0 where

@@ -7,7 +7,7 @@ ghost use Rattle.bpf_suite.specs.Benches.{IsReady, Loads, ReasonOf, outcome_by, 
 ghost use Rattle.bpf_suite.specs.Cells.{cell_lines};
 ghost use Rattle.bpf_suite.specs.Covers.{Finds, IsFound, Notes};
 ghost use Rattle.bpf_suite.specs.Faults.{has_part};
-ghost use Rattle.bpf_suite.specs.Images.{HasImage};
+ghost use Rattle.bpf_suite.specs.Images.{HaveImages};
 ghost use Rattle.bpf_suite.specs.Outcomes.{Comes, Reads};
 ghost use Rattle.bpf_suite.specs.Reports.{AreTold};
 ghost use Rattle.bpf_suite.specs.Stocks.{Brings, IsToBring};
@@ -19,7 +19,7 @@ ghost use Rattle.bpf_suite.specs.declared.section.Section.{Section};
 ghost use Rattle.bpf_suite.specs.declared.setting.Setting.{Setting};
 
 use crate::ending::Wanted;
-use crate::image::{Image, image_for};
+use crate::image::{Image, image_for, keep, taken};
 use crate::kind::Part;
 use crate::outcome::{loaded, outcome_by_image, outcome_on};
 use crate::reading::{ReadTest, Reading, place_of};
@@ -46,8 +46,8 @@ pub struct Bench<'b, 'a> {
     stock: Stock,
     /// What is wanted of cells.
     wanted: Wanted<'a>,
-    /// What these cells made of the maps of the last test without cells of its own.
-    image: Option<Image<'a>>,
+    /// What these cells made of the maps of tests without cells of their own.
+    images: Vec<Image<'a>>,
     /// The maps of the test that was run last, where it has some of its own: those of the machine.
     maps: Option<Text<'a>>,
     machine: Result<Cpu, Refusal>,
@@ -63,7 +63,7 @@ impl<'b, 'a> Model for Bench<'b, 'a> {
 
     ghost view = { λ b. record { sections = b.shared; machine = b.machine } };
 
-    ghost invariant = { λ b. IsBench b.shared b.stock b.wanted b.image b.maps b.machine };
+    ghost invariant = { λ b. IsBench b.shared b.stock b.wanted b.images.items b.maps b.machine };
 }
 
 impl<'b, 'a> Bench<'b, 'a> {
@@ -81,7 +81,7 @@ impl<'b, 'a> Bench<'b, 'a> {
             shared: read,
             stock: Stock::of(words),
             wanted: Wanted::of(wanted),
-            image: None,
+            images: Vec::new(alloc),
             maps: None,
             machine,
         })
@@ -231,7 +231,7 @@ impl<'b, 'a> Bench<'b, 'a> {
         bring(alloc, &mut self.machine, stands, &setting, &mut self.stock)?;
         self.maps = maps;
         let shares = gets_shared(own, &self.shared);
-        run_on(alloc, &mut self.machine, &setting, shares, &mut self.image)
+        run_on(alloc, &mut self.machine, &setting, shares, &mut self.images)
     }
 
     /// What a test with a program of its own comes to in at most so many steps.
@@ -248,7 +248,7 @@ impl<'b, 'a> Bench<'b, 'a> {
         let setting = setting_of(own, &self.shared, limit);
         let words = words_of(alloc, setting.is_listing, setting.program.bytes)?;
         let shares = gets_shared(own, &self.shared);
-        outcome_of(alloc, &setting, &words, shares, &mut self.image)
+        outcome_of(alloc, &setting, &words, shares, &mut self.images)
     }
 }
 
@@ -358,16 +358,16 @@ fn outcome_of<'a>(
     setting: &Setting<'a, '_>,
     words: &Result<Words, AsmFault>,
     shares: bool,
-    image: &mut Option<Image<'a>>,
+    images: &mut Vec<Image<'a>>,
 ) -> Result<Result<Cpu, Refusal>, AllocError>
     requires words { Reads setting.now.is_listing setting.now.program words.now }
-    requires image { shares ≡ true → HasImage setting.now.cells image.old }
+    requires images { shares ≡ true → HaveImages setting.now.cells images.old.items }
     ensures comes { IfOk result (Comes setting.now) }
-    ensures image { (cells : List Cell) → (shares ≡ true → cells ≡ setting.now.cells)
-        → HasImage cells image.old → HasImage cells image.new }
+    ensures images { (cells : List Cell) → (shares ≡ true → cells ≡ setting.now.cells)
+        → HaveImages cells images.old.items → HaveImages cells images.new.items }
 {
     let mut machine = loaded(alloc, setting, words)?;
-    match run_on(alloc, &mut machine, setting, shares, image)? {
+    match run_on(alloc, &mut machine, setting, shares, images)? {
         Some(refusal) => Ok(Err(refusal)),
         None => Ok(machine),
     }
@@ -380,19 +380,19 @@ fn run_on<'a>(
     machine: &mut Result<Cpu, Refusal>,
     setting: &Setting<'a, '_>,
     shares: bool,
-    image: &mut Option<Image<'a>>,
+    images: &mut Vec<Image<'a>>,
 ) -> Result<Option<Refusal>, AllocError>
-    requires { IsReady setting.now shares machine.old image.old }
+    requires { IsReady setting.now shares machine.old images.old.items }
     ensures loads { Loads setting.now machine.new }
     ensures comes { IfOk result (λ refusal.
         Comes setting.now (outcome_by machine.new refusal)) }
-    ensures image { (cells : List Cell) → (shares ≡ true → cells ≡ setting.now.cells)
-        → HasImage cells image.old → HasImage cells image.new }
+    ensures images { (cells : List Cell) → (shares ≡ true → cells ≡ setting.now.cells)
+        → HaveImages cells images.old.items → HaveImages cells images.new.items }
 {
     match machine {
         Ok(cpu) => {
             if shares {
-                run_by(alloc, cpu, setting, image)
+                run_by(alloc, cpu, setting, images)
             } else {
                 refusal_of(outcome_on(alloc, cpu, setting))
             }
@@ -401,23 +401,24 @@ fn run_on<'a>(
     }
 }
 
-/// Runs a program on its machine by the image of its cells, which is kept. Answers why it is
+/// Runs a program on its machine by an image of its cells, which is kept. Answers why it is
 /// refused, if it is.
 fn run_by<'a>(
     alloc: Global,
     cpu: &mut Cpu,
     setting: &Setting<'a, '_>,
-    kept: &mut Option<Image<'a>>,
+    kept: &mut Vec<Image<'a>>,
 ) -> Result<Option<Refusal>, AllocError>
-    requires { IsReady setting.now true (Ok cpu.old) kept.old }
+    requires { IsReady setting.now true (Ok cpu.old) kept.old.items }
     ensures comes { IfOk result (λ refusal.
         Comes setting.now (outcome_by (Ok cpu.new) refusal)) }
     ensures program { cpu.new.program ≡ cpu.old.program }
-    ensures image { HasImage setting.now.cells kept.new }
+    ensures images { HaveImages setting.now.cells kept.new.items }
 {
-    let image = image_for(alloc, cpu, setting, kept.take())?;
+    let found = taken(kept, &setting.maps.text());
+    let image = image_for(alloc, cpu, setting, found)?;
     let done = outcome_by_image(alloc, cpu, setting, &image);
-    *kept = Some(image);
+    keep(kept, image)?;
     refusal_of(done)
 }
 

@@ -1,13 +1,14 @@
 //! What cells make of maps: the bytes that aren't zero, so that the next test begins with them.
-ghost use Rattle.std.specs.Prelude.{◌≡◌, ◌≤◌, ◌<◌, ◌+◌, ◌*◌, ◌==◌, ◌++◌, ℕ, IfOk, OnOk, Some, filter_map, length, slice_get, take};
+ghost use Rattle.std.specs.Prelude.{◌≡◌, ◌≤◌, ◌<◌, ◌+◌, ◌*◌, ◌==◌, ◌++◌, ℕ, List, IfOk, IfSome, OnOk, Some, filter_map, length, slice_get, take};
 ghost use Rattle.std.specs.List.{list_all};
 ghost use Rattle.bpf_machine.specs.Edits.{edited};
 ghost use Rattle.bpf_steps.specs.Platform.{map_base};
 ghost use Rattle.bpf_steps.specs.Regions.{index_in, map_len, maps_from, maps_len};
 ghost use Rattle.bpf_machine.specs.declared.edit.Edit.TheVariants as edit;
 ghost use Rattle.bpf_suite.specs.Cells.{cell_of};
-ghost use Rattle.bpf_suite.specs.Images.{AreAll, HasImage, Holds, IsImageFor, Makes, run_of, with_runs};
+ghost use Rattle.bpf_suite.specs.Images.{AreAll, HasImage, HaveImages, Holds, IsImageFor, IsImageOf, Makes, run_of, with_runs};
 ghost use Rattle.bpf_suite.specs.Outcomes.{IsProgramOf};
+ghost use Rattle.bpf_suite.specs.declared.cells.Cell.{Cell};
 
 use crate::cells::CellLine;
 use crate::outcome::set_cells;
@@ -26,6 +27,9 @@ pub const MAP_STRIDE: u64 = 0x10_0000;
 
 /// The most bytes of a run.
 const LONGEST_RUN: u64 = 256;
+
+/// The most images that are kept.
+const MOST_KEPT: usize = 16;
 
 /// Bytes at an address.
 #[derive(Drop)]
@@ -58,8 +62,46 @@ pub struct Image<'a> {
     pub runs: Result<Runs, Refusal>,
 }
 
-/// What the cells of a test make of its maps: what is kept of the test before, if that had the same
-/// maps, or else found on a machine of its program.
+/// Takes the image of maps out of those that are kept, if it is among them.
+pub fn taken<'a>(kept: &mut Vec<Image<'a>>, maps: &Option<Text<'_>>) -> Option<Image<'a>>
+    ensures image { (cells : List Cell) → HaveImages cells kept.old.items → HasImage cells result }
+    ensures others { (cells : List Cell) → HaveImages cells kept.old.items
+        → HaveImages cells kept.new.items }
+{
+    match find_image(kept.as_slice(), maps) {
+        Some(at) => Some(kept.remove(at)),
+        None => None,
+    }
+}
+
+/// Where the image of maps is among those that are kept.
+fn find_image(kept: &[Image<'_>], maps: &Option<Text<'_>>) -> Option<usize>
+    ensures { IfSome result (λ at. at < length kept.now) }
+{
+    for at in 0..kept.len() {
+        if are_same(&kept[at].maps, maps) {
+            return Some(at);
+        }
+    }
+    None
+}
+
+/// Keeps an image behind the others; where these are too many, the one that was used last goes.
+pub fn keep<'a>(kept: &mut Vec<Image<'a>>, image: Image<'a>) -> Result<(), AllocError>
+    ensures { (cells : List Cell) → HaveImages cells kept.old.items → IsImageOf cells image.entry
+        → HaveImages cells kept.new.items }
+{
+    if kept.len() >= MOST_KEPT {
+        let _last = kept.pop();
+    }
+    match kept.push(image) {
+        Ok(()) => Ok(()),
+        Err(_) => Err(AllocError),
+    }
+}
+
+/// What the cells of a test make of its maps: what is kept of a test that had the same maps, or else
+/// found on a machine of its program.
 pub fn image_for<'a>(
     alloc: Global,
     cpu: &mut Cpu,
