@@ -42,7 +42,7 @@ type Text = ArrayVec<u8, LONGEST_ANSWER>;
 /// The line of a refusal.
 type Line = ArrayVec<u8, 64>;
 
-/// An answer. It takes much of the stack, so it isn't moved.
+/// An answer. It takes much of the stack: it is handed on as it comes, and no variable holds it meanwhile.
 #[derive(Drop)]
 pub(crate) struct Answered {
     pub text: Text,
@@ -193,10 +193,35 @@ fn show_answer<K: Keeper, W: Write>(
         × TellsOrigin K.holds K.refused K.room manners.entry (Ok what) session.old session.new result.1 text
         × WritesAfter W.contents writer.old so_far writer.new result.0 told }
 {
-    let answered = answer_text(session, wanted, what, manners.moves);
-    let told = show_told(
+    show_answered(
         alloc,
         manners.target.names,
+        answer_text(session, wanted, what, manners.moves),
+        body,
+        writer,
+        so_far,
+    )
+}
+
+/// Shows gdb's user an answer, and says how many moves the session's keeper refused to keep again.
+#[inline(never)]
+pub(crate) fn show_answered<W: Write>(
+    alloc: Global,
+    names: Option<&Names<'_>>,
+    answered: Answered,
+    body: &mut Body,
+    writer: &mut Counted<W>,
+    so_far: Result<(), WriteFault>,
+) -> (Result<(), WriteFault>, u64)
+    ensures shows { (shown told : List ℕ) × Shows shown told
+        × MatchResult answered.written (λ _. FitsNamed names.entry answered.text.items shown)
+        (λ _. shown ≡ too_long)
+        × WritesAfter W.contents writer.old so_far writer.new result.0 told }
+    ensures left { result.1 ≡ answered.left }
+{
+    let told = show_told(
+        alloc,
+        names,
         answered.text.as_slice(),
         &answered.written,
         body,
@@ -208,7 +233,7 @@ fn show_answer<K: Keeper, W: Write>(
 
 /// Shows gdb's user a text, if it was written whole, with the names of the places that it tells where
 /// these are known; or that it is too long.
-pub(crate) fn show_told<W: Write>(
+fn show_told<W: Write>(
     alloc: Global,
     names: Option<&Names<'_>>,
     text: &[u8],

@@ -15,7 +15,7 @@ ghost use Rattle.hex.specs.Hex.{decode_of};
 use crate::body::{Body, LONGEST_BODY};
 use crate::manners::Manners;
 use crate::number::behind;
-use crate::origin::{Answered, MOST_LINES, show_refused, show_told};
+use crate::origin::{Answered, MOST_LINES, show_answered, show_refused};
 use crate::parser::is;
 use arrayvec::ArrayVec;
 use bpf_isa::Program;
@@ -136,17 +136,14 @@ fn show_goals<K: Keeper, W: Write>(
         × TellsWhynot K.holds K.refused K.room manners.entry asked session.old session.new result.1 text
         × WritesAfter W.contents writer.old so_far writer.new result.0 told }
 {
-    let answered = why_text(session, wanted, aim, manners.moves);
-    let told = show_told(
+    show_answered(
         alloc,
         manners.target.names,
-        answered.text.as_slice(),
-        &answered.written,
+        why_text(session, wanted, aim, manners.moves),
         body,
         writer,
         so_far,
-    );
-    (told, answered.left)
+    )
 }
 
 /// Writes the answer about some slots, before whose state so many moves lie, into a text. The session
