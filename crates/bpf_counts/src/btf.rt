@@ -1,6 +1,7 @@
 //! The BTF in which a map has so many entries.
 ghost use Rattle.std.specs.Prelude.{◌≡◌, ◌≤◌, ◌<◌, ◌+◌, ◌*◌, IfErr, IfOk, IfSome, ◌⊎◌, length};
-ghost use Rattle.bpf_link.specs.declared.fault.LinkFault.TheVariants.{Memory, ManyRecords};
+ghost use Rattle.bpf_link.specs.declared.fault.LinkFault.TheVariants.{Memory};
+ghost use Rattle.bpf_counts.specs.Counted.{HasManyRecords};
 ghost use Rattle.bpf_counts.specs.Btf.{btf_of, btf_with, entry_words, header_words, number_words, section_words, struct_words, types_with, variable_words, with_definition, with_names, with_numbers, with_own_names, with_section};
 
 use crate::walk::{Walk, listed_at};
@@ -153,7 +154,7 @@ fn types_with(
     requires maps { IfSome walk.now.maps (λ at. at + 12 ≤ length types.now) }
     ensures ok { IfOk result (λ new.
         new.items ≡ types_with types.now strings.now walk.now said.now count) }
-    ensures err { IfErr result (λ fault. (fault ≡ Memory) ⊎ (fault ≡ ManyRecords)) }
+    ensures err { IfErr result (λ fault. (fault ≡ Memory) ⊎ HasManyRecords types.now walk.now fault) }
 {
     let listed = listed_at(types, walk.maps);
     if listed.len() >= 786_420 {
@@ -237,7 +238,7 @@ pub fn btf_with(
     requires maps { IfSome walk.now.maps (λ at. at + 12 ≤ length types.now) }
     ensures ok { IfOk result (λ new.
         new.items ≡ btf_with types.now strings.now walk.now said.now name.now count) }
-    ensures err { IfErr result (λ fault. (fault ≡ Memory) ⊎ (fault ≡ ManyRecords)) }
+    ensures err { IfErr result (λ fault. (fault ≡ Memory) ⊎ HasManyRecords types.now walk.now fault) }
 {
     let all = match types_with(alloc, types, strings, walk, said, count) {
         Ok(all) => all,

@@ -1,10 +1,9 @@
 //! The object in which maps have as many entries as they are told.
-ghost use Rattle.std.specs.Prelude.{◌≡◌, ◌≤◌, ◌<◌, ◌+◌, ◌⊎◌, IfErr, IfOk, IfSome, Some, length, map, slice_range};
+ghost use Rattle.std.specs.Prelude.{◌≡◌, ◌≤◌, ◌<◌, ◌+◌, ◌==◌, ◌⊎◌, IfErr, IfOk, Some, if◌then◌else◌, length, map, slice_range};
+ghost use Rattle.std.specs.List.{before_first};
+ghost use Rattle.bpf_btf.specs.Layout.{btf_header};
 ghost use Rattle.bpf_link.specs.declared.fault.LinkFault.TheVariants.{Memory};
-ghost use Rattle.bpf_counts.specs.Counted.{IsCountFault, IsCounted, IsCountedBy, IsCountedIn, IsCountedOf, IsDescribed, IsRecounted, IsUncountedBy, IsUncountedIn, IsUncountedOf, IsUndescribed, IsUnrecounted, own_strings, own_types};
-ghost use Rattle.bpf_counts.specs.Files.{is_types};
-ghost use Rattle.bpf_link.specs.Sections.{found};
-ghost use Rattle.bpf_link.specs.declared.sections.Found.TheVariants.{Only};
+ghost use Rattle.bpf_counts.specs.Counted.{HasTypes, IsCountFault, IsCounted, IsCountedBy, IsCountedIn, IsCountedOf, IsDescribed, IsRecounted, IsUncountedBy, IsUncountedIn, IsUncountedOf, IsUndescribed, IsUnrecounted, is_comma, own_strings, own_types, strings_end, types_end};
 
 use crate::btf::btf_with;
 use crate::file::{replaced, types_found};
@@ -14,6 +13,7 @@ use bpf_isa::MapFault;
 use bpf_link::{
     Found, LinkFault, Plan, fault_names, planned, section_bytes, told_of_types, u32_at,
 };
+use counted_io::find;
 use input_texts::{count_in, map_in};
 use std::alloc::Global;
 
@@ -45,54 +45,49 @@ fn described(
     }
 }
 
-/// So many bytes of a section from a place on, if they lie in it.
-fn range_in(btf: &[u8], from: u64, size: u32) -> Option<&[u8]>
-    ensures { IfSome result (λ range. range.now ≡ slice_range btf.now from (from + size)) }
+/// So many bytes of a section from a place on.
+fn range_in(btf: &[u8], from: u64, size: u32) -> &[u8]
+    requires { from + size ≤ length btf.now }
+    ensures { result.now ≡ slice_range btf.now from (from + size) }
 {
-    let len = btf.len() as u64;
-    if from > len || u64::from(size) > len - from {
-        return None;
-    }
     let from = from as usize;
-    Some(&btf[from..from + size as usize])
+    &btf[from..from + size as usize]
 }
 
 /// The types of a section.
-fn types_of(btf: &[u8]) -> Option<&[u8]>
-    requires { 24 ≤ length btf.now }
-    ensures { IfSome result (λ types. types.now ≡ own_types btf.now) }
+fn types_of(btf: &[u8]) -> &[u8]
+    requires header { 24 ≤ length btf.now }
+    requires inside { types_end (btf_header btf.now) ≤ length btf.now }
+    ensures { result.now ≡ own_types btf.now }
 {
     let from = u64::from(u32_at(btf, 4)) + u64::from(u32_at(btf, 8));
     range_in(btf, from, u32_at(btf, 12))
 }
 
 /// The strings of a section.
-fn strings_of(btf: &[u8]) -> Option<&[u8]>
-    requires { 24 ≤ length btf.now }
-    ensures { IfSome result (λ strings. strings.now ≡ own_strings btf.now) }
+fn strings_of(btf: &[u8]) -> &[u8]
+    requires header { 24 ≤ length btf.now }
+    requires inside { strings_end (btf_header btf.now) ≤ length btf.now }
+    ensures { result.now ≡ own_strings btf.now }
 {
     let from = u64::from(u32_at(btf, 4)) + u64::from(u32_at(btf, 16));
     range_in(btf, from, u32_at(btf, 20))
 }
 
-/// The section of types and strings in which a map has so many entries.
-fn recounted_of(
+/// The section of types and strings in which a map, of which it says this, has so many entries.
+fn recounted(
     alloc: Global,
     btf: &[u8],
     said: &MapDescription,
     name: &[u8],
     count: u32,
 ) -> Result<Vec<u8>, LinkFault>
-    requires { 24 ≤ length btf.now }
+    requires { IsDescribed btf.now name.now said.now }
     ensures ok { IfOk result (λ new. IsRecounted btf.now said.now name.now count new.items) }
-    ensures err { IfErr result (λ fault. (fault ≡ Memory) ⊎ IsUnrecounted fault) }
+    ensures err { IfErr result (λ fault. (fault ≡ Memory) ⊎ IsUnrecounted btf.now fault) }
 {
-    let Some(types) = types_of(btf) else {
-        return Err(LinkFault::Types(BtfFault::Header));
-    };
-    let Some(strings) = strings_of(btf) else {
-        return Err(LinkFault::Types(BtfFault::Header));
-    };
+    let types = types_of(btf);
+    let strings = strings_of(btf);
     let walk = match walked(types, strings) {
         Ok(walk) => walk,
         Err(_) => return Err(LinkFault::Types(BtfFault::CutType)),
@@ -101,23 +96,6 @@ fn recounted_of(
         Ok(new) => Ok(new),
         Err(fault) => Err(fault),
     }
-}
-
-/// The section in which a map has so many entries.
-fn recounted(
-    alloc: Global,
-    btf: &[u8],
-    said: &MapDescription,
-    name: &[u8],
-    count: u32,
-) -> Result<Vec<u8>, LinkFault>
-    ensures ok { IfOk result (λ new. IsRecounted btf.now said.now name.now count new.items) }
-    ensures err { IfErr result (λ fault. (fault ≡ Memory) ⊎ IsUnrecounted fault) }
-{
-    if btf.len() < 24 {
-        return Err(LinkFault::Types(BtfFault::Header));
-    }
-    recounted_of(alloc, btf, said, name, count)
 }
 
 /// The object of a plan, with another section of BTF: the i-th.
@@ -129,9 +107,9 @@ fn with_entries(
     count: u32,
 ) -> Result<Vec<u8>, LinkFault>
     requires inside { i < length plan.now.object.sections }
-    requires types { found (is_types plan.now.object) plan.now.object.sections ≡ Only i }
+    requires types { HasTypes plan.now i }
     ensures ok { IfOk result (λ all. IsCountedIn plan.now name.now count all.items) }
-    ensures err { IfErr result (λ fault. (fault ≡ Memory) ⊎ IsUncountedIn plan.now name.now fault) }
+    ensures err { IfErr result (λ fault. (fault ≡ Memory) ⊎ IsUncountedIn plan.now name.now count fault) }
 {
     let bytes = plan.object.bytes();
     let btf = section_bytes(&plan.object, &plan.object.section(i));
@@ -152,7 +130,7 @@ fn with_entries(
 /// The object of a plan in which the map of a name has so many entries.
 fn counted_in(alloc: Global, plan: &Plan<'_>, name: &[u8], count: u32) -> Result<Vec<u8>, LinkFault>
     ensures ok { IfOk result (λ all. IsCountedIn plan.now name.now count all.items) }
-    ensures err { IfErr result (λ fault. (fault ≡ Memory) ⊎ IsUncountedIn plan.now name.now fault) }
+    ensures err { IfErr result (λ fault. (fault ≡ Memory) ⊎ IsUncountedIn plan.now name.now count fault) }
 {
     match types_found(&plan.object) {
         Found::Only(i) => with_entries(alloc, plan, i, name, count),
@@ -162,15 +140,16 @@ fn counted_in(alloc: Global, plan: &Plan<'_>, name: &[u8], count: u32) -> Result
 }
 
 /// The first of some names with commas between.
-fn first_name(names: &[u8]) -> &[u8] {
-    match names.iter().position(|byte| *byte == b',') {
-        Some(at) => &names[..at],
-        None => names,
-    }
+fn first_name(names: &[u8]) -> &[u8]
+    ensures { result.now ≡ before_first is_comma names.now }
+{
+    &names[..find(names, b',')]
 }
 
 /// A name, or another one where it is empty.
-fn given_or<'a>(name: &'a [u8], other: &'a [u8]) -> &'a [u8] {
+fn given_or<'a>(name: &'a [u8], other: &'a [u8]) -> &'a [u8]
+    ensures { result.now ≡ (if length name.now == 0 then other.now else name.now) }
+{
     if name.is_empty() { other } else { name }
 }
 
@@ -182,8 +161,9 @@ fn counted_of(
     name: &[u8],
     count: u32,
 ) -> Result<Vec<u8>, LinkFault>
-    ensures ok { IfOk result (λ all. IsCountedOf bytes.now name.now (Some count) all.items) }
-    ensures err { IfErr result (λ fault. (fault ≡ Memory) ⊎ IsUncountedOf bytes.now name.now fault) }
+    ensures ok { IfOk result (λ all. IsCountedOf bytes.now section.now name.now (Some count) all.items) }
+    ensures err { IfErr result (λ fault. (fault ≡ Memory)
+        ⊎ IsUncountedOf bytes.now section.now name.now (Some count) fault) }
 {
     // (the names of all sections of code, of which any will do where none is named)
     let names = fault_names(bytes, b"", &LinkFault::NoSection);
@@ -204,8 +184,8 @@ fn counted_by(
     section: &[u8],
     text: &[u8],
 ) -> Result<Vec<u8>, LinkFault>
-    ensures ok { IfOk result (λ all. IsCountedBy bytes.now text.now all.items) }
-    ensures err { IfErr result (λ fault. (fault ≡ Memory) ⊎ IsUncountedBy bytes.now text.now fault) }
+    ensures ok { IfOk result (λ all. IsCountedBy bytes.now section.now text.now all.items) }
+    ensures err { IfErr result (λ fault. (fault ≡ Memory) ⊎ IsUncountedBy bytes.now section.now text.now fault) }
 {
     match count_in(text) {
         Some(count) => counted_of(alloc, bytes, section, map_in(text), count),
@@ -230,8 +210,9 @@ pub fn counted(
     section: &[u8],
     texts: &[&str],
 ) -> Result<Vec<u8>, CountFault>
-    ensures ok { IfOk result (λ all. IsCounted object.now (map (λ text. text.now) texts.now) all.items) }
-    ensures err { IfErr result (IsCountFault object.now (map (λ text. text.now) texts.now)) }
+    ensures ok { IfOk result (λ all.
+        IsCounted object.now section.now (map (λ text. text.now) texts.now) all.items) }
+    ensures err { IfErr result (IsCountFault object.now section.now (map (λ text. text.now) texts.now)) }
 {
     let mut all = match Vec::from_slice(alloc, object) {
         Ok(all) => all,

@@ -3,14 +3,13 @@ use Rattle.std.proofs.Common.{◌≡◌, ◌<◌, ◌≤◌, ◌+◌, ◌-◌, �
 use Rattle.std.proofs.lemmas.List.{append-nil, get_or_past, get_or-map, take_all, take_more}
 use Rattle.std.proofs.lemmas.List.Elements.{All-head, All-push, All-rest, All-same}
 use Rattle.std.proofs.lemmas.List.Sums.{sum_by-cons}
-use Rattle.std.specs.Prelude.{All, Vec, get_or, slice_index, sum_by, if◌then◌else◌}
+use Rattle.std.specs.Prelude.{All, Some, Vec, get_or, slice_index, sum_by, if◌then◌else◌}
 use Rattle.std.specs.List.{AllZip}
 use Rattle.std.specs.declared.alloc.Global.{Global}
 use Rattle.bpf_link.specs.Names.{built}
 use Rattle.bpf_link.specs.Parts.{slots_in}
 use Rattle.bpf_link.specs.declared.parts.Part.{Part}
 use Rattle.bpf_link.specs.declared.plan.Plan.{Plan}
-use Rattle.bpf_join.specs.Chains.{others}
 use Rattle.bpf_lines.specs.Objects.{AreBehind, AreFunctions, AreLinesOf, HasPartLines, IsFunctionsRefusal, IsLinesRefusal, object_rows, rows_of_all, slots_of}
 use Rattle.bpf_lines.specs.Rows.{row_text, rows, said_in, with_row}
 use Rattle.bpf_lines.specs.declared.objects.LinesFault.{LinesFault}
@@ -56,25 +55,26 @@ head_told all lines rest e known = All-head HasPartLines lines rest (subst (All 
 pub rest_told : (all : List ObjectLines) (lines : ObjectLines) (rest : List ObjectLines) → all ≡ lines ∷ rest → All HasPartLines all → All HasPartLines rest
 rest_told all lines rest e known = All-rest HasPartLines lines rest all e known
 
--- A further object by its number among the others, and how many there are.
-pub other_is : (second : List ℕ) (further : List (Vec ℕ Global)) (k : ℕ) (it : Vec ℕ Global) → k < length further
-    → get_or (others second further) (k + 1) [] ≡ (get_or further k it).items
-other_is second further k it inside =
-    subst (λ n. get_or (others second further) n [] ≡ (get_or further k it).items) (sym (add-one k)) (get_or-map (λ other. other.items) further k it [] inside)
+-- Another object by its number, and how many there are.
+pub other_is : (others : List (Vec ℕ Global)) (k : ℕ) (it : Vec ℕ Global) → k < length others
+    → get_or (map (λ other. other.items) others) k [] ≡ (get_or others k it).items
+other_is others k it inside = get_or-map (λ other. other.items) others k it [] inside
 
-same_length : (further : List (Vec ℕ Global)) → length (map (λ other. other.items) further) ≡ length further
+pub same_length : (others : List (Vec ℕ Global)) → length (map (λ other. other.items) others) ≡ length others
 same_length [] = refl
-same_length (other ∷ further) = ap suc (same_length further)
-
-pub count_is : (second : List ℕ) (further : List (Vec ℕ Global)) → length (others second further) ≡ length further + 1
-count_is second further = ap suc (same_length further) ∙ sym (add-one (length further))
+same_length (other ∷ others) = ap suc (same_length others)
 
 -- the object of a number is refused
-pub refused_at : (objects : List (List ℕ)) (n : ℕ) (object : List ℕ) (told : LinesFault) → n < length objects → object ≡ get_or objects n []
-    → told.index ≡ n → told.object ≡ object → IsLinesRefusal object (codes ".text") told.fault → IsFunctionsRefusal objects told
-refused_at objects n object told inside same index is why = record {
-  inside = subst (λ k. k < length objects) (sym index) inside;
-  object = is ∙ same ∙ ap (λ k. get_or objects k []) (sym index);
+pub refused_at : (before all : List ObjectLines) (objects : List (List ℕ)) (n : ℕ) (object : List ℕ) (told : LinesFault) → n < length objects
+    → AreBehind before (take n objects) all → object ≡ get_or objects n [] → told.index ≡ Some n → told.object ≡ object
+    → IsLinesRefusal object (codes ".text") told.fault → IsFunctionsRefusal objects told
+refused_at before all objects n object told inside known same index is why = record {
+  at = n;
+  index = index;
+  inside = inside;
+  before = known.more;
+  are_before = known.functions;
+  object = is ∙ same;
   why = subst (λ o. IsLinesRefusal o (codes ".text") told.fault) (sym is) why;
 }
 

@@ -1,5 +1,5 @@
 -- The table of a program that was linked: the rows of the objects that it comes from.
-use Rattle.std.specs.Prelude.{◌≡◌, ◌⊎◌, ◌<◌, ℕ, ◌+◌, ◌*◌, ◌/◌, ◌==◌, if◌then◌else◌, List, [], ◌∷◌, ◌++◌, Option, Some, None, Ok, Err, codes, get_or, length, sum_by}
+use Rattle.std.specs.Prelude.{◌≡◌, ◌⊎◌, ◌<◌, ℕ, ◌+◌, ◌*◌, ◌/◌, ◌==◌, if◌then◌else◌, List, [], ◌∷◌, ◌++◌, Option, Some, None, Ok, Err, codes, get_or, length, sum_by, take}
 use Rattle.std.specs.List.{AllZip}
 use Rattle.bpf_link.specs.Links.{planned}
 use Rattle.bpf_link.specs.Parts.{slots_in}
@@ -34,11 +34,28 @@ pub record AreBehind (before : List ObjectLines) (objects : List (List ℕ)) (al
   pub functions : AreFunctions objects more
   pub order : all ≡ before ++ more
 
--- Why nothing is told: for the functions of one of the objects.
+-- Why nothing is told: for the functions of the first of the objects of which that isn't.
 pub record IsFunctionsRefusal (objects : List (List ℕ)) (told : LinesFault) : Type 0 where
-  pub inside : told.index < length objects
-  pub object : told.object ≡ get_or objects told.index []
+  pub at : ℕ
+  pub index : told.index ≡ Some at
+  pub inside : at < length objects
+  pub before : List ObjectLines
+  pub are_before : AreFunctions (take at objects) before
+  pub object : told.object ≡ get_or objects at []
   pub why : IsLinesRefusal told.object (codes ".text") told.fault
+
+-- What is told of a program: of a section of its object, and of the functions of those that are joined to it; or why nothing is.
+pub record AreProgramLines (object section : List ℕ) (others : List (List ℕ)) (all : List ObjectLines) : Type 0 where
+  pub own : ObjectLines
+  pub first : AreLinesOf object section own
+  pub behind : AreBehind (own ∷ []) others all
+
+abbrev pub IsOwnLinesFault : List ℕ → List ℕ → LinesFault → Type 0
+IsOwnLinesFault object section told = (told.index ≡ None) × (told.object ≡ object) × IsLinesRefusal object section told.fault
+
+abbrev pub IsProgramLinesFault : List ℕ → List ℕ → List (List ℕ) → LinesFault → Type 0
+IsProgramLinesFault object section others told =
+    IsOwnLinesFault object section told ⊎ (((own : ObjectLines) × AreLinesOf object section own) × IsFunctionsRefusal others told)
 
 -- How many slots an object has.
 abbrev pub slots_of : ObjectLines → ℕ

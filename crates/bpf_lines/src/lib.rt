@@ -25,12 +25,10 @@ mod table_row;
 
 pub use line_info::LineEntry;
 pub use listing::listing_slots;
-pub use lookups::{object_places, object_slots};
+pub use lookups::{program_places, program_slots};
 pub use named_maps::NamedMap;
 pub use named_text::put_named;
-pub use objects::{
-    LinesFault, ObjectLines, first_lines, object_lines, with_functions, write_table,
-};
+pub use objects::{LinesFault, ObjectLines, program_lines, write_table};
 pub use part_lines::PartLines;
 pub use place::is_place;
 pub use place_names::{Names, map_names};

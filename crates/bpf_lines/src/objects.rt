@@ -1,8 +1,7 @@
 //! What is told of the slots of objects' code, and the table of a program.
-ghost use Rattle.std.specs.Prelude.{◌≡◌, ◌≤◌, ◌<◌, ◌*◌, ◌==◌, ◌++◌, ◌∷◌, [], All, codes, IfOk, IfErr, length, sum_by};
+ghost use Rattle.std.specs.Prelude.{◌≡◌, ◌≤◌, ◌<◌, ◌*◌, ◌==◌, ◌++◌, ◌∷◌, [], All, codes, IfOk, IfErr, Some, length, map, sum_by};
 ghost use Rattle.counted_io.specs.Writing.{Writes, WritesAfter};
-ghost use Rattle.bpf_join.specs.Chains.{others};
-ghost use Rattle.bpf_lines.specs.Objects.{AreBehind, AreLinesOf, HasPartLines, IsFunctionsRefusal, IsLinesRefusal, begin_of, entry_slots, object_rows, program_table, rows_of_all, slots_of};
+ghost use Rattle.bpf_lines.specs.Objects.{AreBehind, AreLinesOf, AreProgramLines, HasPartLines, IsFunctionsRefusal, IsLinesRefusal, IsProgramLinesFault, begin_of, entry_slots, object_rows, program_table, rows_of_all, slots_of};
 ghost use Rattle.bpf_lines.specs.declared.objects.ObjectLines.{ObjectLines as Told};
 
 use crate::part_lines::{PartLines, part_lines};
@@ -21,11 +20,11 @@ pub struct ObjectLines<'a> {
     pub text: PartLines<'a>,
 }
 
-/// Why nothing is told of the functions of objects.
+/// Why nothing is told of the slots of a program.
 #[derive(Drop)]
 pub struct LinesFault<'a> {
-    /// Which one of the objects it is.
-    pub index: usize,
+    /// Which one of the objects it is that are joined to the first; none where it is that one.
+    pub index: Option<usize>,
     pub object: Bytes<'a>,
     pub fault: LinkFault,
 }
@@ -36,7 +35,7 @@ pub struct LinesFault<'a> {
 /// the last record of `.BTF.ext` up to it, unless a function begins behind that. Of several symbols
 /// or records of one slot the last counts, in whatever order they stand. Takes time in proportion to
 /// the length of the object.
-pub fn object_lines<'a>(
+fn object_lines<'a>(
     alloc: Global,
     object: &'a [u8],
     section: &[u8],
@@ -59,7 +58,7 @@ pub fn object_lines<'a>(
 }
 
 /// What is told of a section of an object, as the first of several that are joined.
-pub fn first_lines<'a>(
+fn first_lines<'a>(
     alloc: Global,
     object: &'a [u8],
     section: &[u8],
@@ -91,14 +90,14 @@ fn with_object<'a>(
     ensures ok { IfOk result (λ more. (lines : Told) × AreLinesOf object.now (codes ".text") lines
         × (more.items ≡ all.entry.items ++ lines ∷ [])) }
     ensures err { IfErr result (λ told. IsLinesRefusal object.now (codes ".text") told.fault) }
-    ensures index { IfErr result (λ told. told.index ≡ index) }
+    ensures index { IfErr result (λ told. told.index ≡ Some index) }
     ensures object { IfErr result (λ told. told.object ≡ object.now) }
 {
     let lines = match object_lines(alloc, object, b".text") {
         Ok(lines) => lines,
         Err(fault) => {
             return Err(LinesFault {
-                index,
+                index: Some(index),
                 object: Bytes { bytes: object },
                 fault,
             });
@@ -107,38 +106,62 @@ fn with_object<'a>(
     match all.push(lines) {
         Ok(()) => Ok(all),
         Err(_) => Err(LinesFault {
-            index,
+            index: Some(index),
             object: Bytes { bytes: object },
             fault: LinkFault::Memory,
         }),
     }
 }
 
-/// What is told of the functions of further objects, in the order in which they are joined, behind
+/// What is told of the functions of other objects, in the order in which they are joined, behind
 /// what is told of those before them.
-pub fn with_functions<'a>(
+fn with_functions<'a>(
     alloc: Global,
     before: Vec<ObjectLines<'a>>,
-    second: &'a [u8],
-    further: &'a [Vec<u8>],
+    others: &'a [Vec<u8>],
 ) -> Result<Vec<ObjectLines<'a>>, LinesFault<'a>>
     requires { All HasPartLines before.items }
     ensures ok { IfOk result (λ all.
-        AreBehind before.entry.items (others second.now further.now) all.items) }
+        AreBehind before.entry.items (map (λ other. other.items) others.now) all.items) }
     ensures told { IfOk result (λ all. All HasPartLines all.items) }
-    ensures err { IfErr result (IsFunctionsRefusal (others second.now further.now)) }
+    ensures err { IfErr result (IsFunctionsRefusal (map (λ other. other.items) others.now)) }
 {
-    let mut all = match with_object(alloc, before, 0, second) {
-        Ok(all) => all,
-        Err(told) => return Err(told),
-    };
-    for k in 0..further.len() {
-        all = match with_object(alloc, all, k + 1, further[k].as_slice()) {
+    let mut all = before;
+    for k in 0..others.len() {
+        all = match with_object(alloc, all, k, others[k].as_slice()) {
             Ok(more) => more,
             Err(told) => return Err(told),
         };
     }
     Ok(all)
+}
+
+/// What is told of the slots of a program that was linked: of a section of its object, named as for
+/// `link_with`, and behind that of the functions of others, in the order in which they are joined to
+/// it.
+pub fn program_lines<'a>(
+    alloc: Global,
+    object: &'a [u8],
+    section: &[u8],
+    others: &'a [Vec<u8>],
+) -> Result<Vec<ObjectLines<'a>>, LinesFault<'a>>
+    ensures ok { IfOk result (λ all.
+        AreProgramLines object.now section.now (map (λ other. other.items) others.now) all.items) }
+    ensures told { IfOk result (λ all. All HasPartLines all.items) }
+    ensures err { IfErr result
+        (IsProgramLinesFault object.now section.now (map (λ other. other.items) others.now)) }
+{
+    match first_lines(alloc, object, section) {
+        Ok(own) => match with_functions(alloc, own, others) {
+            Ok(all) => Ok(all),
+            Err(told) => Err(told),
+        },
+        Err(fault) => Err(LinesFault {
+            index: None,
+            object: Bytes { bytes: object },
+            fault,
+        }),
+    }
 }
 
 /// Writes the rows of an object, whose first slot is one of the program's words.

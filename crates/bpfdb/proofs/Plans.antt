@@ -12,7 +12,7 @@ use Rattle.bpfdb_jobs.specs.Done.{DoesJob}
 use Rattle.bpfdb.specs.declared.telling.Telling.{Telling}
 use Rattle.bpfdb.specs.Telling.{DoesTold, ErrLost, Exhausted, OutLost, Retells, Tells, Written, telling_of}
 use Rattle.bpfdb.specs.Files.{Contents}
-use Rattle.bpfdb.specs.Done.{DoesCounted, DoesOver, DoesPlan, DoesReplaced, Done, EndsPlanWith, Over, Replaced, Uncounted, Unread, Unreplaced, Unturned, With}
+use Rattle.bpfdb.specs.Done.{DoesPlan, DoesReplaced, Done, EndsPlanWith, Replaced, Unread, Unreplaced}
 
 -- It is that of the plan's job, unless it is 2, told as JSON or not.
 ends_retold_with : {R W E : Type 0} (reader : Stream R) (writer : Stream W) (errors : Stream E) (telling : Telling) (job : Job) (status : ℕ)
@@ -28,33 +28,17 @@ ends_told_with : {R W E : Type 0} (reader : Stream R) (writer : Stream W) (error
 ends_told_with reader writer errors None job status does other = ends_with reader writer errors job.subcommand job status does other
 ends_told_with reader writer errors (Some telling) job status does other = ends_retold_with reader writer errors telling job status does other
 
-ends_over_with : {R W E : Type 0} (reader : Stream R) (writer : Stream W) (errors : Stream E) (at_terminal : Bool) (plan : Plan)
-    (of : Contents) (status : ℕ)
-    → DoesOver at_terminal plan of reader writer errors status → status ≢ 2 → EndsPlanWith plan status
-ends_over_with reader writer errors at_terminal plan of status (Unturned fault why same kept told two) other =
-    absurd (other two)
-ends_over_with reader writer errors at_terminal plan of status (Over bytes job for_it is does) other = record {
-  of = record of { file = bytes };
-  job = job;
-  is = is;
-  ends = ends_told_with reader writer (record errors { new = does.told }) (telling_of plan) job status does.does other;
-}
-
-ends_counted_with : {R W E : Type 0} (reader : Stream R) (writer : Stream W) (errors : Stream E) (at_terminal : Bool) (plan : Plan)
-    (of : Contents) (status : ℕ)
-    → DoesCounted at_terminal plan of reader writer errors status → status ≢ 2 → EndsPlanWith plan status
-ends_counted_with reader writer errors at_terminal plan of status (Uncounted fault why same kept told two) other =
-    absurd (other two)
-ends_counted_with reader writer errors at_terminal plan of status (With bytes counted does) other =
-    ends_over_with reader writer errors at_terminal plan (record of { file = bytes }) status does other
-
 ends_replaced_with : {R W E : Type 0} (reader : Stream R) (writer : Stream W) (errors : Stream E) (bytes_at : List ℕ → Option (List ℕ))
     (at_terminal : Bool) (plan : Plan) (of : Contents) (status : ℕ)
     → DoesReplaced bytes_at at_terminal plan of reader writer errors status → status ≢ 2 → EndsPlanWith plan status
 ends_replaced_with reader writer errors bytes_at at_terminal plan of status (Unreplaced fault why same kept told two) other =
     absurd (other two)
-ends_replaced_with reader writer errors bytes_at at_terminal plan of status (Replaced bytes tests does) other =
-    ends_counted_with reader writer errors at_terminal plan (record of { file = bytes }) status does other
+ends_replaced_with reader writer errors bytes_at at_terminal plan of status (Replaced bytes tests job is does) other = record {
+  of = record of { file = bytes };
+  job = job;
+  is = is;
+  ends = ends_told_with reader writer (record errors { new = does.told }) (telling_of plan) job status does.does other;
+}
 
 pub ends_plan_with : {R W E : Type 0} (reader : Stream R) (writer : Stream W) (errors : Stream E) (bytes_at : List ℕ → Option (List ℕ))
     (at_terminal : Bool) (plan : Plan) (status : ℕ) → DoesPlan bytes_at at_terminal plan reader writer errors status → status ≢ 2

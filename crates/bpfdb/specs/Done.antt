@@ -8,14 +8,12 @@ use Rattle.bpfdb_jobs.specs.Statuses.{EndsWith}
 use Rattle.bpfdb_faults.specs.declared.fault.JobFault.{JobFault}
 use Rattle.bpfdb_faults.specs.declared.fault.JobFault.TheVariants.{Memory, Output}
 use Rattle.bpfdb_jobs.specs.declared.job.Job.{Job}
-use Rattle.bpfdb.specs.Counts.{HasCounts, IsUncounted}
 use Rattle.bpfdb.specs.Files.{AreRead, Contents, IsUnread}
 use Rattle.bpfdb.specs.Jobs.{IsJobOf}
 use Rattle.bpfdb.specs.Telling.{DoesTold, telling_of}
 use Rattle.bpfdb.specs.declared.telling.Telling.{Telling}
 use Rattle.bpfdb.specs.Tests.{IsTestsFor, IsUnreplaced, files_line}
 use Rattle.suite_files.specs.declared.fault.FilesFault.{FilesFault}
-use Rattle.bpfdb.specs.Turns.{IsFileFor, IsUnturned}
 use Rattle.counted_io.specs.Counted.{Tally}
 
 -- A job is done, as it is or told in another form, and its hint follows on standard error where that is a terminal.
@@ -25,28 +23,12 @@ pub record DoesHinted {R W E : Type 0} (at_terminal : Bool) (telling : Option Te
   pub does : DoesTold telling job reader writer (record errors { new = told }) status
   pub adds : AddsHint at_terminal job status (record errors { old = told })
 
--- The job is done over FILE, or over the object of the programs that are called in turn; or why there is none is told, and nothing else happens.
-pub data DoesOver {R W E : Type 0} (at_terminal : Bool) (plan : Plan) (of : Contents) (reader : Stream R) (writer : Stream W) (errors : Stream E)
-    (status : ℕ) : Type 0 where
-  Over : (bytes : List ℕ) → (job : Job) → IsFileFor plan of.file bytes → IsJobOf plan (record of { file = bytes }) job
-      → DoesHinted at_terminal (telling_of plan) job reader writer errors status → DoesOver at_terminal plan of reader writer errors status
-  Unturned : (fault : JobFault) → IsUnturned plan of.file fault → reader.new ≡ reader.old → writer.new ≡ writer.old → Told errors (line_of fault)
-      → status ≡ 2 → DoesOver at_terminal plan of reader writer errors status
-
--- So it is with FILE as it is, or with the object in which maps have as many entries as they are told; or why there is none is told.
-pub data DoesCounted {R W E : Type 0} (at_terminal : Bool) (plan : Plan) (of : Contents) (reader : Stream R) (writer : Stream W) (errors : Stream E)
-    (status : ℕ) : Type 0 where
-  With : (bytes : List ℕ) → HasCounts plan of.file bytes → DoesOver at_terminal plan (record of { file = bytes }) reader writer errors status
-      → DoesCounted at_terminal plan of reader writer errors status
-  Uncounted : (fault : JobFault) → IsUncounted plan of.file fault → reader.new ≡ reader.old → writer.new ≡ writer.old → Told errors (line_of fault)
-      → status ≡ 2 → DoesCounted at_terminal plan of reader writer errors status
-
--- So it is with FILE as it is, or with the file of tests in which each section that names files is replaced; or why there is none is told, and
+-- The job is done over FILE as it is, or over the file of tests in which each section that names files is replaced; or why there is none is told, and
 -- nothing else happens.
 pub data DoesReplaced {R W E : Type 0} (bytes_at : List ℕ → Option (List ℕ)) (at_terminal : Bool) (plan : Plan) (of : Contents)
     (reader : Stream R) (writer : Stream W) (errors : Stream E) (status : ℕ) : Type 0 where
-  Replaced : (bytes : List ℕ) → IsTestsFor bytes_at plan of.file bytes
-      → DoesCounted at_terminal plan (record of { file = bytes }) reader writer errors status
+  Replaced : (bytes : List ℕ) → IsTestsFor bytes_at plan of.file bytes → (job : Job) → IsJobOf plan (record of { file = bytes }) job
+      → DoesHinted at_terminal (telling_of plan) job reader writer errors status
       → DoesReplaced bytes_at at_terminal plan of reader writer errors status
   Unreplaced : (fault : FilesFault) → IsUnreplaced bytes_at plan of.file fault → reader.new ≡ reader.old → writer.new ≡ writer.old
       → Told errors (files_line fault) → status ≡ 2

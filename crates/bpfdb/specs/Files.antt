@@ -3,7 +3,8 @@ use Rattle.std.specs.Prelude.{ℕ, zero, suc, ◌≡◌, ◌<◌, ◌||◌, Bool
 use Rattle.std.specs.declared.alloc.Global.{Global}
 use Rattle.std.specs.Borrow.{Bor}
 use Rattle.bpfdb_cli.specs.declared.plans.Plan.{Plan}
-use Rattle.bpfdb.specs.declared.job.Loaded.{Loaded}
+use Rattle.bpfdb.specs.declared.job.Bytes.{Bytes}
+use Rattle.bpf_load.specs.Targets.{contents, texts}
 use Rattle.bpfdb_files.specs.Reading.{Gives}
 use Rattle.bpfdb_files.specs.declared.kinds.FileKind.{FileKind}
 use Rattle.bpfdb_files.specs.declared.kinds.FileKind.TheVariants.{Program, Context, Source}
@@ -39,13 +40,6 @@ abbrev pub NamesGiven : Option (Bor (List ℕ)) → JobFault → Type 0
 NamesGiven (Some path) fault = Names path.now fault
 NamesGiven None fault = ⊥
 
--- The texts of paths, and the contents of files.
-abbrev pub texts : List (Bor (List ℕ)) → List (List ℕ)
-texts paths = map (λ path. path.now) paths
-
-abbrev pub contents : List (Vec ℕ Global) → List (List ℕ)
-contents all = map (λ bytes. bytes.items) all
-
 -- What is read of the files of the first n of some paths.
 abbrev pub GivesFirst : (List ℕ → Option (List ℕ)) → FileKind → List (List ℕ) → ℕ → List (List ℕ) → Type 0
 GivesFirst bytes_at kind paths zero all = all ≡ []
@@ -57,19 +51,19 @@ abbrev pub NamesOne : (List ℕ → Option (List ℕ)) → FileKind → List (Li
 NamesOne bytes_at kind paths fault = (n : ℕ) × (n < length paths) × (all : List (List ℕ)) × GivesFirst bytes_at kind paths n all
     × Names (get_or paths n []) fault
 
--- The bytes of FILE, of PATH, of the other file, and of the further ones.
+-- The bytes of FILE, of PATH, of the other file, and of the objects with functions.
 pub record Contents : Type 0 where
   pub file : List ℕ
   pub context : List ℕ
   pub other : List ℕ
-  pub further : List (List ℕ)
+  pub with : List (List ℕ)
 
-abbrev pub contents_in : Loaded → Contents
-contents_in loaded = record {
-  file = loaded.file.now;
-  context = loaded.context.now;
-  other = loaded.other.now;
-  further = contents loaded.further.now;
+abbrev pub contents_in : Bytes → Contents
+contents_in bytes = record {
+  file = bytes.file.now;
+  context = bytes.context.now;
+  other = bytes.other.now;
+  with = contents bytes.with.now;
 }
 
 -- They are what is read, where the bytes of files are known.
@@ -77,7 +71,7 @@ pub record AreRead (bytes_at : List ℕ → Option (List ℕ)) (plan : Plan) (of
   pub file : Gives (kind_of plan) (bytes_at plan.file.now) (Some of.file)
   pub context : GivesNamed bytes_at Context plan.memory of.context
   pub other : GivesNamed bytes_at Source plan.other of.other
-  pub further : GivesFirst bytes_at Source (texts plan.further.items) (length plan.further.items) of.further
+  pub with : GivesFirst bytes_at Source (texts plan.with.items) (length plan.with.items) of.with
 
 -- Why they aren't read: by the first of them that can't be.
 pub data IsUnread (bytes_at : List ℕ → Option (List ℕ)) (plan : Plan) (fault : JobFault) : Type 0 where
@@ -86,9 +80,9 @@ pub data IsUnread (bytes_at : List ℕ → Option (List ℕ)) (plan : Plan) (fau
       → IsUnread bytes_at plan fault
   OfOther : (of_file of_path : List ℕ) → Gives (kind_of plan) (bytes_at plan.file.now) (Some of_file)
       → GivesNamed bytes_at Context plan.memory of_path → NamesGiven plan.other fault → IsUnread bytes_at plan fault
-  OfFurther : (of_file of_path of_other : List ℕ) → Gives (kind_of plan) (bytes_at plan.file.now) (Some of_file)
+  OfWith : (of_file of_path of_other : List ℕ) → Gives (kind_of plan) (bytes_at plan.file.now) (Some of_file)
       → GivesNamed bytes_at Context plan.memory of_path → GivesNamed bytes_at Source plan.other of_other
-      → NamesOne bytes_at Source (texts plan.further.items) fault → IsUnread bytes_at plan fault
+      → NamesOne bytes_at Source (texts plan.with.items) fault → IsUnread bytes_at plan fault
 
 -- The program that is built in: r0 = 42, and the end.
 abbrev pub first_program : List ℕ

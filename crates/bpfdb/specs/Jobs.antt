@@ -1,11 +1,12 @@
 -- The job of a plan.
-use Rattle.std.specs.Prelude.{ℕ, ◌≡◌, Bool, true, false, List, Option, Some, None}
+use Rattle.std.specs.Prelude.{ℕ, ◌≡◌, ◌==◌, Bool, if◌then◌else◌, List, [], length, map, Option, Some, None}
 use Rattle.std.specs.Borrow.{Bor}
+use Rattle.bpf_load.specs.Targets.{contents, texts}
+use Rattle.bpf_load.specs.declared.target.Target.{Target}
 use Rattle.bpfdb_cli.specs.declared.plans.Plan.{Plan}
 use Rattle.bpfdb_jobs.specs.declared.job.Job.{Job}
-use Rattle.bpfdb_options.specs.declared.options.Options.{Options}
-use Rattle.bpfdb.specs.Files.{Contents, contents}
-use Rattle.bpfdb.specs.Turns.{is_turned}
+use Rattle.bpfdb_jobs.specs.Jobs.{name_or_empty as text_or_empty}
+use Rattle.bpfdb.specs.Files.{Contents}
 
 -- The bytes of a file, where one is named.
 abbrev pub IsNamed : Option (Bor (List ℕ)) → List ℕ → Option (Bor (List ℕ)) → Type 0
@@ -13,22 +14,36 @@ IsNamed None bytes given = given ≡ None
 IsNamed (Some path) bytes None = ⊥
 IsNamed (Some path) bytes (Some given) = given.now ≡ bytes
 
--- Of an object of programs in turn the entry is its only program.
-abbrev pub options_in : Bool → Options → Options
-options_in true options = record options { entry = None }
-options_in false options = options
+-- A name, empty where there is none.
+abbrev pub name_or_empty : Option (Bor (List ℕ)) → List ℕ
+name_or_empty name = text_or_empty name
 
--- It has the plan's subcommand and options, the name of FILE and its bytes, those of PATH, those of the other file, if there is one, and those of
--- the further ones.
+-- Of an object of programs in turn the entry is its only program.
+abbrev pub entry_of : Plan → List ℕ
+entry_of plan = if length plan.turns.items == 0 then name_or_empty plan.options.entry else []
+
+-- Which program of an object runs: what the plan says of that.
+pub record IsTargetOf (plan : Plan) (of : Contents) (target : Target) : Type 0 where
+  pub section : target.section.now ≡ name_or_empty plan.options.section
+  pub entry : target.entry.now ≡ entry_of plan
+  pub counts : texts target.counts.now ≡ texts plan.counts.items
+  pub turns : texts target.turns.now ≡ texts plan.turns.items
+  pub with : contents target.with.now ≡ of.with
+  pub stubs : target.stubs ≡ plan.options.stubs
+  pub as_compiled : target.as_compiled ≡ plan.options.as_compiled
+  pub packet : target.packet ≡ plan.options.packet
+
+-- It has the plan's subcommand and options, the name of FILE and its bytes, those of PATH, those of the other file, if there is one, and what says which
+-- program of an object runs.
 pub record IsJobOf (plan : Plan) (of : Contents) (job : Job) : Type 0 where
   pub subcommand : job.subcommand ≡ plan.subcommand
   pub name : job.name.now ≡ plan.file.now
   pub file : job.file.now ≡ of.file
   pub context : job.context.now ≡ of.context
   pub other : IsNamed plan.other of.other job.other
-  pub further : contents job.further.now ≡ of.further
+  pub target : IsTargetOf plan of job.target
   pub shapes : job.shapes ≡ None
   pub goals : job.goals ≡ None
   pub places : job.places ≡ None
   pub object : job.object ≡ None
-  pub options : job.options ≡ options_in (is_turned plan) plan.options
+  pub options : job.options ≡ plan.options

@@ -1,8 +1,6 @@
-pub mod Counts
 pub mod Done
 pub mod Files
 pub mod Tests
-pub mod Turns
 pub mod Jobs
 pub mod Telling
 pub mod Words

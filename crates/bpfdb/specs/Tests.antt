@@ -1,5 +1,6 @@
 -- The file of tests of a plan, whose sections may name files.
 use Rattle.std.specs.Prelude.{ℕ, ◌≡◌, ◌+◌, Bool, true, false, List, ◌++◌, codes, decimal, min, Option, Some}
+use Rattle.bpf_join.specs.declared.chain.ChainFault.{ChainFault}
 use Rattle.bpf_join.specs.declared.fault.JoinFault.{JoinFault}
 use Rattle.bpf_join.specs.declared.fault.JoinFault.TheVariants.{First, Second}
 use Rattle.bpf_suite.specs.Refusals.{text_of_refusal}
@@ -51,9 +52,13 @@ abbrev pub join_text : JoinFault → List ℕ → List ℕ
 join_text (First fault) names = object_text fault names
 join_text (Second fault) names = object_text fault names
 
+-- The line of an object that isn't linked.
+abbrev pub link_line : ChainFault → ℕ → List ℕ
+link_line told line = join_text told.fault told.names.items ++ object_end told.fault told.index line
+
 -- The line of each fault.
 abbrev pub files_line : FilesFault → List ℕ
 files_line (Section fault line) =
     text_of_refusal (codes "refused T") (named_fault fault).0 (codes " at line ") (Some line) (named_fault fault).1 ++ codes "\n"
-files_line (Link told line) = join_text told.fault told.names.items ++ object_end told.fault told.index line
+files_line (Link kept line) = link_line kept.value line
 files_line Memory = line_of job.Memory

@@ -1,20 +1,19 @@
 //! What is done of a command line, over any files, reader and writers.
-ghost use Rattle.std.specs.Prelude.{◌≤◌};
-ghost use Rattle.bpfdb.specs.Done.{DoesCounted, DoesHinted, DoesOver, DoesPlan, DoesReplaced, Helps};
+ghost use Rattle.std.specs.Prelude.{◌≡◌, ◌≤◌, true};
+ghost use Rattle.bpfdb.specs.Done.{DoesHinted, DoesPlan, DoesReplaced, Helps};
 ghost use Rattle.bpfdb.specs.Files.{contents_in};
 ghost use Rattle.bpfdb.specs.Jobs.{IsJobOf};
 ghost use Rattle.bpfdb.specs.Telling.{DoesTold, telling_of};
+ghost use Rattle.bpfdb.specs.Tests.{is_test};
 ghost use Rattle.bpfdb_jobs.specs.declared.job.Job.{Job};
 ghost use Rattle.bpfdb_limits.specs.Limits.{IsLimit};
 ghost use Rattle.counted_io.specs.Writing.{Writes};
 ghost use Rattle.bpfdb_faults.specs.Streams.{stream};
 
-use crate::counts::{counted_file, refuse_counts};
 use crate::files::{kind_of, read_each, read_given, read_named};
-use crate::job::{Loaded, is_turned, job_of};
+use crate::job::{Bytes, job_of};
 use crate::telling::{Telling, retold_tool, telling_of};
 use crate::tests::{is_test, place_of, refuse_tests};
-use crate::turns::{refuse_turns, turned_file};
 use bpfdb_cli::Plan;
 use bpfdb_faults::{JobFault, give_up};
 use bpfdb_files::{FileKind, Opener};
@@ -26,8 +25,9 @@ use std::io::{Read, Write};
 use suite_files::replaced;
 
 /// Reads the files of a plan, FILE before PATH is opened, that before the other one, and that before
-/// the further ones; then does its job. Where standard error is a terminal, the job's hint follows,
-/// if there is one. Answers the exit status.
+/// the objects with functions; then does its job. Where standard error is a terminal, the job's hint
+/// follows, if there is one. Answers the exit status.
+#[inline(never)]
 pub fn do_plan<F: Opener, R: Read, W: Write, E: Write>(
     alloc: Global,
     files: &F,
@@ -55,21 +55,21 @@ pub fn do_plan<F: Opener, R: Read, W: Write, E: Write>(
         Ok(other) => other,
         Err(fault) => return give_up(errors, &fault),
     };
-    let further = match read_each(alloc, files, plan.further.as_slice(), FileKind::Source) {
-        Ok(further) => further,
+    let with = match read_each(alloc, files, plan.with.as_slice(), FileKind::Source) {
+        Ok(with) => with,
         Err(fault) => return give_up(errors, &fault),
     };
-    let loaded = Loaded {
+    let bytes = Bytes {
         file: file.as_slice(),
         context: context.as_slice(),
         other: other.as_slice(),
-        further: further.as_slice(),
+        with: with.as_slice(),
     };
     do_replaced(
         alloc,
         files,
         plan,
-        &loaded,
+        &bytes,
         at_terminal,
         reader,
         writer,
@@ -83,109 +83,81 @@ fn do_replaced<F: Opener, R: Read, W: Write, E: Write>(
     alloc: Global,
     files: &F,
     plan: &Plan<'_>,
-    loaded: &Loaded<'_>,
+    bytes: &Bytes<'_>,
     at_terminal: bool,
     reader: &mut Counted<R>,
     writer: &mut Counted<W>,
     errors: &mut Counted<E>,
 ) -> u8
     requires limit { IsLimit plan.now.options.limit }
-    ensures does { DoesReplaced (F.bytes_at files.now) at_terminal plan.now (contents_in loaded.now)
+    ensures does { DoesReplaced (F.bytes_at files.now) at_terminal plan.now (contents_in bytes.now)
         (stream R.remaining reader.old reader.new) (stream W.contents writer.old writer.new)
         (stream E.contents errors.old errors.new) result }
     ensures status { result ≤ 2 }
 {
     if !is_test(plan.subcommand) {
-        return do_counted(alloc, plan, loaded, at_terminal, reader, writer, errors);
+        return do_job(alloc, plan, bytes, at_terminal, reader, writer, errors);
     }
-    let tests = match replaced(alloc, files, &place_of(plan), loaded.file) {
+    do_tests(
+        alloc,
+        files,
+        plan,
+        bytes,
+        at_terminal,
+        reader,
+        writer,
+        errors,
+    )
+}
+
+/// Does a plan of tests over the file in which what sections name is put in their place. What that
+/// needs of the stack other plans don't need.
+#[inline(never)]
+fn do_tests<F: Opener, R: Read, W: Write, E: Write>(
+    alloc: Global,
+    files: &F,
+    plan: &Plan<'_>,
+    bytes: &Bytes<'_>,
+    at_terminal: bool,
+    reader: &mut Counted<R>,
+    writer: &mut Counted<W>,
+    errors: &mut Counted<E>,
+) -> u8
+    requires limit { IsLimit plan.now.options.limit }
+    requires tests { is_test plan.now.subcommand ≡ true }
+    ensures does { DoesReplaced (F.bytes_at files.now) at_terminal plan.now (contents_in bytes.now)
+        (stream R.remaining reader.old reader.new) (stream W.contents writer.old writer.new)
+        (stream E.contents errors.old errors.new) result }
+    ensures status { result ≤ 2 }
+{
+    let tests = match replaced(alloc, files, &place_of(plan), bytes.file) {
         Ok(tests) => tests,
         Err(fault) => return refuse_tests(&fault, errors),
     };
-    let tested = Loaded {
+    let tested = Bytes {
         file: tests.as_slice(),
-        ..*loaded
+        ..*bytes
     };
-    do_counted(alloc, plan, &tested, at_terminal, reader, writer, errors)
-}
-
-/// Does a plan with the bytes of its files: FILE as it is, or with other entries of its maps.
-fn do_counted<R: Read, W: Write, E: Write>(
-    alloc: Global,
-    plan: &Plan<'_>,
-    loaded: &Loaded<'_>,
-    at_terminal: bool,
-    reader: &mut Counted<R>,
-    writer: &mut Counted<W>,
-    errors: &mut Counted<E>,
-) -> u8
-    requires limit { IsLimit plan.now.options.limit }
-    ensures does { DoesCounted at_terminal plan.now (contents_in loaded.now)
-        (stream R.remaining reader.old reader.new)
-        (stream W.contents writer.old writer.new) (stream E.contents errors.old errors.new) result }
-    ensures status { result ≤ 2 }
-{
-    if plan.counts.is_empty() {
-        return do_over_file(alloc, plan, loaded, at_terminal, reader, writer, errors);
-    }
-    let bytes = match counted_file(alloc, plan, loaded.file) {
-        Ok(bytes) => bytes,
-        Err(fault) => return refuse_counts(plan, loaded.file, fault, errors),
-    };
-    let counted = Loaded {
-        file: bytes.as_slice(),
-        ..*loaded
-    };
-    do_over_file(alloc, plan, &counted, at_terminal, reader, writer, errors)
-}
-
-/// Does a plan with the bytes of its files: over FILE, or over the object of programs in turn.
-fn do_over_file<R: Read, W: Write, E: Write>(
-    alloc: Global,
-    plan: &Plan<'_>,
-    loaded: &Loaded<'_>,
-    at_terminal: bool,
-    reader: &mut Counted<R>,
-    writer: &mut Counted<W>,
-    errors: &mut Counted<E>,
-) -> u8
-    requires limit { IsLimit plan.now.options.limit }
-    ensures does { DoesOver at_terminal plan.now (contents_in loaded.now)
-        (stream R.remaining reader.old reader.new)
-        (stream W.contents writer.old writer.new) (stream E.contents errors.old errors.new) result }
-    ensures status { result ≤ 2 }
-{
-    if !is_turned(plan) {
-        return do_job(alloc, plan, loaded, at_terminal, reader, writer, errors);
-    }
-    let bytes = match turned_file(alloc, plan, loaded.file) {
-        Ok(bytes) => bytes,
-        Err(fault) => return refuse_turns(plan, loaded.file, fault, errors),
-    };
-    let turned = Loaded {
-        file: bytes.as_slice(),
-        ..*loaded
-    };
-    do_job(alloc, plan, &turned, at_terminal, reader, writer, errors)
+    do_job(alloc, plan, &tested, at_terminal, reader, writer, errors)
 }
 
 /// Does the job of a plan, with the bytes of its files, and adds its hint.
 fn do_job<R: Read, W: Write, E: Write>(
     alloc: Global,
     plan: &Plan<'_>,
-    loaded: &Loaded<'_>,
+    bytes: &Bytes<'_>,
     at_terminal: bool,
     reader: &mut Counted<R>,
     writer: &mut Counted<W>,
     errors: &mut Counted<E>,
 ) -> u8
     requires limit { IsLimit plan.now.options.limit }
-    ensures does { (job : Job) × IsJobOf plan.now (contents_in loaded.now) job
+    ensures does { (job : Job) × IsJobOf plan.now (contents_in bytes.now) job
         × DoesHinted at_terminal (telling_of plan.now) job (stream R.remaining reader.old reader.new)
         (stream W.contents writer.old writer.new) (stream E.contents errors.old errors.new) result }
     ensures status { result ≤ 2 }
 {
-    let job = job_of(plan, loaded);
+    let job = job_of(plan, bytes);
     let status = told_tool(alloc, telling_of(plan), &job, reader, writer, errors);
     add_hint(alloc, &job, at_terminal, status, errors);
     status

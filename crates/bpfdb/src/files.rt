@@ -1,6 +1,7 @@
 //! FILE, PATH and the other file: files by their names.
 ghost use Rattle.std.specs.Prelude.{◌≡◌, IfErr, IfOk, Some, length};
-ghost use Rattle.bpfdb.specs.Files.{GivesFirst, GivesNamed, Names, NamesGiven, NamesOne, contents, kind_of, texts};
+ghost use Rattle.bpfdb.specs.Files.{GivesFirst, GivesNamed, Names, NamesGiven, NamesOne, kind_of};
+ghost use Rattle.bpf_load.specs.Targets.{contents, texts};
 ghost use Rattle.bpfdb_files.specs.Reading.{Gives};
 
 use bpfdb_cli::Plan;

@@ -1,71 +1,81 @@
 //! The job of a plan.
 ghost use Rattle.std.specs.Prelude.{◌≡◌};
 ghost use Rattle.bpfdb.specs.Files.{contents_in};
-ghost use Rattle.bpfdb.specs.Jobs.{IsJobOf, options_in};
-ghost use Rattle.bpfdb.specs.Turns.{is_turned};
+ghost use Rattle.bpfdb.specs.Jobs.{IsJobOf, IsTargetOf, entry_of, name_or_empty};
 
+use bpf_load::Target;
 use bpfdb_cli::Plan;
 use bpfdb_jobs::Job;
-use bpfdb_options::Options;
-use input_texts::has_place;
 
 /// What was read of the files of a plan.
 #[derive(Clone, Copy)]
-pub struct Loaded<'a> {
-    /// The bytes of FILE, or of the object of programs in turn.
+pub struct Bytes<'a> {
+    /// Those of FILE.
     pub file: &'a [u8],
     /// Those of PATH.
     pub context: &'a [u8],
     /// Those of the other file; none where there isn't one.
     pub other: &'a [u8],
-    /// Those of the further ones.
-    pub further: &'a [Vec<u8>],
+    /// Those of the objects with functions.
+    pub with: &'a [Vec<u8>],
 }
 
 /// The job of a plan, with the bytes of its files.
-pub fn job_of<'a>(plan: &Plan<'a>, loaded: &Loaded<'a>) -> Job<'a>
-    ensures { IsJobOf plan.now (contents_in loaded.now) result }
+pub fn job_of<'a>(plan: &'a Plan<'a>, bytes: &Bytes<'a>) -> Job<'a>
+    ensures { IsJobOf plan.now (contents_in bytes.now) result }
 {
     Job {
         subcommand: plan.subcommand,
         name: plan.file,
-        file: loaded.file,
-        context: loaded.context,
+        file: bytes.file,
+        context: bytes.context,
         other: match plan.other {
-            Some(_) => Some(loaded.other),
+            Some(_) => Some(bytes.other),
             None => None,
         },
-        further: loaded.further,
+        target: target_of(plan, bytes),
         shapes: None,
         goals: None,
         places: None,
         object: None,
-        options: options_of(plan),
+        options: plan.options,
     }
 }
 
-/// Whether a plan names programs in turn.
-pub fn is_turned(plan: &Plan<'_>) -> bool
-    ensures { result ≡ is_turned plan.now }
+/// Which program of an object runs.
+fn target_of<'a>(plan: &'a Plan<'a>, bytes: &Bytes<'a>) -> Target<'a>
+    ensures { IsTargetOf plan.now (contents_in bytes.now) result }
 {
-    if !plan.turns.is_empty() {
-        return true;
-    }
-    match plan.options.entry {
-        Some(entry) => has_place(entry.as_bytes()),
-        None => false,
+    Target {
+        section: name_or_empty(plan.options.section),
+        entry: entry_of(plan),
+        counts: plan.counts.as_slice(),
+        turns: plan.turns.as_slice(),
+        with: bytes.with,
+        stubs: plan.options.stubs,
+        as_compiled: plan.options.as_compiled,
+        packet: plan.options.packet,
     }
 }
 
-/// The options of a plan's job: those of the plan, but for the entry of programs in turn.
-fn options_of<'a>(plan: &Plan<'a>) -> Options<'a>
-    ensures { result ≡ options_in (is_turned plan.now) plan.now.options }
+/// A name, empty where there is none.
+fn name_or_empty(name: Option<&str>) -> &[u8]
+    ensures { result.now ≡ name_or_empty name.entry }
 {
-    if is_turned(plan) {
-        return Options {
-            entry: None,
-            ..plan.options
-        };
+    match name {
+        Some(name) => name.as_bytes(),
+        None => b"",
     }
-    plan.options
+}
+
+/// The name of the entry: empty where programs are called in turn, since that of their object is its
+/// only one.
+fn entry_of<'a>(plan: &Plan<'a>) -> &'a [u8]
+    ensures { result.now ≡ entry_of plan.now }
+{
+    if plan.turns.is_empty() {
+        name_or_empty(plan.options.entry)
+    } else {
+        b""
+    }
 }

@@ -8,7 +8,6 @@ ghost use Rattle.bpfdb_cli.specs.Plans.{status_of};
 ghost use Rattle.bpfdb_limits.specs.Limits.{IsLimit};
 ghost use Rattle.bpfdb_options.specs.declared.subcommand.Subcommand.TheVariants.{Debug};
 
-mod counts;
 mod doing;
 mod files;
 mod input;
@@ -17,7 +16,6 @@ mod opening;
 mod prompt;
 mod telling;
 mod tests;
-mod turns;
 mod words;
 
 use bpfdb_cli::{Plan, PlanFault, plan};
@@ -81,6 +79,7 @@ fn obey_words(rt: &HostRuntime, words: &[String], errors: &mut Errors) -> u8
 }
 
 /// Shows help on standard output, and what is wrong with these words on standard error.
+#[inline(never)]
 fn show(rt: &HostRuntime, words: &[String], fault: &PlanFault, errors: &mut Errors) -> u8
     ensures value { result ≢ 2 → result ≡ status_of fault.now }
     ensures status { result ≤ 2 }
@@ -132,7 +131,9 @@ fn write_mistake(rt: &HostRuntime, text: &Error, errors: &mut Errors) -> u8
 /// Calls that the system interrupts are made again, below the buffers.
 ///
 /// The input is read in large pieces, so a program that reads on behind `quit` in the same pipe
-/// finds less than the script left there, mostly nothing.
+/// finds less than the script left there, mostly nothing. The system's reader has its buffer in itself,
+/// and is lent, so that there is one of it on the stack.
+#[inline(never)]
 fn do_over_streams<F: Opener>(
     rt: &HostRuntime,
     files: &F,
@@ -154,14 +155,14 @@ fn do_over_streams<F: Opener>(
         return do_over(rt, files, plan, &mut reader, &mut writer, errors);
     }
     if is_typed(rt, plan) {
-        let input = Prompting::new(input, Retrying::new(rt.stderr()), greeting);
+        let input = Prompting::new(&mut input, Retrying::new(rt.stderr()), greeting);
         let Ok(input) = BufReader::new(rt.alloc(), input) else {
             return give_up(errors, &JobFault::Memory);
         };
         let mut reader = Counted::new(input);
         return do_over(rt, files, plan, &mut reader, &mut writer, errors);
     }
-    let Ok(input) = BufReader::new(rt.alloc(), input) else {
+    let Ok(input) = BufReader::new(rt.alloc(), &mut input) else {
         return give_up(errors, &JobFault::Memory);
     };
     let mut reader = Counted::new(input);

@@ -54,7 +54,7 @@ pub fn first_plan() -> Plan<'static>
         file: "",
         memory: None,
         other: None,
-        further: ArrayVec::new(),
+        with: ArrayVec::new(),
         turns: ArrayVec::new(),
         counts: ArrayVec::new(),
         options: NO_OPTIONS,

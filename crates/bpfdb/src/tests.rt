@@ -1,6 +1,6 @@
 //! The file of tests of a plan, whose sections may name files.
 ghost use Rattle.std.specs.Prelude.{◌≡◌};
-ghost use Rattle.bpfdb.specs.Tests.{IsPlaceOf, files_line, is_test, join_text, object_end};
+ghost use Rattle.bpfdb.specs.Tests.{IsPlaceOf, files_line, is_test, join_text, link_line, object_end};
 ghost use Rattle.bpfdb_faults.specs.Streams.{Told, stream};
 ghost use Rattle.counted_io.specs.Writing.{Writes, WritesAfter};
 
@@ -101,7 +101,7 @@ fn tell_link<E: Write>(
     told: &ChainFault,
     line: usize,
 ) -> Result<(), WriteFault>
-    ensures { Writes E.contents errors.old errors.new result (files_line (FilesFault.Link told.now line)) }
+    ensures { Writes E.contents errors.old errors.new result (link_line told.now line) }
 {
     let said = put_link(errors, told);
     let ended = put_end(errors, said, told, line);
@@ -114,7 +114,7 @@ fn tell_fault<E: Write>(errors: &mut Counted<E>, fault: &FilesFault) -> Result<(
 {
     match fault {
         FilesFault::Section(fault, line) => tell_section(errors, *fault, *line),
-        FilesFault::Link(told, line) => tell_link(errors, told, *line),
+        FilesFault::Link(kept, line) => tell_link(errors, kept.as_ref(), *line),
         FilesFault::Memory => tell(errors, &JobFault::Memory),
     }
 }

@@ -193,7 +193,8 @@ shared_file_rule = record (new_rule (codes "file")) { value_names = 1; defaults 
 
 -- What is asked of the link of an object.
 abbrev pub with_link_rules : App → App
-with_link_rules app = with_rule (with_rule (with_rule (with_rule (with_rule app section_rule) entry_rule) entries_rule) stub_rule) as_compiled_rule
+with_link_rules app = with_rule (with_rule (with_rule (with_rule (with_rule (with_rule (with_rule app
+    section_rule) entry_rule) entries_rule) stub_rule) as_compiled_rule) packet_rule) with_functions_rule
 
 -- What FILE may be besides words: a listing, or an object.
 abbrev pub with_file_kinds : App → App
@@ -219,13 +220,13 @@ abbrev pub disasm_app : App
 disasm_app = with_rule (with_rule (with_file_kinds (with_rule (new_app (codes "disasm")) maps_rule)) json_rule) file_rule
 
 abbrev pub lines_app : App
-lines_app = with_rule (with_rule (with_rule (with_link_rules (with_rule (new_app (codes "lines")) object_rule)) with_functions_rule) json_rule) file_rule
+lines_app = with_rule (with_rule (with_link_rules (with_rule (new_app (codes "lines")) object_rule)) json_rule) file_rule
 
 abbrev pub check_app : App
 check_app = with_rule (with_rule (with_file_kinds (with_rule (new_app (codes "check")) maps_rule)) json_rule) file_rule
 
 abbrev pub link_app : App
-link_app = with_rule (with_rule (with_rule (with_rule (with_link_rules (new_app (codes "link"))) packet_rule) with_functions_rule) joined_rule) file_rule
+link_app = with_rule (with_rule (with_link_rules (new_app (codes "link"))) joined_rule) file_rule
 
 abbrev pub test_app : App
 test_app = with_rule (with_rule (with_rule (with_rule (with_rule (with_rule (with_rule (new_app (codes "test"))

@@ -1,5 +1,5 @@
 -- What a plan says, by what `clap`'s exact matches give for the words.
-use Rattle.std.specs.Prelude.{◌≡◌, ◌⊎◌, ◌<◌, ◌≤◌, ◌^◌, ◌||◌, ◌&&◌, ℕ, Bool, true, false, not, if◌then◌else◌, List, [], Option, Some, None, is_some, option_map, unwrap_or, codes, drop, length, map, nat_le}
+use Rattle.std.specs.Prelude.{◌≡◌, ◌⊎◌, ◌<◌, ◌≤◌, ◌^◌, ◌||◌, ◌&&◌, ℕ, Bool, true, false, not, if◌then◌else◌, List, [], Option, Some, None, is_some, option_map, unwrap_or, codes, length, map, nat_le}
 use Rattle.std.specs.List.{list_all}
 use Rattle.std.specs.Option.{option_map_or}
 use Rattle.std.specs.Str.{bytes_eq}
@@ -17,7 +17,7 @@ use Rattle.bpf_packet.specs.declared.packet.Packet.{Packet}
 use Rattle.input_texts.specs.Counts.{are_counts}
 use Rattle.input_texts.specs.Turns.{has_place, offset_in}
 use Rattle.bpfdb_limits.specs.Limits.{IsLimit, default_journal, default_limit, greatest_count}
-use Rattle.bpfdb_options.specs.Lines.{default_lines, most_further}
+use Rattle.bpfdb_options.specs.Lines.{default_lines}
 use Rattle.bpfdb_options.specs.Registers.{registers_name}
 use Rattle.bpfdb_options.specs.Subcommands.{subcommand_name}
 use Rattle.bpfdb_options.specs.TestParts.{test_part_name}
@@ -84,33 +84,35 @@ pub record Chooses (rows : List Row) (options : Options) : Type 0 where
   pub tracefile : options.is_tracefile ≡ is_given (first_of (codes "cover-info") rows)
   pub anywhere : options.anywhere ≡ is_given (first_of (codes "anywhere") rows)
 
--- The other file: a script, an object with functions, a trace, a second context or a second program. No subcommand takes two of them but `diff`,
--- and none is given both.
+-- The other file: a script, a trace, a second context or a second program. No subcommand takes two of them but `diff`, and none is given both.
 abbrev pub given_or : Option Text → Option Text → Option Text
 given_or (Some text) other = Some text
 given_or None other = other
 
 abbrev pub other_in : List Row → Option Text
-other_in rows = given_or (given_or (first_of (codes "script") rows) (first_of (codes "with") rows))
+other_in rows = given_or (first_of (codes "script") rows)
     (given_or (first_of (codes "trace") rows) (given_or (first_of (codes "other-mem") rows) (first_of (codes "other") rows)))
 
--- What an option says behind the first time: objects behind the first one, by `--with`, and programs in turn, by `--entry`.
-abbrev pub further_in : Text → List Row → List Text
-further_in id rows = drop 1 (unwrap_or (all_of id rows) [])
+-- What an option says each time that it is given: at most so often.
+abbrev pub most_texts : ℕ
+most_texts = 16
+
+abbrev pub texts_in : Text → List Row → List Text
+texts_in id rows = unwrap_or (all_of id rows) []
 
 -- What stands behind an `@` of `--entry` is a number, at most 65,535.
 abbrev pub has_offset : Text → Bool
 has_offset text = is_some (offset_in text)
 
 abbrev pub entries_fit : List Row → Bool
-entries_fit rows = list_all has_offset (unwrap_or (all_of (codes "entry") rows) [])
+entries_fit rows = list_all has_offset (texts_in (codes "entry") rows)
 
--- What `--entries` says each time: numbers of entries, each of a map of its own. It comes at most so often.
-abbrev pub most_counts : ℕ
-most_counts = 16
+-- Programs are called in turn where `--entry` names several, or says of the one where its context lies.
+abbrev pub names_one : List Text → Bool
+names_one entries = nat_le (length entries) 1 && list_all (λ text. not (has_place text)) entries
 
-abbrev pub counts_in : List Row → List Text
-counts_in rows = unwrap_or (all_of (codes "entries") rows) []
+abbrev pub turns_in : List Row → List Text
+turns_in rows = if names_one (texts_in (codes "entry") rows) then [] else texts_in (codes "entry") rows
 
 -- A plan says what they say.
 pub record Says (name : Text) (rows : List Row) (plan : Plan) : Type 0 where
@@ -118,12 +120,12 @@ pub record Says (name : Text) (rows : List Row) (plan : Plan) : Type 0 where
   pub file : first_of (codes "file") rows ≡ Some plan.file.now
   pub memory : option_map (λ s. s.now) plan.memory ≡ first_of (codes "mem") rows
   pub other : option_map (λ s. s.now) plan.other ≡ other_in rows
-  pub further : map (λ s. s.now) plan.further.items ≡ further_in (codes "with") rows
-  pub few : length (further_in (codes "with") rows) ≤ most_further
-  pub turns : map (λ s. s.now) plan.turns.items ≡ further_in (codes "entry") rows
-  pub few_turns : length (further_in (codes "entry") rows) ≤ most_further
-  pub counts : map (λ s. s.now) plan.counts.items ≡ counts_in rows
-  pub few_counts : length (counts_in rows) ≤ most_counts
+  pub with : map (λ s. s.now) plan.with.items ≡ texts_in (codes "with") rows
+  pub few : length (texts_in (codes "with") rows) ≤ most_texts
+  pub turns : map (λ s. s.now) plan.turns.items ≡ turns_in rows
+  pub few_turns : length (turns_in rows) ≤ most_texts
+  pub counts : map (λ s. s.now) plan.counts.items ≡ texts_in (codes "entries") rows
+  pub few_counts : length (texts_in (codes "entries") rows) ≤ most_texts
   pub options : Chooses rows plan.options
   pub json : plan.json ≡ is_given (first_of (codes "json") rows)
   pub dot : plan.dot ≡ is_given (first_of (codes "dot") rows)
@@ -146,8 +148,8 @@ pub record AreInRange (rows : List Row) (options : Options) : Type 0 where
 -- Something is asked of the link of an object.
 abbrev pub asks_of_link : List Row → Bool
 asks_of_link rows = is_some (first_of (codes "section") rows) || (is_some (first_of (codes "entry") rows)
-    || (is_some (first_of (codes "stub") rows) || (is_given (first_of (codes "as-compiled") rows) || (is_some (first_of (codes "with") rows)
-    || is_some (first_of (codes "entries") rows)))))
+    || (is_some (first_of (codes "stub") rows) || (is_given (first_of (codes "as-compiled") rows) || (is_some (first_of (codes "packet") rows)
+    || (is_some (first_of (codes "with") rows) || is_some (first_of (codes "entries") rows))))))
 
 -- One other side is named: by a second context, or by a trace; or by a second program, which isn't linked.
 abbrev pub names_side : List Row → Bool
@@ -189,12 +191,9 @@ is_json_graph rows = is_given (first_of (codes "dot") rows) && is_given (first_o
 
 -- `--joined` writes the object that something makes of FILE: others that are joined to it, other entries of its maps, or programs in turn.
 -- That of a packet's program isn't written.
-abbrev pub names_one : List Text → Bool
-names_one entries = nat_le (length entries) 1 && list_all (λ text. not (has_place text)) entries
-
 abbrev pub joins_nothing : List Row → Bool
 joins_nothing rows = is_given (first_of (codes "joined") rows) && (not (is_some (first_of (codes "with") rows))
-    && (not (is_some (first_of (codes "entries") rows)) && names_one (unwrap_or (all_of (codes "entry") rows) [])))
+    && (not (is_some (first_of (codes "entries") rows)) && names_one (texts_in (codes "entry") rows)))
 
 abbrev pub joins_packet : List Row → Bool
 joins_packet rows = is_given (first_of (codes "joined") rows) && is_some (first_of (codes "packet") rows)
@@ -209,7 +208,7 @@ abbrev pub told_fits : Text → List Row → Bool
 told_fits name rows = not (shows_json rows) && (not (is_json_tracefile rows) && graph_fits name rows)
 
 abbrev pub go_together : Text → List Row → Bool
-go_together name rows = entries_fit rows && (are_counts (counts_in rows) && (not (counts_strictly rows) && told_fits name rows))
+go_together name rows = entries_fit rows && (are_counts (texts_in (codes "entries") rows) && (not (counts_strictly rows) && told_fits name rows))
 
 -- A plan says what a subcommand's matches say, with numbers in their ranges and options that go together.
 pub record IsPlanOf (name : Text) (rows : List Row) (plan : Plan) : Type 0 where

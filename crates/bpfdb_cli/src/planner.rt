@@ -6,16 +6,15 @@ ghost use Rattle.input_texts.specs.Counts.{are_counts};
 ghost use Rattle.input_texts.specs.Turns.{has_place};
 ghost use Rattle.clap.specs.Words.{Row, Text, all_of, first_of, found_of, rows_of, subcommand_rows_of};
 ghost use Rattle.bpfdb_limits.specs.Limits.{IsLimit};
-ghost use Rattle.bpfdb_options.specs.Lines.{most_further};
 ghost use Rattle.bpfdb_cli.specs.Scaffolding.{AskAlike};
-ghost use Rattle.bpfdb_cli.specs.Plans.{AreInRange, Chooses, HasKindIfTold, IsFaultOf, IsNumber, IsPlan, IsPlanOf, NamesPart, NamesRegisters, Says, Tells, asks_of_link, counts_strictly, go_together, is_given, joins_nothing, joins_packet, names_one, object_fits, link_fits, names_other, number_or, other_in, run_fits, given_or, NamesPacket, counts_in, entries_fit, further_in, has_offset, graph_fits, is_json_graph, is_json_tracefile, most_counts, names_side, writes_fit, shows_json, told_fits};
+ghost use Rattle.bpfdb_cli.specs.Plans.{AreInRange, Chooses, HasKindIfTold, IsFaultOf, IsNumber, IsPlan, IsPlanOf, NamesPart, NamesRegisters, Says, Tells, asks_of_link, counts_strictly, go_together, is_given, joins_nothing, joins_packet, names_one, object_fits, link_fits, names_other, number_or, other_in, run_fits, given_or, NamesPacket, entries_fit, has_offset, graph_fits, is_json_graph, is_json_tracefile, most_texts, names_side, writes_fit, shows_json, texts_in, told_fits, turns_in};
 
 use crate::command_line::command_line;
-use crate::plans::{MOST_COUNTS, Plan, PlanFault};
+use crate::plans::{MOST_TEXTS, Plan, PlanFault};
 use arrayvec::ArrayVec;
 use bpf_packet::Packet;
 use bpfdb_limits::{DEFAULT_JOURNAL, DEFAULT_LIMIT, GREATEST_COUNT, is_limit};
-use bpfdb_options::{DEFAULT_LINES, MOST_FURTHER, Options, Registers, Subcommand, TestPart};
+use bpfdb_options::{DEFAULT_LINES, Options, Registers, Subcommand, TestPart};
 use clap::error::ErrorKind;
 use clap::{ArgMatches, Command, Error};
 use input_texts::{are_counts, has_place, offset_in};
@@ -69,9 +68,7 @@ const BAD_COUNT: &str =
     "each '--entries <NAME=N>' names a map of its own, and N is a number, 1 to 4294967295";
 
 const NO_OBJECT: &str =
-    "'--section', '--entry', '--entries', '--stub' and '--as-compiled' need '--object'";
-
-const WITH_NO_OBJECT: &str = "'--with' needs '--object'";
+    "'--section', '--entry', '--entries', '--stub', '--as-compiled', '--packet' and '--with' need '--object'";
 
 /// The plan of a command line, of which the first word is the program's name.
 pub fn plan<'a>(alloc: Global, words: &'a [&'a str]) -> Result<Plan<'a>, PlanFault>
@@ -173,13 +170,13 @@ fn plan_in<'a>(name: &'a str, found: &ArgMatches<'a>) -> Result<Plan<'a>, &'stat
         Some(why) => return Err(why),
         None => {}
     }
-    let Some(further) = further_of(found, "with") else {
+    let Some(with) = texts_of(found, "with") else {
         return Err(MANY_OBJECTS);
     };
-    let Some(turns) = further_of(found, "entry") else {
+    let Some(turns) = turns_of(found) else {
         return Err(MANY_ENTRIES);
     };
-    let Some(counts) = counts_of(found) else {
+    let Some(counts) = texts_of(found, "entries") else {
         return Err(MANY_COUNTS);
     };
     Ok(Plan {
@@ -187,7 +184,7 @@ fn plan_in<'a>(name: &'a str, found: &ArgMatches<'a>) -> Result<Plan<'a>, &'stat
         file,
         memory: text_of(found, "mem"),
         other: other_of(found),
-        further,
+        with,
         turns,
         counts,
         options,
@@ -277,7 +274,7 @@ fn joins_packet(found: &ArgMatches<'_>) -> bool
 
 /// Whether no programs are called in turn.
 fn has_one_entry(found: &ArgMatches<'_>) -> bool
-    ensures { result ≡ names_one (unwrap_or (all_of (codes "entry") (rows_of (found_of found.now))) []) }
+    ensures { result ≡ names_one (texts_in (codes "entry") (rows_of (found_of found.now))) }
 {
     match found.get_strs("entry") {
         Some(texts) => is_one(texts),
@@ -378,7 +375,7 @@ fn have_offsets(texts: &[&str]) -> bool
 
 /// Whether numbers of entries are such, each of a map of its own.
 fn counts_fit(found: &ArgMatches<'_>) -> bool
-    ensures { result ≡ are_counts (counts_in (rows_of (found_of found.now))) }
+    ensures { result ≡ are_counts (texts_in (codes "entries") (rows_of (found_of found.now))) }
 {
     match found.get_strs("entries") {
         Some(texts) => are_counts(texts),
@@ -432,7 +429,7 @@ fn misfit_of_link(name: &str, found: &ArgMatches<'_>) -> Option<&'static str>
     } else if name == "link" {
         None
     } else if asks_of_link(found) {
-        Some(without_object(found))
+        Some(NO_OBJECT)
     } else {
         None
     }
@@ -452,22 +449,14 @@ fn misfit_with_object(found: &ArgMatches<'_>) -> Option<&'static str>
     }
 }
 
-/// What is said of something that is asked of a link where no object is linked.
-fn without_object(found: &ArgMatches<'_>) -> &'static str {
-    if has_text(found, "with") {
-        WITH_NO_OBJECT
-    } else {
-        NO_OBJECT
-    }
-}
-
 /// Whether something is asked of the link of an object.
 fn asks_of_link(found: &ArgMatches<'_>) -> bool
     ensures { result ≡ asks_of_link (rows_of (found_of found.now)) }
 {
     let chooses = has_text(found, "section") || has_text(found, "entry");
     let adds = has_text(found, "with") || has_text(found, "entries");
-    let leaves = is_given(found, "as-compiled") || adds;
+    let fits = has_text(found, "packet") || adds;
+    let leaves = is_given(found, "as-compiled") || fits;
     chooses || (has_text(found, "stub") || leaves)
 }
 
@@ -521,17 +510,14 @@ fn options_in<'a>(found: &ArgMatches<'a>) -> Option<Options<'a>>
     })
 }
 
-/// The path of the other file: of the script, of the object with functions, of the trace, of the
-/// second context or of the second program.
+/// The path of the other file: of the script, of the trace, of the second context or of the second
+/// program.
 fn other_of<'a>(found: &ArgMatches<'a>) -> Option<&'a str>
     ensures { option_map (λ text. text.now) result ≡ other_in (rows_of (found_of found.now)) }
 {
     match text_of(found, "script") {
         Some(path) => Some(path),
-        None => match text_of(found, "with") {
-            Some(path) => Some(path),
-            None => second_of(found),
-        },
+        None => second_of(found),
     }
 }
 
@@ -601,59 +587,44 @@ fn text_of<'a>(found: &ArgMatches<'a>, id: &str) -> Option<&'a str>
     found.get_str(id)
 }
 
-/// What an option says behind the first time. None where that is too much.
-fn further_of<'a>(found: &ArgMatches<'a>, id: &str) -> Option<ArrayVec<&'a str, MOST_FURTHER>>
-    ensures found { IfSome result (λ further. map (λ path. path.now) further.items
-        ≡ further_in id.now (rows_of (found_of found.now))) }
-    ensures few { OnSome result (length (further_in id.now (rows_of (found_of found.now))) ≤ most_further) }
-    ensures none { IfNone result (most_further < length (further_in id.now (rows_of (found_of found.now)))) }
+/// What an option says each time. None where that is too often.
+fn texts_of<'a>(found: &ArgMatches<'a>, id: &str) -> Option<ArrayVec<&'a str, MOST_TEXTS>>
+    ensures found { IfSome result (λ all. map (λ text. text.now) all.items
+        ≡ texts_in id.now (rows_of (found_of found.now))) }
+    ensures few { OnSome result (length (texts_in id.now (rows_of (found_of found.now))) ≤ most_texts) }
+    ensures none { IfNone result (most_texts < length (texts_in id.now (rows_of (found_of found.now)))) }
 {
     match found.get_strs(id) {
-        Some(paths) => behind_first(paths),
-        None => Some(ArrayVec::new()),
-    }
-}
-
-/// The texts behind the first one. None where they are too many.
-fn behind_first<'a>(texts: &[&'a str]) -> Option<ArrayVec<&'a str, MOST_FURTHER>>
-    ensures found { IfSome result (λ further. further.items ≡ drop 1 texts.now) }
-    ensures few { OnSome result (length (drop 1 texts.now) ≤ most_further) }
-    ensures none { IfNone result (most_further < length (drop 1 texts.now)) }
-{
-    let behind = &texts[texts.len().min(1)..];
-    if behind.len() > MOST_FURTHER {
-        return None;
-    }
-    let mut further = ArrayVec::new();
-    let _all = further.try_extend_from_slice(behind);
-    Some(further)
-}
-
-/// How many entries maps have. None where these are too many.
-fn counts_of<'a>(found: &ArgMatches<'a>) -> Option<ArrayVec<&'a str, MOST_COUNTS>>
-    ensures found { IfSome result (λ counts. map (λ text. text.now) counts.items
-        ≡ counts_in (rows_of (found_of found.now))) }
-    ensures few { OnSome result (length (counts_in (rows_of (found_of found.now))) ≤ most_counts) }
-    ensures none { IfNone result (most_counts < length (counts_in (rows_of (found_of found.now)))) }
-{
-    match found.get_strs("entries") {
-        Some(texts) => all_counts(texts),
+        Some(texts) => few_texts(texts),
         None => Some(ArrayVec::new()),
     }
 }
 
 /// The texts. None where they are too many.
-fn all_counts<'a>(texts: &[&'a str]) -> Option<ArrayVec<&'a str, MOST_COUNTS>>
-    ensures found { IfSome result (λ counts. counts.items ≡ texts.now) }
-    ensures few { OnSome result (length texts.now ≤ most_counts) }
-    ensures none { IfNone result (most_counts < length texts.now) }
+fn few_texts<'a>(texts: &[&'a str]) -> Option<ArrayVec<&'a str, MOST_TEXTS>>
+    ensures found { IfSome result (λ all. all.items ≡ texts.now) }
+    ensures few { OnSome result (length texts.now ≤ most_texts) }
+    ensures none { IfNone result (most_texts < length texts.now) }
 {
-    if texts.len() > MOST_COUNTS {
+    if texts.len() > MOST_TEXTS {
         return None;
     }
-    let mut counts = ArrayVec::new();
-    let _all = counts.try_extend_from_slice(texts);
-    Some(counts)
+    let mut all = ArrayVec::new();
+    let _all = all.try_extend_from_slice(texts);
+    Some(all)
+}
+
+/// The programs in turn: none where there is one. None where they are too many.
+fn turns_of<'a>(found: &ArgMatches<'a>) -> Option<ArrayVec<&'a str, MOST_TEXTS>>
+    ensures found { IfSome result (λ turns. map (λ text. text.now) turns.items
+        ≡ turns_in (rows_of (found_of found.now))) }
+    ensures few { OnSome result (length (turns_in (rows_of (found_of found.now))) ≤ most_texts) }
+    ensures none { IfNone result (most_texts < length (turns_in (rows_of (found_of found.now)))) }
+{
+    if has_one_entry(found) {
+        return Some(ArrayVec::new());
+    }
+    texts_of(found, "entry")
 }
 
 /// The number of an option; None where its text is no number below 2^64.

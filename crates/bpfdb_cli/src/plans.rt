@@ -3,12 +3,12 @@ ghost use Rattle.std.specs.Prelude.{◌≡◌};
 ghost use Rattle.bpfdb_cli.specs.Plans.{status_of};
 
 use arrayvec::ArrayVec;
-use bpfdb_options::{MOST_FURTHER, Options, Subcommand};
+use bpfdb_options::{Options, Subcommand};
 use clap::Error;
 use clap::error::ErrorKind;
 
-/// The most maps that are told how many entries they have.
-pub const MOST_COUNTS: usize = 16;
+/// The most times that an option is given which may be given more than once.
+pub const MOST_TEXTS: usize = 16;
 
 /// What a command line asks for.
 #[derive(Drop)]
@@ -18,17 +18,16 @@ pub struct Plan<'a> {
     pub file: &'a str,
     /// The path of the file whose bytes are the context; without one the context is empty.
     pub memory: Option<&'a str>,
-    /// The path of the other file: of the script that is obeyed before `origin` asks, of the
-    /// object with functions that `link` joins to FILE, or of the second program or context of
-    /// `diff`, or of its trace.
+    /// The path of the other file: of the script that is obeyed before `origin` asks, or of the second
+    /// program or context of `diff`, or of its trace.
     pub other: Option<&'a str>,
-    /// The paths of further such objects.
-    pub further: ArrayVec<&'a str, MOST_FURTHER>,
-    /// What is said of the programs of an object that are called behind the first one, which the
-    /// options name.
-    pub turns: ArrayVec<&'a str, MOST_FURTHER>,
+    /// The paths of the objects with functions that are joined to FILE, in their order.
+    pub with: ArrayVec<&'a str, MOST_TEXTS>,
+    /// The programs of an object that are called in turn, each as `NAME` or `NAME@OFFSET`; none where
+    /// it is the one program that the options name.
+    pub turns: ArrayVec<&'a str, MOST_TEXTS>,
     /// How many entries maps of the object have, each as `NAME=N`.
-    pub counts: ArrayVec<&'a str, MOST_COUNTS>,
+    pub counts: ArrayVec<&'a str, MOST_TEXTS>,
     pub options: Options<'a>,
     /// What is printed is told as objects of JSON, one a line.
     pub json: bool,

@@ -97,8 +97,8 @@ module _ {R W E : Type 0} (reader : Stream R) (writer : Stream W) (errors : Stre
   ends_as : (links : Bool) (s : Subcommand) (job : Job) (status : ℕ) → DoesAs links s job reader writer errors status → status ≢ 2
       → EndsAs links s job status
   ends_as false s job status does other = plain_with s job status does other
-  ends_as true s job status (Over program over links is does) other = (program, over, links, is, plain_with s over status does other)
-  ends_as true s job status (Unlinked why name refuses named r-same w-same told two) other = absurd (other two)
+  ends_as true s job status (Over loaded over loads is does) other = (loaded, over, loads, is, plain_with s over status does other)
+  ends_as true s job status (Unlinked refusal refuses r-same w-same told two) other = absurd (other two)
 
   pub ends_with : (s : Subcommand) (job : Job) (status : ℕ) → DoesJob s job reader writer errors status → status ≢ 2 → EndsWith s job status
   ends_with s job = ends_as (links_first s job) s job

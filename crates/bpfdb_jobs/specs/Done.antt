@@ -1,21 +1,18 @@
 -- What a job comes to, by its subcommand.
 use Rattle.std.specs.Prelude.{ℕ, ◌≡◌, Bool, true, false, List}
-use Rattle.std.specs.Borrow.{Bor}
-use Rattle.bpf_link.specs.Names.{fault_names}
-use Rattle.bpf_link.specs.declared.fault.LinkFault.{LinkFault}
-use Rattle.bpf_link.specs.declared.linker.Linked.{Linked}
+use Rattle.bpf_load.specs.Targets.{Loads}
+use Rattle.bpf_load.specs.declared.loading.Loaded.{Loaded}
 use Rattle.bpfdb_jobs.specs.Cases.{EndsBatch}
 use Rattle.bpfdb_jobs.specs.Connections.{BreaksConnection, ServesConnection}
 use Rattle.bpfdb_faults.specs.Streams.{Stream, Told}
 use Rattle.bpfdb_jobs.specs.Endings.{EndsPrinted, EndsSession}
 use Rattle.bpfdb_faults.specs.Faults.{line_of}
-use Rattle.bpfdb_jobs.specs.Jobs.{section_of}
-use Rattle.bpfdb_jobs.specs.Objects.{IsOver, LinksTo, RefusesLinking, links_first}
+use Rattle.bpfdb_jobs.specs.Objects.{IsOver, RefusesLinking, links_first}
 use Rattle.bpfdb_jobs.specs.Scripts.{Exchanges, Replies, RepliesUntil}
 use Rattle.bpfdb_jobs.specs.Shown.{EndsTest}
 use Rattle.bpfdb_faults.specs.declared.fault.JobFault.TheVariants as fault
 use Rattle.bpfdb_jobs.specs.declared.job.Job.{Job}
-use Rattle.bpfdb_faults.specs.declared.refusal.JobRefusal.TheVariants.{Object}
+use Rattle.bpfdb_faults.specs.declared.refusal.JobRefusal.{JobRefusal}
 use Rattle.bpfdb_options.specs.declared.subcommand.Subcommand.{Subcommand}
 use Rattle.bpfdb_options.specs.declared.subcommand.Subcommand.TheVariants.{Batch, Debug, Gdb, Test}
 
@@ -40,11 +37,10 @@ DoesPlain subcommand job reader writer errors status = (reader.new ≡ reader.ol
 -- Over an object: that was linked, and the job over its words with its maps was done; or it was refused, and nothing was read and written.
 pub data DoesLinked {R W E : Type 0} (subcommand : Subcommand) (job : Job) (reader : Stream R) (writer : Stream W) (errors : Stream E) (status : ℕ)
     : Type 0 where
-  Over : (program : Linked) → (over : Job) → LinksTo job program → IsOver job program over
+  Over : (loaded : Loaded) → (over : Job) → Loads job.target job.file.now loaded → IsOver job loaded over
       → DoesPlain subcommand over reader writer errors status → DoesLinked subcommand job reader writer errors status
-  Unlinked : (why : LinkFault) → (name : Bor (List ℕ)) → RefusesLinking job why → name.now ≡ fault_names job.file.now (section_of job) why
-      → reader.new ≡ reader.old → writer.new ≡ writer.old → Told errors (line_of (fault.Refused (Object why name))) → status ≡ 2
-      → DoesLinked subcommand job reader writer errors status
+  Unlinked : (refusal : JobRefusal) → RefusesLinking job refusal → reader.new ≡ reader.old → writer.new ≡ writer.old
+      → Told errors (line_of (fault.Refused refusal)) → status ≡ 2 → DoesLinked subcommand job reader writer errors status
 
 abbrev pub DoesAs : {R W E : Type 0} → Bool → Subcommand → Job → Stream R → Stream W → Stream E → ℕ → Type 0
 DoesAs true subcommand job reader writer errors status = DoesLinked subcommand job reader writer errors status

@@ -12,14 +12,10 @@ use Rattle.bpf_entries.specs.declared.status.Status.TheVariants as status
 use Rattle.bpf_isa.specs.Maps.{IsMapList, items_of, shape_of}
 use Rattle.bpf_isa.specs.Programs.{Checked, IsProgram}
 use Rattle.bpf_isa.specs.declared.maps.MapShape.{MapShape}
-use Rattle.bpf_join.specs.Chains.{IsChain, others}
-use Rattle.bpf_join.specs.declared.joined.Joined.{Joined}
-use Rattle.bpf_link.specs.Programs.{Asked, IsLinkedAs}
-use Rattle.bpf_link.specs.StubLists.{stubs_in}
-use Rattle.bpf_link.specs.declared.fault.LinkFault.{LinkFault}
-use Rattle.bpf_link.specs.declared.linker.Linked.{Linked}
-use Rattle.bpf_link.specs.declared.stubs.Stub.{Stub}
-use Rattle.bpf_lines.specs.Objects.{AreBehind, AreLinesOf, program_table}
+use Rattle.bpf_load.specs.Targets.{Gathers, Loads, contents, fields_of, object_of}
+use Rattle.bpf_load.specs.declared.loading.Loaded.{Loaded}
+use Rattle.bpf_load.specs.declared.loading.Sources.{Sources}
+use Rattle.bpf_lines.specs.Objects.{AreProgramLines, program_table}
 use Rattle.bpf_lines.specs.declared.objects.ObjectLines.{ObjectLines}
 use Rattle.bpf_lines.specs.declared.place_names.Names.{Names}
 use Rattle.bpf_lines.specs.Lookups.{AreListingSlots}
@@ -94,61 +90,14 @@ start_of job code = record {
   refusals = 0;
 }
 
--- The name of the section that is linked: empty where the only one is meant.
+-- A text that may not be there: empty then.
 abbrev pub name_or_empty : Option (Bor (List ℕ)) → List ℕ
 name_or_empty (Some name) = name.now
 name_or_empty None = []
 
+-- The name of the section that is linked: empty where the only one is meant.
 abbrev pub section_of : Job → List ℕ
-section_of job = name_or_empty job.options.section
-
--- The name of the function at which the program begins: empty where the only one is meant.
-abbrev pub entry_of : Job → List ℕ
-entry_of job = name_or_empty job.options.entry
-
--- The helpers whose calls are answered; none without the option.
-abbrev pub listed_stubs : Option (Bor (List ℕ)) → Result (List Stub) LinkFault
-listed_stubs (Some text) = stubs_in text.now
-listed_stubs None = Ok []
-
-abbrev pub stubs_of : Job → Result (List Stub) LinkFault
-stubs_of job = listed_stubs job.options.stubs
-
--- What the job says of stubs is a list of them.
-abbrev pub ListsStubs : Job → Type 0
-ListsStubs job = (stubs : List Stub) × (stubs_of job ≡ Ok stubs)
-
--- What is asked of the link of an object.
-abbrev pub link_of : Job → List ℕ → List Stub → Asked
-link_of job object stubs = record {
-  object = object;
-  name = section_of job;
-  entry = entry_of job;
-  stubs = stubs;
-  as_compiled = job.options.as_compiled;
-  packet = job.options.packet;
-}
-
--- The object that is linked: FILE, or what FILE and the functions come to, of which it is known how many fields are left.
-abbrev pub ObjectOf : Option (Bor (List ℕ)) → Job → List ℕ → Option ℕ → Type 0
-ObjectOf None job object counted = (object ≡ job.file.now) × (counted ≡ None)
-ObjectOf (Some functions) job object counted = (joined : Joined)
-    × IsChain job.file.now (others functions.now job.further.now) (section_of job) job.options.as_compiled joined
-    × (object ≡ joined.bytes.items) × (counted ≡ Some joined.fields)
-
-abbrev pub IsObjectOf : Job → List ℕ → Option ℕ → Type 0
-IsObjectOf job object counted = ObjectOf job.other job object counted
-
-abbrev pub or_count : Option ℕ → ℕ → ℕ
-or_count None count = count
-or_count (Some counted) count = counted
-
--- The program that the object is linked to.
-pub record IsLinkedTo (job : Job) (object : List ℕ) (counted : Option ℕ) (program : Linked) : Type 0 where
-  pub stubs : List Stub
-  pub asked : stubs_of job ≡ Ok stubs
-  pub of_object : IsObjectOf job object counted
-  pub linked : IsLinkedAs (link_of job object stubs) program
+section_of job = job.target.section.now
 
 -- How many calls are answered is told with the option alone.
 abbrev pub answered_if : Option (Bor (List ℕ)) → ℕ → Option ℕ
@@ -328,33 +277,27 @@ check_line code =
 -- `link`: the words of the program, and what is told of it: the shapes of its maps, in the order of their numbers (none unless the object
 -- defines each as an array), and their names; how many calls are answered; and how many fields are left as compiled. Or with `--joined` the
 -- object that would be linked.
-abbrev pub link_print : Job → List ℕ → Option ℕ → Linked → Print
-link_print job object counted program = record (printed program.words.items) {
-  err = linked_told object program.shapes.items program.names.items (answered_if job.options.stubs program.answered)
-      (fields_if job.options.as_compiled (or_count counted program.fields));
+abbrev pub link_print : Job → Loaded → Print
+link_print job loaded = record (printed loaded.program.words.items) {
+  err = linked_told (object_of loaded.sources) loaded.program.shapes.items loaded.program.names.items
+      (answered_if job.target.stubs loaded.program.answered) (fields_if job.target.as_compiled (fields_of loaded));
 }
 
 abbrev pub LinkPrints : Bool → Job → Print → Type 0
-LinkPrints false job a = (object : List ℕ) × (counted : Option ℕ) × (program : Linked) × IsLinkedTo job object counted program
-    × (a ≡ link_print job object counted program)
-LinkPrints true job a = ListsStubs job × (object : List ℕ) × (counted : Option ℕ) × IsObjectOf job object counted × (a ≡ printed object)
+LinkPrints false job a = (loaded : Loaded) × Loads job.target job.file.now loaded × (a ≡ link_print job loaded)
+LinkPrints true job a = (sources : Sources) × Gathers job.target job.file.now sources × (a ≡ printed (object_of sources))
 
 -- `lines`: the table of a listing; or of the program to which an object is linked, alone or joined with others, in their order.
-abbrev pub others_of : Option (Bor (List ℕ)) → Job → List (List ℕ)
-others_of None job = []
-others_of (Some functions) job = others functions.now job.further.now
+abbrev pub AreLinesFor : Job → Loaded → List ObjectLines → Type 0
+AreLinesFor job loaded all = AreProgramLines loaded.sources.own.items (section_of job) (contents job.target.with.now) all
 
-pub record IsTableOf (job : Job) (words table : List ℕ) : Type 0 where
-  pub own : ObjectLines
-  pub first : AreLinesOf job.file.now (section_of job) own
-  pub all : List ObjectLines
-  pub behind : AreBehind (own ∷ []) (others_of job.other job) all
-  pub rows : table ≡ program_table job.options.packet words all
+abbrev pub table_by : Job → Loaded → List ObjectLines → List ℕ
+table_by job loaded all = program_table job.target.packet loaded.program.words.items all
 
 abbrev pub IsTable : Bool → Job → List ℕ → Type 0
 IsTable false job table = IsLineTable job.file.now table
-IsTable true job table = (object : List ℕ) × (counted : Option ℕ) × (program : Linked) × IsLinkedTo job object counted program
-    × IsTableOf job program.words.items table
+IsTable true job table = (loaded : Loaded) × (all : List ObjectLines) × Loads job.target job.file.now loaded × AreLinesFor job loaded all
+    × (table ≡ table_by job loaded all)
 
 -- What a subcommand prints of a job that has what it needs: one that reads no standard input. (`test` has a definition of its own.)
 abbrev pub Prints : Subcommand → Job → Print → Type 0

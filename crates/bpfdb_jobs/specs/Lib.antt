@@ -7,7 +7,6 @@ pub mod Jobs
 pub mod Looks
 pub mod MapLines
 pub mod Obeying
-pub mod ObjectJobs
 pub mod Objects
 pub mod Openings
 pub mod Origins

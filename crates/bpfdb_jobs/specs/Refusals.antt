@@ -4,20 +4,18 @@ use Rattle.std.specs.Prelude.{◌≡◌, ◌⊎◌, List, [], ℕ, Option, Some,
 use Rattle.std.specs.Borrow.{Bor}
 use Rattle.bpf_isa.specs.Checker.{IsRefused}
 use Rattle.bpf_isa.specs.Maps.{IsFirstBadMap, IsListFault}
-use Rattle.bpf_join.specs.Chains.{IsChainFault, others}
-use Rattle.bpf_join.specs.declared.chain.ChainFault.{ChainFault}
-use Rattle.bpf_join.specs.declared.fault.JoinFault.{JoinFault}
-use Rattle.bpf_join.specs.declared.fault.JoinFault.TheVariants.{First, Second}
 use Rattle.bpf_link.specs.declared.fault.LinkFault.{LinkFault}
 use Rattle.bpf_isa.specs.Programs.{Checked}
 use Rattle.bpf_isa.specs.declared.fault.MapFault.{MapFault}
 use Rattle.bpf_isa.specs.declared.maps.MapShape.{MapShape}
 use Rattle.bpf_text.specs.Listing.{IsFaultOf}
 use Rattle.bpf_link.specs.Names.{fault_names}
-use Rattle.bpf_link.specs.Programs.{IsLinkRefusal}
-use Rattle.bpf_lines.specs.Objects.{IsFunctionsRefusal, IsLinesRefusal}
+use Rattle.bpf_lines.specs.Objects.{IsProgramLinesFault}
 use Rattle.bpf_lines.specs.declared.objects.LinesFault.{LinesFault}
-use Rattle.bpf_link.specs.declared.stubs.Stub.{Stub}
+use Rattle.bpf_load.specs.Faults.{IsGatherFault, IsLoadFault, name_of}
+use Rattle.bpf_load.specs.Targets.{Loads, contents}
+use Rattle.bpf_load.specs.declared.fault.ObjectFault.{ObjectFault}
+use Rattle.bpf_load.specs.declared.loading.Loaded.{Loaded}
 use Rattle.bpf_suite.specs.Faults as suite
 use Rattle.bpf_suite.specs.Files.{sections, tests}
 use Rattle.bpf_suite.specs.Tests.{chosen}
@@ -34,7 +32,7 @@ use Rattle.bpf_whynot.specs.declared.fault.GoalFault.TheVariants.{NoInstruction,
 use Rattle.input_texts.specs.TraceFaults.{bad_line}
 use Rattle.bpf_diff.specs.Values.{Pair}
 use Rattle.bpf_steps.specs.State.{initial}
-use Rattle.bpfdb_jobs.specs.Jobs.{AsksGoals, HasMaps, HasWords, IsObjectOf, IsProgramOf, ListsStubs, IsOtherRun, Opens, OpensSession, arrival_of, asked_of, comparison_of, link_of, other_bytes, others_of, section_of, stubs_of}
+use Rattle.bpfdb_jobs.specs.Jobs.{AsksGoals, HasMaps, HasWords, IsProgramOf, IsOtherRun, Opens, OpensSession, arrival_of, asked_of, comparison_of, other_bytes, section_of}
 use Rattle.bpfdb_jobs.specs.Origins.{Arrival, Asks, RefusesNames, RefusesWhat}
 use Rattle.bpfdb_jobs.specs.declared.job.Job.{Job}
 use Rattle.bpfdb_faults.specs.declared.refusal.JobRefusal.{JobRefusal}
@@ -146,48 +144,40 @@ abbrev pub RefusesListing : Job → JobRefusal → Type 0
 RefusesListing job (Listing fault) = IsFaultOf job.file.now fault
 RefusesListing job refusal = ⊥
 
--- `link` looks at its stubs, then at both objects, where it joins two, and then at the one that is linked.
-abbrev pub RefusesStubs : Job → LinkFault → Type 0
-RefusesStubs job fault = stubs_of job ≡ Err fault
+-- A fault of an object is told with the name that it tells, and which of the others has it.
+abbrev pub TellsFault : Option ℕ → ObjectFault → JobRefusal → Type 0
+TellsFault None it (Object fault name) = (fault ≡ it.fault) × (name.now ≡ name_of it)
+TellsFault (Some index) it (Functions fault at name) = (fault ≡ it.fault) × (at ≡ index) × (name.now ≡ name_of it)
+TellsFault index it refusal = ⊥
 
-abbrev pub RefusesJoin : Option (Bor (List ℕ)) → Job → ChainFault → Type 0
-RefusesJoin None job told = ⊥
-RefusesJoin (Some functions) job told =
-    ListsStubs job × IsChainFault job.file.now (others functions.now job.further.now) (section_of job) job.options.as_compiled told
+-- An object is refused where none is gathered of it and of what is asked, or no program is linked of that.
+abbrev pub RefusesGathering : Job → JobRefusal → Type 0
+RefusesGathering job refusal = (it : ObjectFault) × IsGatherFault job.target job.file.now it × TellsFault it.index it refusal
 
-abbrev pub RefusesLink : Job → List ℕ → LinkFault → Type 0
-RefusesLink job object fault = (stubs : List Stub) × (stubs_of job ≡ Ok stubs)
-    × IsLinkRefusal (link_of job object stubs) fault
+abbrev pub RefusesLoading : Job → JobRefusal → Type 0
+RefusesLoading job refusal = (it : ObjectFault) × IsLoadFault job.target job.file.now it × TellsFault it.index it refusal
 
-abbrev pub OfStubs : Job → LinkFault → List ℕ → Type 0
-OfStubs job fault name = (name ≡ fault_names job.file.now (section_of job) fault) × RefusesStubs job fault
+abbrev pub RefusesLink : Bool → Job → JobRefusal → Type 0
+RefusesLink false job refusal = RefusesLoading job refusal
+RefusesLink true job refusal = RefusesGathering job refusal
 
-abbrev pub OfJoin : Job → JoinFault → ℕ → List ℕ → Type 0
-OfJoin job fault index name =
-    (told : ChainFault) × RefusesJoin job.other job told × (told.fault ≡ fault) × (told.index ≡ index) × (name ≡ told.names.items)
+-- `lines` looks at a listing; or at what `link` looks at, and then at what each object tells of its lines, in their order.
+abbrev pub TellsLines : Option ℕ → Job → LinesFault → JobRefusal → Type 0
+TellsLines None job told (Object fault name) = (fault ≡ told.fault) × (name.now ≡ fault_names told.object (section_of job) told.fault)
+TellsLines (Some index) job told (Functions fault at name) =
+    (fault ≡ told.fault) × (at ≡ index) × (name.now ≡ fault_names told.object (codes ".text") told.fault)
+TellsLines index job told refusal = ⊥
 
-abbrev pub OfObject : Job → LinkFault → List ℕ → Type 0
-OfObject job fault name =
-    (object : List ℕ) × (counted : Option ℕ) × IsObjectOf job object counted × (name ≡ fault_names object (section_of job) fault) × RefusesLink job object fault
-
-abbrev pub RefusesObject : Job → JobRefusal → Type 0
-RefusesObject job (Object fault name) =
-    OfStubs job fault name.now ⊎ (((index : ℕ) × OfJoin job (First fault) index name.now) ⊎ OfObject job fault name.now)
-RefusesObject job (Functions fault index name) = OfJoin job (Second fault) index name.now
-RefusesObject job refusal = ⊥
-
--- `lines` looks at a listing; or at what `link` looks at, and then at what each object tells of its lines.
-abbrev pub RefusesTable : Job → JobRefusal → Type 0
-RefusesTable job (Object fault name) =
-    (name.now ≡ fault_names job.file.now (section_of job) fault) × IsLinesRefusal job.file.now (section_of job) fault
-RefusesTable job (Functions fault index name) =
-    (told : LinesFault) × IsFunctionsRefusal (others_of job.other job) told × (told.fault ≡ fault) × (told.index ≡ index)
-    × (name.now ≡ fault_names told.object (codes ".text") fault)
-RefusesTable job refusal = ⊥
+pub record RefusesTable (job : Job) (refusal : JobRefusal) : Type 0 where
+  pub loaded : Loaded
+  pub loads : Loads job.target job.file.now loaded
+  pub why : LinesFault
+  pub is_why : IsProgramLinesFault loaded.sources.own.items (section_of job) (contents job.target.with.now) why
+  pub tells : TellsLines why.index job why refusal
 
 abbrev pub RefusesLines : Bool → Job → JobRefusal → Type 0
 RefusesLines false job refusal = RefusesListing job refusal
-RefusesLines true job refusal = RefusesObject job refusal ⊎ RefusesTable job refusal
+RefusesLines true job refusal = RefusesLoading job refusal ⊎ RefusesTable job refusal
 
 -- No test has the name that is asked for.
 abbrev pub LacksName : Option (Bor (List ℕ)) → List (List Section) → JobRefusal → Type 0
@@ -217,6 +207,6 @@ RefusesAs Asm job refusal = RefusesListing job refusal
 RefusesAs Disasm job refusal = RefusesProgram job refusal
 RefusesAs Lines job refusal = RefusesLines job.options.is_object job refusal
 RefusesAs Check job refusal = RefusesProgram job refusal
-RefusesAs Link job refusal = RefusesObject job refusal
+RefusesAs Link job refusal = RefusesLink job.options.is_joined job refusal
 RefusesAs Test job refusal = RefusesTests job refusal
 RefusesAs Batch job refusal = RefusesBatch job refusal

@@ -2,12 +2,13 @@
 use Rattle.std.specs.Prelude.{ℕ, ◌≡◌, Bool, true, false, List, [], ◌∷◌, Option, Some, None}
 use Rattle.bpf_isa.specs.Programs.{Checked}
 use Rattle.bpf_isa.specs.declared.maps.MapShape.{MapShape}
-use Rattle.bpf_link.specs.declared.linker.Linked.{Linked}
+use Rattle.bpf_load.specs.Targets.{Loads}
+use Rattle.bpf_load.specs.declared.loading.Loaded.{Loaded}
 use Rattle.bpf_suite.specs.Outcomes.{Outcome}
 use Rattle.bpf_suite.specs.Reports.{AreOutcomes, all_pass}
 use Rattle.bpf_suite.specs.declared.section.Section.{Section}
 use Rattle.bpfdb_jobs.specs.Jobs.{HasMaps, OpensSession, Print, Prints}
-use Rattle.bpfdb_jobs.specs.Objects.{IsOver, LinksTo, links_first}
+use Rattle.bpfdb_jobs.specs.Objects.{IsOver, links_first}
 use Rattle.bpfdb_jobs.specs.Shown.{Shows}
 use Rattle.bpfdb_jobs.specs.Suites.{AreTestsOf, status_of}
 use Rattle.bpfdb_jobs.specs.declared.job.Job.{Job}
@@ -40,7 +41,7 @@ EndsPlainWith subcommand job status = (a : Print) × Prints subcommand job a × 
 -- Where FILE is an object it was linked, and that of the job over its words counts.
 abbrev pub EndsAs : Bool → Subcommand → Job → ℕ → Type 0
 EndsAs false subcommand job status = EndsPlainWith subcommand job status
-EndsAs true subcommand job status = (program : Linked) × (over : Job) × LinksTo job program × IsOver job program over
+EndsAs true subcommand job status = (loaded : Loaded) × (over : Job) × Loads job.target job.file.now loaded × IsOver job loaded over
     × EndsPlainWith subcommand over status
 
 abbrev pub EndsWith : Subcommand → Job → ℕ → Type 0

@@ -13,6 +13,7 @@ use std::io::{Read, Write};
 
 /// Reads cases to the end of the input, runs each, and writes what it came to, a line each, flushed.
 /// FILE's bytes are the words of the cases that have none of their own.
+#[inline(never)]
 pub fn batch_job<R: Read, W: Write, E: Write>(
     alloc: Global,
     job: &Job<'_>,

@@ -1,6 +1,7 @@
 //! What `tool` is given to do.
 use bpf_isa::MapShape;
 use bpf_link::Linked;
+use bpf_load::Target;
 use bpfdb_options::{Options, Subcommand};
 use bpfdb_script::SlotTexts;
 
@@ -16,11 +17,11 @@ pub struct Job<'a> {
     /// PATH's bytes, the context: at most 65,536.
     pub context: &'a [u8],
     /// The bytes of the other file, where there is one: of the script that is obeyed before `origin`
-    /// asks, without which the program runs; of the object with functions that `link` joins to FILE;
-    /// or of the second program or context of `diff`, or of its trace.
+    /// asks, without which the program runs; or of the second program or context of `diff`, or of its
+    /// trace.
     pub other: Option<&'a [u8]>,
-    /// The bytes of further such objects, which are joined behind that.
-    pub further: &'a [Vec<u8>],
+    /// Which program of an object runs, where FILE is one.
+    pub target: Target<'a>,
     /// The maps of the object that was linked to FILE's words, where one was; without them the maps
     /// are those that the options name.
     pub shapes: Option<&'a [MapShape]>,

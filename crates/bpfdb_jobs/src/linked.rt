@@ -1,17 +1,21 @@
 //! Jobs over an object: it is linked, and the job is done over its words, with its maps.
-ghost use Rattle.std.specs.Prelude.{◌≡◌, ◌≤◌, IfErr, IfOk};
+ghost use Rattle.std.specs.Prelude.{◌≡◌, ◌≤◌, All, true};
+ghost use Rattle.bpf_lines.specs.Objects.{HasPartLines};
+ghost use Rattle.bpf_load.specs.Targets.{Loads};
 ghost use Rattle.bpfdb_jobs.specs.Done.{DoesLinked, DoesPlain};
-ghost use Rattle.bpfdb_jobs.specs.Objects.{HasPlace, HasPlaces, IsOver, LinksTo, RefusesLinking, asks_place, is_check, is_whynot, links_first, tells_branches};
+ghost use Rattle.bpfdb_jobs.specs.Jobs.{AreLinesFor};
+ghost use Rattle.bpfdb_jobs.specs.Objects.{HasPlace, HasPlaces, IsOver, asks_place, is_check, is_whynot, links_first, tells_branches};
 ghost use Rattle.bpfdb_jobs.specs.declared.job.Job.{Job as Over};
 ghost use Rattle.bpfdb_limits.specs.Limits.{IsLimit};
 ghost use Rattle.bpfdb_faults.specs.Streams.{stream};
 
 use crate::dispatch::plain_tool;
 use crate::job::{Job, LinkedObject};
-use crate::object::{linked_from, refuse, section_of, stubs_of};
+use crate::object::{refuse, refuse_lines, refuse_object};
 use crate::whynot::asked;
-use bpf_lines::{is_place, object_places, object_slots};
-use bpf_link::{LinkFault, Linked};
+use bpf_lines::{ObjectLines, is_place, program_lines, program_places, program_slots};
+use bpf_link::LinkFault;
+use bpf_load::{Loaded, load};
 use bpfdb_options::{Options, Subcommand};
 use bpfdb_script::SlotTexts;
 use counted_io::Counted;
@@ -56,9 +60,9 @@ pub fn linked_tool<R: Read, W: Write, E: Write>(
         (stream W.contents writer.old writer.new) (stream E.contents errors.old errors.new) result }
     ensures status { result ≤ 2 }
 {
-    match linked_file(alloc, job) {
-        Ok(linked) => do_linked(alloc, job, &linked, reader, writer, errors),
-        Err(fault) => refuse(job, job.file, errors, fault),
+    match load(alloc, job.file, &job.target) {
+        Ok(loaded) => do_linked(alloc, job, &loaded, reader, writer, errors),
+        Err(fault) => refuse_object(&fault, errors),
     }
 }
 
@@ -86,79 +90,82 @@ fn tells_branches(job: &Job<'_>) -> bool
     is_whynot(job.subcommand) || job.options.only_branches
 }
 
-/// Does a job over the program to which its object is linked. First the slots of the place are looked
-/// up that it asks about, if it does.
+/// Does a job over the program to which its object is linked. First it is read what that tells of its
+/// lines, if the job tells branches.
 fn do_linked<R: Read, W: Write, E: Write>(
     alloc: Global,
     job: &Job<'_>,
-    linked: &Linked,
+    loaded: &Loaded,
     reader: &mut Counted<R>,
     writer: &mut Counted<W>,
     errors: &mut Counted<E>,
 ) -> u8
     requires limit { IsLimit job.now.options.limit }
-    requires linked { LinksTo job.now linked.now }
-    ensures does { DoesLinked job.now.subcommand job.now (stream R.remaining reader.old reader.new)
-        (stream W.contents writer.old writer.new) (stream E.contents errors.old errors.new) result }
-    ensures status { result ≤ 2 }
-{
-    if !asks_place(job) {
-        return do_asked(alloc, job, linked, None, reader, writer, errors);
-    }
-    let words = linked.words.as_slice();
-    let what = asked(job).as_bytes();
-    match object_slots(
-        alloc,
-        job.file,
-        section_of(job),
-        job.options.packet,
-        words,
-        what,
-    ) {
-        Ok(slots) => {
-            let goals = Some(slots.as_slice());
-            do_asked(alloc, job, linked, goals, reader, writer, errors)
-        }
-        Err(why) => refuse(job, job.file, errors, why),
-    }
-}
-
-/// Does a job over that program, and the slots of the place. First it is looked up where its slots
-/// stand in C, if the job tells branches.
-fn do_asked<R: Read, W: Write, E: Write>(
-    alloc: Global,
-    job: &Job<'_>,
-    linked: &Linked,
-    goals: Option<&[u8]>,
-    reader: &mut Counted<R>,
-    writer: &mut Counted<W>,
-    errors: &mut Counted<E>,
-) -> u8
-    requires limit { IsLimit job.now.options.limit }
-    requires linked { LinksTo job.now linked.now
-        × HasPlace (asks_place job.now) job.now linked.now.words.items goals }
+    requires loaded { Loads job.now.target job.now.file.now loaded.now }
     ensures does { DoesLinked job.now.subcommand job.now (stream R.remaining reader.old reader.new)
         (stream W.contents writer.old writer.new) (stream E.contents errors.old errors.new) result }
     ensures status { result ≤ 2 }
 {
     if !tells_branches(job) {
-        return do_over(alloc, job, linked, goals, None, reader, writer, errors);
+        return do_over(alloc, job, loaded, None, None, reader, writer, errors);
     }
-    let words = linked.words.as_slice();
-    match object_places(alloc, job.file, section_of(job), job.options.packet, words) {
-        Ok(texts) => {
-            let places = Some(texts.as_slice());
-            do_over(alloc, job, linked, goals, places, reader, writer, errors)
-        }
-        Err(why) => refuse(job, job.file, errors, why),
+    let own = loaded.sources.own.as_slice();
+    match program_lines(alloc, own, job.target.section, job.target.with) {
+        Ok(lines) => do_told(alloc, job, loaded, lines.as_slice(), reader, writer, errors),
+        Err(told) => refuse_lines(job, &told, errors),
     }
+}
+
+/// Does a job that tells branches. First it is looked up where its slots stand in C, and the slots of
+/// the place that it asks about, if it does.
+fn do_told<R: Read, W: Write, E: Write>(
+    alloc: Global,
+    job: &Job<'_>,
+    loaded: &Loaded,
+    lines: &[ObjectLines<'_>],
+    reader: &mut Counted<R>,
+    writer: &mut Counted<W>,
+    errors: &mut Counted<E>,
+) -> u8
+    requires limit { IsLimit job.now.options.limit }
+    requires loaded { Loads job.now.target job.now.file.now loaded.now }
+    requires lines { AreLinesFor job.now loaded.now lines.now × All HasPartLines lines.now }
+    requires tells { tells_branches job.now ≡ true }
+    ensures does { DoesLinked job.now.subcommand job.now (stream R.remaining reader.old reader.new)
+        (stream W.contents writer.old writer.new) (stream E.contents errors.old errors.new) result }
+    ensures status { result ≤ 2 }
+{
+    let words = loaded.program.words.as_slice();
+    let Ok(texts) = program_places(alloc, lines, job.target.packet, words) else {
+        return refuse(
+            job,
+            loaded.sources.own.as_slice(),
+            errors,
+            LinkFault::Memory,
+        );
+    };
+    let places = Some(texts.as_slice());
+    if !asks_place(job) {
+        return do_over(alloc, job, loaded, None, places, reader, writer, errors);
+    }
+    let what = asked(job).as_bytes();
+    let Ok(slots) = program_slots(alloc, lines, job.target.packet, words, what) else {
+        return refuse(
+            job,
+            loaded.sources.own.as_slice(),
+            errors,
+            LinkFault::Memory,
+        );
+    };
+    let goals = Some(slots.as_slice());
+    do_over(alloc, job, loaded, goals, places, reader, writer, errors)
 }
 
 /// Does a job over that program, the slots of the place, and where its slots stand.
 fn do_over<R: Read, W: Write, E: Write>(
     alloc: Global,
     job: &Job<'_>,
-    linked: &Linked,
+    loaded: &Loaded,
     goals: Option<&[u8]>,
     places: SlotTexts<'_>,
     reader: &mut Counted<R>,
@@ -166,49 +173,37 @@ fn do_over<R: Read, W: Write, E: Write>(
     errors: &mut Counted<E>,
 ) -> u8
     requires limit { IsLimit job.now.options.limit }
-    requires known { HasPlace (asks_place job.now) job.now linked.now.words.items goals
-        × HasPlaces (tells_branches job.now) job.now linked.now.words.items places }
-    ensures does { (over : Over) × IsOver job.now linked.now over
+    requires known { HasPlace (asks_place job.now) job.now loaded.now goals
+        × HasPlaces (tells_branches job.now) job.now loaded.now places }
+    ensures does { (over : Over) × IsOver job.now loaded.now over
         × DoesPlain job.now.subcommand over (stream R.remaining reader.old reader.new)
         (stream W.contents writer.old writer.new) (stream E.contents errors.old errors.new) result }
     ensures status { result ≤ 2 }
 {
-    let over = job_over(job, linked, goals, places);
+    let over = job_over(job, loaded, goals, places);
     plain_tool(alloc, &over, reader, writer, errors)
-}
-
-/// The program of FILE. What linking needs of the stack is given back before the job is done.
-#[inline(never)]
-fn linked_file(alloc: Global, job: &Job<'_>) -> Result<Linked, LinkFault>
-    ensures ok { IfOk result (LinksTo job.now) }
-    ensures err { IfErr result (RefusesLinking job.now) }
-{
-    match stubs_of(job) {
-        Ok(stubs) => linked_from(alloc, job, job.file, stubs.as_slice()),
-        Err(fault) => Err(fault),
-    }
 }
 
 /// The job over the words of its object, with its maps, the slots of the place, where its slots stand
 /// in C, and what they come from.
 fn job_over<'a>(
     job: &Job<'a>,
-    linked: &'a Linked,
+    loaded: &'a Loaded,
     goals: Option<&'a [u8]>,
     places: SlotTexts<'a>,
 ) -> Job<'a>
-    requires goals { HasPlace (asks_place job.now) job.now linked.now.words.items goals }
-    requires places { HasPlaces (tells_branches job.now) job.now linked.now.words.items places }
-    ensures { IsOver job.now linked.now result }
+    requires goals { HasPlace (asks_place job.now) job.now loaded.now goals }
+    requires places { HasPlaces (tells_branches job.now) job.now loaded.now places }
+    ensures { IsOver job.now loaded.now result }
 {
     Job {
-        file: linked.words.as_slice(),
-        shapes: Some(linked.shapes.as_slice()),
+        file: loaded.program.words.as_slice(),
+        shapes: Some(loaded.program.shapes.as_slice()),
         goals,
         places,
         object: Some(LinkedObject {
-            bytes: job.file,
-            program: linked,
+            bytes: loaded.sources.object(),
+            program: &loaded.program,
         }),
         options: Options {
             is_object: false,

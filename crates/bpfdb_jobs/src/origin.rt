@@ -14,7 +14,7 @@ ghost use Rattle.bpfdb_options.specs.declared.subcommand.Subcommand.TheVariants.
 ghost use Rattle.bpfdb_faults.specs.Streams.{stream};
 
 use crate::job::Job;
-use crate::object::{refuse, section_of};
+use crate::object::refuse;
 use crate::opening::{session_of, timeline_of, wanted_of};
 use crate::script::obey_script;
 use bpf_journal::{JournalFault, Keeper, RingKeeper, Timeline};
@@ -288,7 +288,7 @@ pub(crate) fn names_of<'a>(alloc: Global, job: &Job<'a>) -> Result<Option<Names<
     match map_names(
         alloc,
         object.bytes,
-        section_of(job),
+        job.target.section,
         object.program.maps,
         object.program.shapes.as_slice(),
         object.program.names.as_slice(),

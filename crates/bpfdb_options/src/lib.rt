@@ -6,7 +6,7 @@ mod registers;
 mod subcommand;
 mod test_part;
 
-pub use options::{DEFAULT_LINES, MOST_FURTHER, NO_OPTIONS, Options};
+pub use options::{DEFAULT_LINES, NO_OPTIONS, Options};
 pub use registers::Registers;
 pub use subcommand::Subcommand;
 pub use test_part::TestPart;

@@ -7,9 +7,6 @@ use bpfdb_limits::{DEFAULT_JOURNAL, DEFAULT_LIMIT, GREATEST_COUNT};
 /// The most lines of an answer where no number is given.
 pub const DEFAULT_LINES: u64 = 1_000;
 
-/// The most objects that are joined to those of FILE and of the first `--with`.
-pub const MOST_FURTHER: usize = 15;
-
 /// Options. One that a subcommand doesn't have stands as when it is absent.
 #[derive(Clone, Copy)]
 pub struct Options<'a> {

@@ -5,7 +5,7 @@ use Rattle.bpf_join.specs.Chains.{IsChain, IsChainFault}
 use Rattle.bpf_join.specs.declared.chain.ChainFault.{ChainFault}
 use Rattle.bpf_join.specs.declared.fault.JoinFault.TheVariants.{First, Second}
 use Rattle.bpf_join.specs.declared.joined.Joined.{Joined}
-use Rattle.bpf_lines.specs.Objects.{AreBehind, AreLinesOf, IsFunctionsRefusal, IsLinesRefusal, program_table}
+use Rattle.bpf_lines.specs.Objects.{AreProgramLines, IsProgramLinesFault, program_table}
 use Rattle.bpf_lines.specs.declared.objects.LinesFault.{LinesFault}
 use Rattle.bpf_lines.specs.declared.objects.ObjectLines.{ObjectLines}
 use Rattle.bpf_link.specs.Names.{fault_names}
@@ -66,10 +66,8 @@ abbrev pub IsLinkRefused : Asked → List ℕ → List Stub → ChainFault → T
 IsLinkRefused asked object stubs told = (fault : LinkFault) × IsLinkRefusal (link_of asked object stubs) fault × IsToldOf asked object fault told
 
 -- What is told of its slots: where they stand in the source of these objects.
-pub record AreLines (asked : Asked) (object : List ℕ) (with : List (List ℕ)) (all : List ObjectLines) : Type 0 where
-  pub own : ObjectLines
-  pub first : AreLinesOf object (name_of asked.section) own
-  pub others : AreBehind (own ∷ []) with all
+abbrev pub AreLines : Asked → List ℕ → List (List ℕ) → List ObjectLines → Type 0
+AreLines asked object with all = AreProgramLines object (name_of asked.section) with all
 
 -- A table of them, where one is wanted: the one that `lines` writes of the same objects, behind what gives the program the packet that is asked for.
 abbrev pub IsTableOf : Bool → Asked → List ℕ → List (List ℕ) → List ℕ → List ℕ → Type 0
@@ -86,12 +84,15 @@ IsUnlinked asked object with told =
     × IsLinkRefused asked bytes stubs told))
 
 -- Why nothing is told of its slots: the lines of the object are malformed, or those of one with functions.
-pub record IsToldOfOther (refused : LinesFault) (told : ChainFault) : Type 0 where
-  pub index : told.index ≡ refused.index
+pub record IsToldOfOther (at : ℕ) (refused : LinesFault) (told : ChainFault) : Type 0 where
+  pub index : told.index ≡ at
   pub is_fault : told.fault ≡ Second refused.fault
   pub names : told.names.items ≡ fault_names refused.object (codes ".text") refused.fault
 
+abbrev pub IsToldOfLines : Option ℕ → Asked → LinesFault → ChainFault → Type 0
+IsToldOfLines None asked refused told = IsToldOf asked refused.object refused.fault told
+IsToldOfLines (Some at) asked refused told = IsToldOfOther at refused told
+
 abbrev pub IsUntold : Asked → List ℕ → List (List ℕ) → ChainFault → Type 0
 IsUntold asked object with told =
-    ((fault : LinkFault) × IsLinesRefusal object (name_of asked.section) fault × IsToldOf asked object fault told)
-    ⊎ ((refused : LinesFault) × IsFunctionsRefusal with refused × IsToldOfOther refused told)
+    (refused : LinesFault) × IsProgramLinesFault object (name_of asked.section) with refused × IsToldOfLines refused.index asked refused told

@@ -1,7 +1,9 @@
 -- Why no file of tests comes of one that names files: the first of its pieces in whose place nothing can stand.
 use Rattle.std.specs.Prelude.{ℕ, ◌≡◌, ◌⊎◌, ◌<◌, Bool, true, false, List, [], ◌++◌, Option, Some, None, get_or, length, ⊤}
+use Rattle.bpf_join.specs.declared.chain.ChainFault.{ChainFault}
 use Rattle.suite_files.specs.Asks.{Asks, AsksNothing}
-use Rattle.suite_files.specs.Links.{IsUnlinked, IsUntold}
+use Rattle.bpf_link.specs.declared.linker.Linked.{Linked}
+use Rattle.suite_files.specs.Links.{IsProgramOf, IsUnlinked, IsUntold}
 use Rattle.suite_files.specs.Replaced.{IsPut, ReadFirst, ReplacesFirst, capture_name, no_piece, packet_number, paths_first}
 use Rattle.suite_files.specs.Shelves.{IsFile, IsNameFault, with_names}
 use Rattle.suite_files.specs.declared.asked.Asked.{Asked}
@@ -28,7 +30,7 @@ put_fault name.Memory = Memory
 
 abbrev pub IsCopyFault : Place → List (List ℕ) → List ℕ → PutFault → Type 0
 IsCopyFault place paths named (Named fault) = IsNameFault place paths named (name.Named fault)
-IsCopyFault place paths named (Link told) = ⊥
+IsCopyFault place paths named (Link kept) = ⊥
 IsCopyFault place paths named Memory = ⊤
 
 -- `-- mem-file FILE`: the lines behind the head aren't blank, or else the file isn't there.
@@ -64,10 +66,17 @@ pub record LacksObject (bytes_at : List ℕ → Option (List ℕ)) (place : Plac
   pub others : ReadFirst bytes_at place asked.with.items (length asked.with.items) with
   pub why : IsCopyFault place (with_names place paths asked.with.items (length asked.with.items)) asked.object fault
 
--- (Or the table of its lines is wanted, and none comes of them.)
+-- What is told is kept, unless memory runs out.
+abbrev pub IsKept : ChainFault → PutFault → Type 0
+IsKept told (Named fault) = ⊥
+IsKept told (Link kept) = kept.value ≡ told
+IsKept told Memory = ⊤
+
+-- (Or the table of its lines is wanted, and none comes of those of the objects of which a program does.)
 abbrev pub IsUnmade : Bool → Asked → List ℕ → List (List ℕ) → PutFault → Type 0
 IsUnmade wanted asked object with (Named fault) = ⊥
-IsUnmade wanted asked object with (Link told) = IsUnlinked asked object with told ⊎ ((wanted ≡ true) × IsUntold asked object with told)
+IsUnmade wanted asked object with (Link kept) = IsUnlinked asked object with kept.value
+    ⊎ ((wanted ≡ true) × ((program : Linked) × IsProgramOf asked object with program) × IsUntold asked object with kept.value)
 IsUnmade wanted asked object with Memory = ⊤
 
 pub record HasNoProgram (bytes_at : List ℕ → Option (List ℕ)) (place : Place) (asked : Asked) (fault : PutFault) : Type 0 where
@@ -102,7 +111,7 @@ IsPutFault bytes_at place paths piece fault = IsPutFaultBy (head_of piece).word 
 -- It is told with the line of the piece.
 abbrev pub files_fault : ℕ → PutFault → FilesFault
 files_fault line (Named fault) = whole.Section fault line
-files_fault line (Link told) = whole.Link told line
+files_fault line (Link kept) = whole.Link kept line
 files_fault line Memory = whole.Memory
 
 -- The most bytes of a file of tests, with its files in it: 64 MiB. One that is longer is refused.

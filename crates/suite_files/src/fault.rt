@@ -24,8 +24,9 @@ pub enum NamedFault {
 pub enum FilesFault {
     /// The first fault, and the line of its section, counted from 1.
     Section(NamedFault, usize),
-    /// No program is made of an object; and the line of its section.
-    Link(ChainFault, usize),
+    /// No program is made of an object; and the line of its section. What is told of it is large, and
+    /// so it isn't moved.
+    Link(Box<ChainFault>, usize),
     /// Memory ran out.
     Memory,
 }

@@ -4,12 +4,12 @@ ghost use Rattle.bpf_join.specs.Chains.{others};
 ghost use Rattle.bpf_lines.specs.Objects.{HasPartLines, program_table};
 ghost use Rattle.bpf_link.specs.Names.{fault_names};
 ghost use Rattle.bpf_link.specs.Programs.{IsLinkedAs};
-ghost use Rattle.suite_files.specs.Links.{AreLines, IsJoinedTo, IsLinkRefused, IsProgramOf, IsTableOf, IsToldOfOther, IsUnjoined, IsUnlinked, IsUntold, contents, link_of, name_of, stubs_of};
+ghost use Rattle.suite_files.specs.Links.{AreLines, IsJoinedTo, IsLinkRefused, IsProgramOf, IsTableOf, IsToldOfLines, IsToldOfOther, IsUnjoined, IsUnlinked, IsUntold, contents, link_of, name_of, stubs_of};
 
 use crate::asked::Asked;
 use arrayvec::ArrayVec;
 use bpf_join::{ChainFault, JoinFault, join_all};
-use bpf_lines::{LinesFault, ObjectLines, first_lines, with_functions, write_table};
+use bpf_lines::{LinesFault, ObjectLines, program_lines, write_table};
 use bpf_link::{
     LinkFault, LinkOptions, Linked, MOST_STUBS, Stub, fault_names, link_with, stubs_in,
 };
@@ -47,6 +47,7 @@ fn stubs_of(asked: &Asked<'_>) -> Result<ArrayVec<Stub, MOST_STUBS>, LinkFault>
 }
 
 /// What is told of an object that isn't linked.
+#[inline(never)]
 fn told_of(asked: &Asked<'_>, object: &[u8], fault: LinkFault) -> ChainFault
     ensures index { result.index ≡ 0 }
     ensures fault { result.fault ≡ JoinFault.First fault }
@@ -103,6 +104,7 @@ fn joined(
 }
 
 /// The program of an object that may be joined to others.
+#[inline(never)]
 fn linked_of(
     alloc: Global,
     asked: &Asked<'_>,
@@ -128,6 +130,7 @@ fn linked_of(
 }
 
 /// The program that is asked for of an object, with others that are joined to it.
+#[inline(never)]
 pub fn program_of(
     alloc: Global,
     asked: &Asked<'_>,
@@ -150,15 +153,26 @@ pub fn program_of(
     }
 }
 
-/// What is told of an object with functions of whose slots nothing is.
-fn told_of_other(refused: &LinesFault<'_>) -> ChainFault
-    ensures { IsToldOfOther refused.now result }
+/// What is told of an object with functions, the one of this index, of whose slots nothing is.
+#[inline(never)]
+fn told_of_other(index: usize, refused: &LinesFault<'_>) -> ChainFault
+    ensures { IsToldOfOther index refused.now result }
 {
     let names = fault_names(refused.object.bytes, b".text", &refused.fault);
     ChainFault {
-        index: refused.index,
+        index,
         fault: JoinFault::Second(refused.fault),
         names,
+    }
+}
+
+/// What is told of an object of whose slots nothing is.
+fn told_of_lines(asked: &Asked<'_>, refused: &LinesFault<'_>) -> ChainFault
+    ensures { IsToldOfLines refused.now.index asked.now refused.now result }
+{
+    match refused.index {
+        None => told_of(asked, refused.object.bytes, refused.fault),
+        Some(index) => told_of_other(index, refused),
     }
 }
 
@@ -190,21 +204,15 @@ fn lines_of<'a>(
     ensures told { IfOk result (λ all. All HasPartLines all.items) }
     ensures err { IfErr result (IsUntold asked.now object.now (contents with.now)) }
 {
-    let own = match first_lines(alloc, object, name_of(&asked.section)) {
-        Ok(own) => own,
-        Err(fault) => return Err(told_of(asked, object, fault)),
-    };
-    match with.split_first() {
-        Some((second, further)) => match with_functions(alloc, own, second.as_slice(), further) {
-            Ok(all) => Ok(all),
-            Err(refused) => Err(told_of_other(&refused)),
-        },
-        None => Ok(own),
+    match program_lines(alloc, object, name_of(&asked.section), with) {
+        Ok(all) => Ok(all),
+        Err(refused) => Err(told_of_lines(asked, &refused)),
     }
 }
 
 /// The table of where the slots of a program stand in the source of an object, and of others that are
 /// joined to it; nothing where none is wanted.
+#[inline(never)]
 pub fn table_of(
     alloc: Global,
     wanted: bool,

@@ -2,7 +2,7 @@
 ghost use Rattle.std.specs.Prelude.{◌≡◌, ◌++◌, ◌<◌, [], IfOk, IfErr, OnOk, get_or, length};
 ghost use Rattle.suite_files.specs.Asks.{Asks};
 ghost use Rattle.suite_files.specs.Links.{IsProgramOf, IsTableOf, contents};
-ghost use Rattle.suite_files.specs.Refused.{IsAskedFault, IsCopyFault, IsMemoryFault, IsOthersFault, IsPacketFault, IsProgramFault, IsPutFault, IsUnmade, put_fault};
+ghost use Rattle.suite_files.specs.Refused.{IsAskedFault, IsCopyFault, IsKept, IsMemoryFault, IsOthersFault, IsPacketFault, IsProgramFault, IsPutFault, IsUnmade, put_fault};
 ghost use Rattle.suite_files.specs.Replaced.{IsAskedProgram, IsMemoryPut, IsPacketPut, IsProgramPut, IsPut, ReadFirst, capture_name, packet_number, program_text, with_objects, with_piece, with_piece_by};
 ghost use Rattle.suite_files.specs.Shelves.{AreRead, IsFile, IsShelf, path_of, paths_on, with_names, with_path};
 ghost use Rattle.input_texts.specs.Heads.{head_of};
@@ -26,7 +26,7 @@ use std::alloc::{AllocError, Global};
 #[derive(Drop)]
 pub enum PutFault {
     Named(NamedFault),
-    Link(ChainFault),
+    Link(Box<ChainFault>),
     Memory,
 }
 
@@ -37,6 +37,17 @@ fn fault_of(fault: NameFault) -> PutFault
     match fault {
         NameFault::Named(fault) => PutFault::Named(fault),
         NameFault::Memory => PutFault::Memory,
+    }
+}
+
+/// What is told of a piece of which no program is made, kept in memory of its own.
+#[inline(never)]
+fn boxed(alloc: Global, told: ChainFault) -> PutFault
+    ensures { IsKept told result }
+{
+    match Box::new(alloc, told) {
+        Ok(kept) => PutFault::Link(kept),
+        Err(_) => PutFault::Memory,
     }
 }
 
@@ -225,6 +236,7 @@ fn others_of<F: Opener>(
 }
 
 /// The program of an object that is asked for, with others that are joined to it, and its table.
+#[inline(never)]
 fn made_of(
     alloc: Global,
     wanted: bool,
@@ -240,12 +252,12 @@ fn made_of(
 {
     let program = match program_of(alloc, asked, object, with) {
         Ok(Ok(program)) => program,
-        Ok(Err(told)) => return Err(PutFault::Link(told)),
+        Ok(Err(told)) => return Err(boxed(alloc, told)),
         Err(_) => return Err(PutFault::Memory),
     };
     match table_of(alloc, wanted, asked, object, with, program.words.as_slice()) {
         Ok(Ok(table)) => Ok(Made { program, table }),
-        Ok(Err(told)) => Err(PutFault::Link(told)),
+        Ok(Err(told)) => Err(boxed(alloc, told)),
         Err(_) => Err(PutFault::Memory),
     }
 }

@@ -14,18 +14,18 @@ pub loop-k-preserved : goal.loop-k-preserved
 loop-k-preserved c =
     let new = c.in-Ok-counted_by.new.items in
     let text = c.as_bytes.ensures.value ∙ named c.args.texts.now c.loop-k.k record { ref_ptr = (0, 0); now = [] } c.loop-k-test.true in
-    let counted = subst (λ (bytes : List ℕ). IsCountedBy bytes c.as_bytes.result.now new) c.as_slice.ensures.value c.in-Ok-counted_by.ensures.ok in
-    subst (λ n. AreCounted c.args.object.now (map (λ text. text.now) c.args.texts.now) n new) (sym (add-one c.loop-k.k))
-    (c.loop-k.all.items, c.loop-k.invariant, subst (λ (text : List ℕ). IsCountedBy c.loop-k.all.items text new) text counted)
+    let counted = subst (λ (bytes : List ℕ). IsCountedBy bytes c.args.section.now c.as_bytes.result.now new) c.as_slice.ensures.value c.in-Ok-counted_by.ensures.ok in
+    subst (λ n. AreCounted c.args.object.now c.args.section.now (map (λ text. text.now) c.args.texts.now) n new) (sym (add-one c.loop-k.k))
+    (c.loop-k.all.items, c.loop-k.invariant, subst (λ (text : List ℕ). IsCountedBy c.loop-k.all.items c.args.section.now text new) text counted)
 
 pub returns-in-Err-counted_by-clause-err : goal.returns-in-Err-counted_by-clause-err
 returns-in-Err-counted_by-clause-err c =
     let fault = c.in-Err-counted_by.fault in
     let text = c.as_bytes.ensures.value ∙ named c.args.texts.now c.loop-k.k record { ref_ptr = (0, 0); now = [] } c.loop-k-test.true in
     let why =
-    subst (λ (bytes : List ℕ). (fault ≡ Memory) ⊎ IsUncountedBy bytes c.as_bytes.result.now fault) c.as_slice.ensures.value c.in-Err-counted_by.ensures.err in
+    subst (λ (bytes : List ℕ). (fault ≡ Memory) ⊎ IsUncountedBy bytes c.args.section.now c.as_bytes.result.now fault) c.as_slice.ensures.value c.in-Err-counted_by.ensures.err in
     record {
       before = c.loop-k.all.items;
       counted = c.loop-k.invariant;
-      why = subst (λ (text : List ℕ). (fault ≡ Memory) ⊎ IsUncountedBy c.loop-k.all.items text fault) text why;
+      why = subst (λ (text : List ℕ). (fault ≡ Memory) ⊎ IsUncountedBy c.loop-k.all.items c.args.section.now text fault) text why;
     }

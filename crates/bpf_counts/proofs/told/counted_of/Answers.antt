@@ -8,4 +8,5 @@ second f (inr b) = inr (f b)
 
 pub returns-in-Err-counted_in-clause-err : goal.returns-in-Err-counted_in-clause-err
 returns-in-Err-counted_in-clause-err c =
-    second (λ why. (c.given_or.result.now, inr (c.in-Ok.plan, sym c.planned.ensures ∙ c.in-Ok.is, why))) c.in-Err-counted_in.ensures.err
+    let opened = rw (c.given_or.ensures, c.first_name.ensures, c.as_slice.ensures.value, c.fault_names-names.ensures) at (sym c.planned.ensures ∙ c.in-Ok.is) in
+    second (λ why. inr (c.in-Ok.plan, opened, why)) c.in-Err-counted_in.ensures.err

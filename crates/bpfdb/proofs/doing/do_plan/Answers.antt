@@ -1,6 +1,6 @@
 use Rattle.std.proofs.Common.{refl}
 use Rattle.bpfdb.specs.Done.{Done, Unread}
-use Rattle.bpfdb.specs.Files.{OfFile, OfFurther, OfOther, OfPath}
+use Rattle.bpfdb.specs.Files.{OfFile, OfWith, OfOther, OfPath}
 use Rattle.bpfdb.proofs.doing.do_plan.Goals as goal
 
 pub returns-in-Err-clause-does : goal.returns-in-Err-clause-does
@@ -23,7 +23,7 @@ pub returns-in-Err-read_each-clause-does : goal.returns-in-Err-read_each-clause-
 returns-in-Err-read_each-clause-does g c =
     let file = rw c.kind_of.ensures at c.in-Ok.ensures.ok in
     Unread c.in-Err-read_each.fault
-    (OfFurther c.in-Ok.file.items c.in-Ok-read_given.context.items c.in-Ok-read_given-2.other.items file c.in-Ok-read_given.ensures.ok
+    (OfWith c.in-Ok.file.items c.in-Ok-read_given.context.items c.in-Ok-read_given-2.other.items file c.in-Ok-read_given.ensures.ok
     c.in-Ok-read_given-2.ensures.ok (rw c.as_slice.ensures.value at c.in-Err-read_each.ensures.err)) refl refl
     c.give_up-in-Err-read_each.ensures.told c.give_up-in-Err-read_each.ensures.value
 
@@ -38,5 +38,5 @@ returns-clause-does g c =
       file = file;
       context = c.in-Ok-read_given.ensures.ok;
       other = c.in-Ok-read_given-2.ensures.ok;
-      further = rw c.as_slice.ensures.value at c.in-Ok-read_each.ensures.ok;
+      with = rw c.as_slice.ensures.value at c.in-Ok-read_each.ensures.ok;
     }) does

@@ -5,7 +5,8 @@ use Rattle.std.specs.Prelude.{Option, Vec, get_or}
 use Rattle.std.specs.declared.alloc.Global.{Global}
 use Rattle.bpfdb_files.specs.Reading.{Gives}
 use Rattle.bpfdb_files.specs.declared.kinds.FileKind.{FileKind}
-use Rattle.bpfdb.specs.Files.{GivesFirst, contents, texts}
+use Rattle.bpf_load.specs.Targets.{contents, texts}
+use Rattle.bpfdb.specs.Files.{GivesFirst}
 use Rattle.bpfdb.proofs.files.read_each.Goals as goal
 
 -- one more file

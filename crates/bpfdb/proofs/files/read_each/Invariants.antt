@@ -1,4 +1,5 @@
-use Rattle.bpfdb.specs.Files.{GivesFirst, contents, texts}
+use Rattle.bpf_load.specs.Targets.{contents, texts}
+use Rattle.bpfdb.specs.Files.{GivesFirst}
 use Rattle.bpfdb.proofs.files.read_each.Given as goal
 
 abbrev pub invariant-loop-k : goal.invariant-loop-k

@@ -2,5 +2,4 @@ use Rattle.std.proofs.Common.{◌∙◌}
 use Rattle.bpfdb_jobs.proofs.object.refuse.Goals as goal
 
 pub returns-clause-told : goal.returns-clause-told
-returns-clause-told g c =
-    (c.as_slice-name.result, c.as_slice-name.ensures.value ∙ (rw c.section_of.ensures at c.fault_names-names.ensures), c.give_up.ensures.told)
+returns-clause-told g c = (c.as_slice-name.result, c.as_slice-name.ensures.value ∙ c.fault_names-names.ensures, c.give_up.ensures.told)

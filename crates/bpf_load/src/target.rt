@@ -1,0 +1,41 @@
+//! What says which program of an object runs.
+ghost use Rattle.std.specs.Prelude.{◌≡◌, IfErr, IfOk, Err, Ok};
+ghost use Rattle.bpf_load.specs.Targets.{stubs_of};
+
+use arrayvec::ArrayVec;
+use bpf_link::{LinkFault, MOST_STUBS, Stub, stubs_in};
+use bpf_packet::Packet;
+
+/// Which program of an object runs, and with what.
+#[derive(Clone, Copy)]
+pub struct Target<'a> {
+    /// The name of the section with its code; where it is empty it is the only one.
+    pub section: &'a [u8],
+    /// The name of the function of that section at which it begins; where it is empty it is the only
+    /// one that is known outside the object, or else the section's first slot.
+    pub entry: &'a [u8],
+    /// How many entries maps have, each as `NAME=N`.
+    pub counts: &'a [&'a str],
+    /// The programs that are called in turn in the place of one, each as `NAME` or `NAME@OFFSET`;
+    /// without any it is the one of the entry.
+    pub turns: &'a [&'a str],
+    /// The objects with functions that are joined to it, in their order.
+    pub with: &'a [Vec<u8>],
+    /// The helpers whose calls are answered by a constant, as `5=0,14=-1`; without it none is.
+    pub stubs: Option<&'a str>,
+    /// Relocations of fields are left undone: fields stay where they were when it was compiled.
+    pub as_compiled: bool,
+    /// The kernel's struct that the entry takes; without it its context is the machine's.
+    pub packet: Option<Packet>,
+}
+
+/// The helpers whose calls are answered.
+pub fn stubs_of(target: &Target<'_>) -> Result<ArrayVec<Stub, MOST_STUBS>, LinkFault>
+    ensures ok { IfOk result (λ stubs. stubs_of target.now ≡ Ok stubs.items) }
+    ensures err { IfErr result (λ fault. stubs_of target.now ≡ Err fault) }
+{
+    match target.stubs {
+        Some(text) => stubs_in(text.as_bytes()),
+        None => Ok(ArrayVec::new()),
+    }
+}
