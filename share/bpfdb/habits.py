@@ -63,8 +63,8 @@ Q15 | There was no memory to keep the command's first move; it wasn't made. 'bpf
 
 USAGE = """usage: bpfdb-shell [[OPTIONS OF bpfdb debug] FILE]
 FILE holds raw words, or is an object of clang (then --section, --entry,
---entries, --stub and --as-compiled go to `bpfdb link`), or a listing
-(--listing, or a name that ends in .s)."""
+--entries, --stub, --as-compiled, --packet and --with go to `bpfdb link`), or a
+listing (--listing, or a name that ends in .s)."""
 
 HELP_END = """gdb's habits work: info registers, i b, p $r0, set $r0 = 7, x/8xb $r10-8,
 x/4i $pc, x/s $r1, b LABEL, info line. 'origin r0' shows where a value came

@@ -3,7 +3,7 @@
 // Options with a value, those of linking, and which subcommands take a context, maps and the kinds of files.
 const WITH_VALUE = new Set(["-m", "--mem", "--maps", "--journal", "--steps", "--registers", "--section", "--entry", "--entries", "--stub", "--with", "--packet", "--script",
   "--other-mem", "--trace", "--lines", "--from", "--count", "--only", "--show"]);
-const LINKING = new Set(["--section", "--entry", "--entries", "--stub", "--as-compiled"]);
+const LINKING = new Set(["--section", "--entry", "--entries", "--stub", "--as-compiled", "--packet", "--with"]);
 const RUNS = ["run", "debug", "trace", "origin", "whynot", "diff"];
 const OFFERED = {
   listing: [...RUNS, "check", "asm", "lines", "disasm"],

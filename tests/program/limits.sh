@@ -260,7 +260,7 @@ ROWS
 
 # The kernel counts environment and arguments to the stack. So with 32 kB of them a little more is enough, of which no more is taken: each subcommand, also over
 # objects, and what gdb asks, with the same output and status as without a limit. `STACKS=1 sh tests/program.sh limits` prints the least stack of each.
-stack=320
+stack=224
 room=$(head -c 32700 /dev/zero | tr '\0' x)
 # in_stack SIZE ARGUMENT..: runs the program so on the file `script`. What is found: its status, output and standard error.
 in_stack() {

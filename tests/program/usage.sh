@@ -101,7 +101,7 @@ compare 'bpfdb asm first.s'
 # Options that the subcommand doesn't have.
 for absent in 'run --journal=65536' 'debug -j=65536' 'asm -m=context' 'asm --mem=context' 'asm --maps=8x2' 'asm --journal=65536' \
     'asm --steps=7' 'asm --listing' 'disasm -m=context' 'disasm --mem=context' 'disasm --journal=65536' 'disasm --steps=7' \
-    'check -m=context' 'check --mem=context' 'check --journal=65536' 'check --steps=7' 'asm --section=a' 'asm --entry=a' 'asm --object' 'link --object' 'test --object' 'run --with=a' 'debug --joined' \
+    'check -m=context' 'check --mem=context' 'check --journal=65536' 'check --steps=7' 'asm --section=a' 'asm --entry=a' 'asm --object' 'link --object' 'test --object' 'asm --with=a' 'test --with=a' 'debug --joined' \
     'link -m=context' 'link --mem=context' 'link --maps=8x2' 'link --journal=65536' 'link --steps=7' 'link --listing' \
     'run --from=7' 'run --count=7' 'run --branches' 'run --profile' 'debug --from=7' 'debug --count=7' 'debug --profile' 'trace --journal=65536' 'trace --registers=x86' \
     'origin --registers=x86' 'origin --alone' 'whynot --branches' 'run --branches' 'gdb --alone' 'whynot --registers=x86' 'run --lines=7' 'debug --lines=7' 'debug --addresses' 'gdb --lines=7' 'lines --lines=7' 'lines --listing' 'lines --maps=8x2' 'lines -m=context' 'lines --steps=7' 'lines --joined' 'run --registers=x86' 'debug --registers=x86' 'test --listing' 'test --maps=8x2' 'test --steps=7' 'diff --script=a' 'diff --branches' 'diff --dot' 'trace --trace=a' 'run --trace=a' 'debug --trace=a' 'run --other-mem=a' 'trace --other-mem=a' 'debug --other-mem=a' 'run --only=a' 'debug --only=a' 'run --cover' 'run --cover-info' 'trace --cover' 'debug --strict' 'diff --strict' 'link --only=a' 'run --show=program' 'debug --show=script'
@@ -141,9 +141,9 @@ for subcommand in run trace debug origin whynot diff gdb disasm check; do
     usage "the argument '--object' cannot be used with '--listing'" $subcommand --listing --maps 8x2 --section a --object first $what
     usage "the argument '--object' cannot be used with '--maps <VxN,VxN>'" $subcommand --maps 8x2 --object first $what
     usage "the argument '--object' cannot be used with '--maps <VxN,VxN>'" $subcommand --object first $what --maps=
-    for option in --section=a --section= --entry=a --stub=5=0 --as-compiled; do
-        usage "'--section', '--entry', '--entries', '--stub' and '--as-compiled' need '--object'" $subcommand $option first $what
-        usage "'--section', '--entry', '--entries', '--stub' and '--as-compiled' need '--object'" $subcommand first $what --listing $option
+    for option in --section=a --section= --entry=a --stub=5=0 --as-compiled --packet=xdp --with=a; do
+        usage "'--section', '--entry', '--entries', '--stub', '--as-compiled', '--packet' and '--with' need '--object'" $subcommand $option first $what
+        usage "'--section', '--entry', '--entries', '--stub', '--as-compiled', '--packet' and '--with' need '--object'" $subcommand first $what --listing $option
     done
     usage "the argument '--object' cannot be used multiple times" $subcommand --object --object first $what
     usage "unexpected value 'yes' for '--object' found; no more were expected" $subcommand --object=yes first $what

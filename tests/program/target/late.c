@@ -1,0 +1,1 @@
+unsigned long long bpf_ktime_get_ns(void) { return 9; }

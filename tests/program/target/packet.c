@@ -1,0 +1,13 @@
+/* A program of the kernel's for packets, as it is: the packet's first byte and its length, and 1000 for the other struct's first number. */
+#define SEC(name) __attribute__((section(name), used))
+typedef unsigned int u32;
+struct xdp_md { u32 data, data_end, data_meta, ingress_ifindex, rx_queue_index, egress_ifindex; };
+
+SEC("xdp") int first_byte(struct xdp_md *ctx)
+{
+	unsigned char *data = (void *)(long)ctx->data, *end = (void *)(long)ctx->data_end;
+
+	if (data + 1 > end)
+		return -1;
+	return data[0] * 16 + (end - data);
+}
