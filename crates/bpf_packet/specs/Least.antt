@@ -24,8 +24,7 @@ AllReach table given = (at : ℕ) → reaches (held_in table at) (held_in given 
 
 -- A state of it reaches what is given for its places.
 abbrev pub StateReaches : List Held → ℕ → List Held → Type 0
-StateReaches table p given =
-    (place : ℕ) → place < 75 → reaches (held_in table (75 * p + place)) (held_in given place) ≡ true
+StateReaches table p given = (place : ℕ) → place < 75 → reaches (held_in table (75 * p + place)) (held_in given place) ≡ true
 
 -- Each table that is right reaches this one.
 abbrev pub IsLeast : List ℕ → List Held → Type 0
