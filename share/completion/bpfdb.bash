@@ -79,7 +79,7 @@ _bpfdb() {
     test) words="--only --show --cover --cover-info --anywhere --json -h --help" ;;
     batch) words="--maps --steps -h --help" ;;
     shell) words="-m --mem --maps --journal --steps --listing --object --section --entry --entries --stub --as-compiled --packet --with -h --help" ;;
-    page) words="-m --mem --maps --steps --listing --section --entry --entries --stub --as-compiled --packet --with -o --output --from --count --title --object -h --help" ;;
+    page) words="-m --mem --maps --steps --listing --section --entry --entries --stub --as-compiled -o --output --from --count --title --object -h --help" ;;
     dap) words="--port --over -h --help" ;;
     help) words="run trace debug origin whynot diff asm disasm lines check link gdb test batch" ;;
     *) return ;;

@@ -114,7 +114,7 @@ fi
 # The files of zsh and fish offer the same.
 for name in shell page dap; do
     offered "$name" | sort > wanted/options
-    sed -n "s/^    $name) //p" "$top/share/completion/_bpfdb" | grep -o -e '{-[a-zA-Z],--[a-z-]*}' -e '"--[a-z-]*' | tr -d '{}"' | tr ',' '\n' | sort > found/options
+    sed -n "s/^    $name) //p" "$top/share/completion/_bpfdb" | grep -o -e '{-[a-zA-Z],--[a-z-]*}' -e '"\**--[a-z-]*' | tr -d '{}"*' | tr ',' '\n' | sort > found/options
     same "zsh: the options of bpfdb-$name" wanted/options found/options
     sed -n "s/^complete -c bpfdb-$name //p" "$top/share/completion/bpfdb.fish" | grep -o -e '-s [a-zA-Z] ' -e '-l [a-z-]* ' | sed 's/-s /-/; s/-l /--/; s/ $//' | sort > found/options
     same "fish: the options of bpfdb-$name" wanted/options found/options
