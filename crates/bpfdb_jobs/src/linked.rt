@@ -1,5 +1,5 @@
 //! Jobs over an object: it is linked, and the job is done over its words, with its maps.
-ghost use Rattle.std.specs.Prelude.{◌≡◌, ◌≤◌, All, true};
+ghost use Rattle.std.specs.Prelude.{◌≡◌, ◌≤◌, All, Some, true};
 ghost use Rattle.bpf_lines.specs.Objects.{HasPartLines};
 ghost use Rattle.bpf_load.specs.Targets.{Loads};
 ghost use Rattle.bpfdb_jobs.specs.Done.{DoesLinked, DoesPlain};
@@ -116,8 +116,7 @@ fn do_linked<R: Read, W: Write, E: Write>(
     }
 }
 
-/// Does a job that tells branches. First it is looked up where its slots stand in C, and the slots of
-/// the place that it asks about, if it does.
+/// Does a job that tells branches. First it is looked up where its slots stand in C.
 fn do_told<R: Read, W: Write, E: Write>(
     alloc: Global,
     job: &Job<'_>,
@@ -135,30 +134,50 @@ fn do_told<R: Read, W: Write, E: Write>(
         (stream W.contents writer.old writer.new) (stream E.contents errors.old errors.new) result }
     ensures status { result ≤ 2 }
 {
+    let own = loaded.sources.own.as_slice();
     let words = loaded.program.words.as_slice();
-    let Ok(texts) = program_places(alloc, lines, job.target.packet, words) else {
-        return refuse(
-            job,
-            loaded.sources.own.as_slice(),
-            errors,
-            LinkFault::Memory,
-        );
-    };
-    let places = Some(texts.as_slice());
-    if !asks_place(job) {
-        return do_over(alloc, job, loaded, None, places, reader, writer, errors);
+    match program_places(alloc, lines, job.target.packet, words) {
+        Ok(texts) => {
+            let places = texts.as_slice();
+            do_placed(alloc, job, loaded, lines, places, reader, writer, errors)
+        }
+        Err(_) => refuse(job, own, errors, LinkFault::Memory),
     }
+}
+
+/// Does a job that tells branches, where its slots stand there. Then the slots of the place are looked
+/// up that it asks about, if it does.
+fn do_placed<R: Read, W: Write, E: Write>(
+    alloc: Global,
+    job: &Job<'_>,
+    loaded: &Loaded,
+    lines: &[ObjectLines<'_>],
+    places: &[Vec<u8>],
+    reader: &mut Counted<R>,
+    writer: &mut Counted<W>,
+    errors: &mut Counted<E>,
+) -> u8
+    requires loaded { IsLimit job.now.options.limit × Loads job.now.target job.now.file.now loaded.now }
+    requires lines { AreLinesFor job.now loaded.now lines.now × All HasPartLines lines.now }
+    requires places { (tells_branches job.now ≡ true) × HasPlaces true job.now loaded.now (Some places) }
+    ensures does { DoesLinked job.now.subcommand job.now (stream R.remaining reader.old reader.new)
+        (stream W.contents writer.old writer.new) (stream E.contents errors.old errors.new) result }
+    ensures status { result ≤ 2 }
+{
+    let texts = Some(places);
+    if !asks_place(job) {
+        return do_over(alloc, job, loaded, None, texts, reader, writer, errors);
+    }
+    let own = loaded.sources.own.as_slice();
+    let words = loaded.program.words.as_slice();
     let what = asked(job).as_bytes();
-    let Ok(slots) = program_slots(alloc, lines, job.target.packet, words, what) else {
-        return refuse(
-            job,
-            loaded.sources.own.as_slice(),
-            errors,
-            LinkFault::Memory,
-        );
-    };
-    let goals = Some(slots.as_slice());
-    do_over(alloc, job, loaded, goals, places, reader, writer, errors)
+    match program_slots(alloc, lines, job.target.packet, words, what) {
+        Ok(slots) => {
+            let goals = Some(slots.as_slice());
+            do_over(alloc, job, loaded, goals, texts, reader, writer, errors)
+        }
+        Err(_) => refuse(job, own, errors, LinkFault::Memory),
+    }
 }
 
 /// Does a job over that program, the slots of the place, and where its slots stand.
