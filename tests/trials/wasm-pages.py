@@ -150,7 +150,8 @@ def files(page, trials):
     trials.same('a file that was dropped', '0x9\n', page.run('run --listing dropped.s'))
     page.run('asm dropped.s > "nine words.bin"')
     trials.same('output that was kept', '0x9\n', page.run("run 'nine words.bin'"))
-    trials.same('a quote that is not closed', True, page.run('run "x') == '' and 'a quote is not closed' in page.text('output'))
+    page.run('run "x')
+    trials.same('a quote that is not closed', 'run "x: a quote is not closed', page.text('output'))
 
 
 def hostile(page, trials):
