@@ -688,7 +688,7 @@ def for_link(words):
     """The words that tell how an object is linked, and the others."""
     linking = [word for word in words if word == "--as-compiled"]
     others = [word for word in words if word != "--as-compiled"]
-    for name in ("--section", "--entry", "--entries", "--stub"):
+    for name in ("--section", "--entry", "--entries", "--stub", "--packet"):
         own, others = all_taken(others, name)
         linking += own
     return linking, others

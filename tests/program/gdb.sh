@@ -172,6 +172,10 @@ if has python3 'sessions in gdb'; then
             sed 's/((noinline)) void copy/((noinline, optnone)) void copy/' overrun.c > kept.c
             clang -g -O2 -fstack-size-section -target bpf -c kept.c
             transcript gdb "$sessions/optimized.txt"
+            # (a program that takes the kernel's struct of a packet, which has 13 bytes)
+            cp "$sessions/taken.c" .
+            clang -g -O1 -fstack-size-section -target bpf -c taken.c
+            transcript gdb "$sessions/taken.txt"
             cp "$sessions/verdict.c" .
             clang -g -O2 -target bpf -c verdict.c
             printf '\7\2' > kind

@@ -222,6 +222,17 @@ C
         refused_object 'refused E52: entries not 1 to 4096: open' sized.o --section prog/open
         converted --section prog/open --entries open=3 --entries few=1 sized.o sized.sym
 
+        # A program that takes the kernel's struct of a packet stands behind the slots that give it that.
+        printf 'struct xdp_md { unsigned data, data_end; };\n__attribute__((section("prog"))) int entry(struct xdp_md *ctx) { return ctx->data_end - ctx->data; }\n' > taken.c
+        clang -g -O1 -fstack-size-section -target bpf -c -o taken.o taken.c
+        converted --packet xdp taken.o taken.sym
+        python3 "$objects" sections taken.sym | grep -v ' .debug' > found/sections
+        printf '%s\n' '0 ' '68 prog' '0 _start' '0 .symtab' '0 .strtab' '0 .shstrtab' > wanted/sections
+        same 'the sections of taken.sym' wanted/sections found/sections
+        od -A n -t x1 -j 24 -N 8 taken.sym > found/begin
+        echo ' 68 00 00 00 00 00 00 00' > wanted/begin
+        same 'the entry of taken.sym' wanted/begin found/begin
+
         # gdb obeys scripts and looks for files that sections of some names tell of. So they are left out, and data of such a name have another.
         cat > scripts.c <<'C'
 asm(".pushsection .debug_gdb_scripts, \"MS\", @progbits, 1\n.byte 4\n.asciz \"x.py\\nprint(1)\"\n.popsection");
