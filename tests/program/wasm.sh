@@ -8,7 +8,7 @@ wasm=${BPFDB_WASM:-$top/out/wasm}
 total() {
     grep -a -v '^[0-9]* trials, [0-9]* failed$' "$1"
     tail -n 1 "$1" | grep -q '^[0-9]* trials, [0-9]* failed$' || complain "$1 came to no end"
-    count=$((count + $(sed -n 's/^\([0-9]*\) trials, .*/\1/p' "$1")))
+    count=$((count + $(sed -n 's/^\([0-9]*\) trials, .*/\1/p' "$1" | awk '{ sum += $1 } END { print sum + 0 }')))
     failures=$((failures + $(grep -a -c '^FAILED: ' "$1")))
 }
 
@@ -47,22 +47,13 @@ call void @g(ptr byval(i64) %a0)
 LINES
 }
 
-# serve: one process of node answers for all rows: a script in the place of bpfdb asks it.
+# serve: one process of node answers for all rows: a program in the place of bpfdb asks it.
 serve() {
     mkdir asked && mkfifo asked/asked || exit 1
+    compile asks
+    mv asks bpfdb
     node "$top/tests/trials/wasm.mjs" "$wasm/bpfdb.mjs" "$PWD/asked" > served 2>&1 &
     started=$!
-    # (it reads the words, the folder and the streams of this process, so these are never others than they were)
-    cat > bpfdb <<SERVED
-#!/bin/sh
-mkfifo "$PWD/asked/\$\$" || exit 99
-(echo \$\$ > "$PWD/asked/asked")
-exec 3< "$PWD/asked/\$\$"
-read -r status <&3
-rm "$PWD/asked/\$\$"
-exit "\$status"
-SERVED
-    chmod +x bpfdb
 }
 
 # rows_of PART: the rows of a part of these tests, with bpfdb in node.
@@ -99,6 +90,11 @@ as_command() {
         : > found/out
         check 'output that is full' 2 '' 'cannot write output\n'
     fi
+    # What several write to one file stands there in turn, on both streams.
+    { "$program" run --listing two.s; "$program" run none; "$program" run --listing two.s; } < script > found/out 2>&1
+    echo $? > found/status
+    : > found/err
+    check 'several, to one file' 0 '0x2\ncannot read none\n0x2\n' ''
     program=$program_before
 }
 

@@ -1,12 +1,12 @@
-// Runs bpfdb.mjs in the place of many short processes: node wasm.mjs BPFDB.mjs FOLDER. A process that wants a run writes its number as a line to the pipe FOLDER/asked, and
-// reads the status from the pipe FOLDER/NUMBER. Its words, its folder and its standard streams are those that the system tells of it.
+// Runs bpfdb.mjs in the place of many short processes: node wasm.mjs BPFDB.mjs FOLDER. A process that wants a run (asks.c) writes its number as a line to the pipe
+// FOLDER/asked, and reads the status from the pipe FOLDER/NUMBER. Its words, its folder and its standard streams are those that the system tells of it.
 import fs from "node:fs";
 import { pathToFileURL } from "node:url";
 
 const [, , command, folder] = process.argv;
 const { execute } = await import(pathToFileURL(command));
-// (its first two words are the shell and the script)
-const OWN_WORDS = 2;
+// (its first word is the program)
+const OWN_WORDS = 1;
 
 // The words of a process, as bytes.
 function wordsOf(asking) {
@@ -15,7 +15,8 @@ function wordsOf(asking) {
   return words.slice(OWN_WORDS);
 }
 
-// A standard stream of a process, anew; -1 where it is closed. (A file is written at its end: its place is the other process's.)
+// A standard stream of a process, anew; -1 where it is closed. A file's place is the other process's: so it is written at its end, where that process moves its own place
+// behind the run, and read from its beginning.
 function stream(asking, number) {
   try {
     return fs.openSync(`/proc/${asking}/fd/${number}`, number ? "a" : "r");
