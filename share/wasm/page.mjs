@@ -130,7 +130,7 @@ class Shown {
     this.add(`$ bpfdb ${line}\n`, "typed");
     this.decoders = [undefined, new TextDecoder(), new TextDecoder()];
     this.bytes = [];
-    this.characters = 0;
+    this.characters = [0, 0, 0];
   }
 
   add(text, kind = "") {
@@ -140,8 +140,8 @@ class Shown {
   write(file, bytes, isShown) {
     if (file === 1) this.bytes.push(bytes);
     if (!isShown) return;
-    const text = this.decoders[file].decode(bytes, { stream: true }), room = SHOWN - this.characters;
-    this.characters += text.length;
+    const text = this.decoders[file].decode(bytes, { stream: true }), room = SHOWN - this.characters[file];
+    this.characters[file] += text.length;
     if (room > 0) this.add(text.slice(0, room), file === 2 ? "wrong" : "");
     if (room > 0 && text.length >= room) this.add("\n… the rest is not shown: keep the output to have it.\n", "told");
   }
