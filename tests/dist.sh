@@ -6,6 +6,7 @@
 set -u
 umask 022
 cd "$(dirname "$0")/.." || exit 1
+. tests/machine.sh
 to=${1:-out/dist}
 work=$(mktemp -d) || exit 1
 trap 'rm -rf "$work"' EXIT
@@ -115,7 +116,7 @@ if command -v dpkg-deb > /dev/null; then
 else
     echo 'There is no dpkg-deb here, so no Debian package is made.'
 fi
-if [ -z "$(find crates share/wasm CHANGELOG.md examples -newer out/wasm/bpfdb.html -type f ! -path '*/out/*' 2>&1)" ]; then
+if wasm_is_new; then
     cp out/wasm/bpfdb.wasm out/wasm/bpfdb.mjs out/wasm/bpfdb.html "$to" || exit 1
 else
     echo 'There is no bpfdb for browsers and node, or an older one, so none is handed on: make wasm'

@@ -52,6 +52,11 @@ below() {
     '
 }
 
+# wasm_is_new: `make wasm` has made bpfdb as WebAssembly of these sources.
+wasm_is_new() {
+    [ -z "$(find crates share/wasm CHANGELOG.md examples -newer out/wasm/bpfdb.html -type f ! -path '*/out/*' 2>&1)" ]
+}
+
 # left_out WHAT WHY: this isn't tested here. It is kept in the file LEFT_OUT, of the script that was called first, which tells it at its end.
 left_out() {
     echo "left out: $1: $2" >> "$LEFT_OUT"

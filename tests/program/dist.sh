@@ -35,6 +35,12 @@ handed_on() {
     fi
 }
 
+# no_wasm: the last make dist said that bpfdb as WebAssembly is left out.
+no_wasm() {
+    count=$((count + 1))
+    grep -q -x 'There is no bpfdb for browsers and node, or an older one, so none is handed on: make wasm' told || complain 'make dist says nothing of bpfdb as WebAssembly, which is left out'
+}
+
 # dist FOLDER [UMASK]: make dist into a folder; what it says last is found.
 dist() {
     (cd copy && umask "${2:-022}" && sh tests/dist.sh "$1") > told 2> found/err
@@ -60,6 +66,7 @@ else
     printf '%s\n7 passed, 0 failed\n' "$commit" > copy/out/passed
     dist "$PWD/made"
     [ "$(cat found/status)" = 0 ] || { complain 'make dist'; cat told found/err; }
+    no_wasm
     handed_on
     # bpfdb as WebAssembly goes with it, where it is newer than what it is made of.
     mkdir -p copy/out/wasm
@@ -70,6 +77,7 @@ else
         sed -n 's/.*  \(bpfdb\.[a-z]*\)$/\1/p' made/SHA256SUMS | tr '\n' ' ' > found/out
         echo 0 > found/status
         check "make dist: bpfdb as WebAssembly, with ${row#*|} changed since" 0 "${row%|*}" ''
+        [ -n "${row%|*}" ] || no_wasm
     done
     for mask in 077 002; do
         dist "$PWD/again" "$mask"

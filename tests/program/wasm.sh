@@ -121,6 +121,19 @@ TALK
     check 'standard input as it comes' 0 "$each$each" ''
 }
 
+# built_again: what is made of the program's module once more has the same bytes. (Clang takes over a minute for it.)
+built_again() {
+    if ! (cd "$top" && wasm_is_new) || [ "$wasm" != "$top/out/wasm" ]; then
+        left_out 'bpfdb.wasm, built again' 'its module is not that of these sources'
+        return
+    fi
+    (umask 077 && TZ=Asia/Tokyo sh "$top/share/wasm/build.sh" "$(dirname "$(rt doc)")" "$wasm/module.bc" "$wasm/about" "$(head -n 1 "$wasm/about")" "$PWD/again") > told-again 2>&1 ||
+        { complain 'bpfdb.wasm is not built again'; cat told-again; return; }
+    for name in wasm mjs html; do
+        same "bpfdb.$name, built again" "$wasm/bpfdb.$name" "again/bpfdb.$name"
+    done
+}
+
 if has node 'bpfdb as WebAssembly' && has python3 'bpfdb as WebAssembly'; then
     parts_alone
     if [ ! -e "$wasm/bpfdb.wasm" ]; then
@@ -130,6 +143,7 @@ if has node 'bpfdb as WebAssembly' && has python3 'bpfdb as WebAssembly'; then
         total told-calls
         as_command
         as_it_comes
+        built_again
         serve
         for part in $rows; do
             rows_of "$part"
