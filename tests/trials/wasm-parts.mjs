@@ -55,6 +55,20 @@ function arithmetic() {
   }
 }
 
+// What moves bytes, over places that overlap, against what JavaScript moves; and nothing else changes.
+function moves() {
+  const here = parts(64), size = 4096, at = here.heap_take(BigInt(size)), bytes = new Uint8Array(here.memory.buffer, at, size);
+  for (let i = 0; i < 6000; i++) {
+    const count = chance(i % 3 ? 40 : 1100), to = chance(size - count + 1), near = Math.max(0, Math.min(size - count, to + chance(40) - 20));
+    const from = chance(2) ? near : chance(size - count + 1), overlap = Math.abs(from - to) < count, byte = chance(256);
+    for (let j = 0; j < 64; j++) bytes[chance(size)] = chance(256);
+    const copied = bytes.slice().copyWithin(to, from, from + count), filled = bytes.slice().fill(byte, to, to + count);
+    const call = chance(2) ? "memset" : overlap ? "memmove" : chance(2) ? "memmove" : "memcpy";
+    const answer = call === "memset" ? here.memset(at + to, byte - 256 * chance(2), count) : here[call](at + to, at + from, count);
+    same(`${call} of ${count} bytes from ${from} to ${to}`, true, answer === at + to && Buffer.compare(bytes, call === "memset" ? filled : copied) === 0);
+  }
+}
+
 // A heap with blocks, each full of a byte of its own. What is given twice, moved wrongly or too small is no longer full of it.
 class Trial {
   constructor(pages) {
@@ -141,6 +155,7 @@ function growing() {
 
 pointers();
 arithmetic();
+moves();
 heap();
 growing();
 console.log(`${count} trials, ${failures} failed`);
