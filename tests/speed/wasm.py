@@ -18,18 +18,19 @@ LOOPS = {
     'memory': 'loop: ldxdw r1, [r10-8]\nadd r1, 1\nstxdw [r10-8], r1\nja loop\n',
     'calls': 'loop: callf f\nja loop\nf: add r6, 1\nexit\n',
 }
-# What is done with a loop: its words and its script for so many steps, the status, two counts of steps, and the most times the program's own time that are wanted.
+# What is done with a loop: its words and its script for so many steps, the status, two counts of steps, and the most times the program's own time that are wanted. (The
+# lower count is one at which the engine has compiled its code a second time.)
 WAYS = {
-    'plain': (lambda n: ['run', '--steps', str(n)], lambda n: '', 1, (20_000_000, 80_000_000), 2),
-    **{f'kept in {size} bytes': (lambda n, size=size: ['debug', '--steps', '1000000000', '--journal', size], lambda n: f'stepi {n}\n', 0, (5_000_000, 25_000_000), 2)
+    'plain': (lambda n: ['run', '--steps', str(n)], lambda n: '', 1, (40_000_000, 100_000_000), 2),
+    **{f'kept in {size} bytes': (lambda n, size=size: ['debug', '--steps', '1000000000', '--journal', size], lambda n: f'stepi {n}\n', 0, (20_000_000, 50_000_000), 2)
        for size in ('1024', '65536', '16777216')},
-    'a line of trace': (lambda n: ['trace', '--steps', str(n)], lambda n: '', 1, (200_000, 2_000_000), 4),
+    'a line of trace': (lambda n: ['trace', '--steps', str(n)], lambda n: '', 1, (500_000, 2_500_000), 4),
 }
 # From start to end in node, and until the page is ready: milliseconds that are wanted at most.
 IN_NODE, IN_PAGE = 150, 300
 # (the page says that it is ready by a property of its window, when scripts can be run)
-READY = ('let kept; Object.defineProperty(window, "page", { configurable: true, get: () => kept, '
-         'set: (value) => { kept = value; window.readyAfter = performance.now(); } });')
+READY = ('{ let its; Object.defineProperty(window, "page", { configurable: true, get: () => its, '
+         'set: (value) => { its = value; window.readyAfter = performance.now(); } }); }')
 
 
 def took(words, script, status):
