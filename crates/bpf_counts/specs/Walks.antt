@@ -17,9 +17,11 @@ pub record IsWalk (types strings : List ℕ) (walk : Walk) : Type 0 where
   pub all : place types walk.count ≡ length types
   pub maps : walk.maps ≡ maps_place types strings walk.count
 
--- A type is cut off.
-abbrev pub IsCut : List ℕ → Type 0
-IsCut types = (n : ℕ) × (length types < place types n)
+-- A type is cut off: it begins before the bytes end, and they end before it does.
+pub record IsCut (types : List ℕ) : Type 0 where
+  pub n : ℕ
+  pub begins : place types n < length types
+  pub cut : length types < place types (suc n)
 
 -- What the section of maps lists: 12 bytes for each variable. (One that is cut off lists nothing.)
 abbrev pub listed : List ℕ → ℕ → List ℕ

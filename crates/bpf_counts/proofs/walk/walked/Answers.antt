@@ -1,4 +1,4 @@
-use Rattle.std.proofs.Common.{◌≡◌, ◌<◌, ◌+◌, ◌∙◌, ℕ, suc, Bool, false, List, Option, Some, length, add-one, ap, arith, sym, subst}
+use Rattle.std.proofs.Common.{◌≡◌, ◌<◌, ◌+◌, ◌∙◌, ℕ, Bool, false, List, Option, Some, length, add-one, ap, arith, sym, subst}
 use Rattle.std.specs.Prelude.{if◌then◌else◌}
 use Rattle.bpf_btf.specs.Types.{behind, place}
 use Rattle.bpf_counts.specs.Walks.{is_maps, maps_place}
@@ -30,4 +30,10 @@ loop-at-preserved c =
 
 pub returns-in-Err-clause-err : goal.returns-in-Err-clause-err
 returns-in-Err-clause-err c =
-    (suc c.loop-at.walk.count, subst (λ at. length c.args.types.now < behind c.args.types.now at) c.loop-at.invariant.place c.in-Err.ensures.err)
+    let types = c.args.types.now in
+    let known = c.loop-at.invariant in
+    record {
+      n = c.loop-at.walk.count;
+      begins = subst (λ at. at < length types) known.place c.loop-at-test.true;
+      cut = subst (λ at. length types < behind types at) known.place c.in-Err.ensures.err;
+    }
