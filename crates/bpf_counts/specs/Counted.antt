@@ -1,5 +1,5 @@
 -- The object in which maps have as many entries as they are told: when there is one, and why there is none.
-use Rattle.std.specs.Prelude.{◌≡◌, ◌≤◌, ◌⊎◌, ℕ, zero, suc, ◌+◌, ◌==◌, Bool, if◌then◌else◌, List, [], Option, Some, None, Ok, Err, get_or, length}
+use Rattle.std.specs.Prelude.{◌≡◌, ◌≤◌, ◌<◌, ◌⊎◌, ℕ, zero, suc, ◌+◌, ◌==◌, Bool, if◌then◌else◌, List, [], Option, Some, None, Ok, Err, get_or, length}
 use Rattle.std.specs.List.{before_first}
 use Rattle.bpf_isa.specs.declared.fault.MapFault.TheVariants.{Entries}
 use Rattle.bpf_btf.specs.Layout.{btf_header}
@@ -129,4 +129,4 @@ IsCounted bytes section texts all = AreCounted bytes section texts (length texts
 pub record IsCountFault (bytes section : List ℕ) (texts : List (List ℕ)) (it : CountFault) : Type 0 where
   pub before : List ℕ
   pub counted : AreCounted bytes section texts it.which before
-  pub why : (it.fault ≡ link.Memory) ⊎ IsUncountedBy before section (get_or texts it.which []) it.fault
+  pub why : (it.fault ≡ link.Memory) ⊎ ((it.which < length texts) × IsUncountedBy before section (get_or texts it.which []) it.fault)

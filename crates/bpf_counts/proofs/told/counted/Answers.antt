@@ -1,5 +1,5 @@
-use Rattle.std.proofs.Common.{◌≡◌, ◌<◌, ◌⊎◌, ◌∙◌, ℕ, List, [], length, map, subst, sym, add-one}
-use Rattle.std.proofs.lemmas.List.{get_or-map}
+use Rattle.std.proofs.Common.{◌≡◌, ◌<◌, ◌⊎◌, ◌∙◌, ℕ, List, [], inl, inr, length, map, subst, sym, add-one}
+use Rattle.std.proofs.lemmas.List.{get_or-map, length-map}
 use Rattle.std.specs.Borrow.{Bor}
 use Rattle.std.specs.Prelude.{get_or}
 use Rattle.bpf_link.specs.declared.fault.LinkFault.TheVariants.{Memory}
@@ -9,6 +9,14 @@ use Rattle.bpf_counts.proofs.told.counted.Goals as goal
 -- a text and what it holds
 named : (texts : List (Bor (List ℕ))) (k : ℕ) (none : Bor (List ℕ)) → k < length texts → (get_or texts k none).now ≡ get_or (map (λ text. text.now) texts) k []
 named texts k none inside = sym (get_or-map (λ text. text.now) texts k none [] inside)
+
+-- it is one of them
+inside : (texts : List (Bor (List ℕ))) (k : ℕ) → k < length texts → k < length (map (λ text. text.now) texts)
+inside texts k test = subst (λ n. k < n) (sym (length-map texts (λ text. text.now))) test
+
+both : {A B C : Type 0} → A → B ⊎ C → B ⊎ (A × C)
+both a (inl b) = inl b
+both a (inr c) = inr (a, c)
 
 pub loop-k-preserved : goal.loop-k-preserved
 loop-k-preserved c =
@@ -27,5 +35,6 @@ returns-in-Err-counted_by-clause-err c =
     record {
       before = c.loop-k.all.items;
       counted = c.loop-k.invariant;
-      why = subst (λ (text : List ℕ). (fault ≡ Memory) ⊎ IsUncountedBy c.loop-k.all.items c.args.section.now text fault) text why;
+      why = both (inside c.args.texts.now c.loop-k.k c.loop-k-test.true)
+          (subst (λ (text : List ℕ). (fault ≡ Memory) ⊎ IsUncountedBy c.loop-k.all.items c.args.section.now text fault) text why);
     }
