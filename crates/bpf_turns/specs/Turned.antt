@@ -68,10 +68,11 @@ pub record IsTurned (bytes section : List ℕ) (texts : List (List ℕ)) (all : 
   pub is_source : source_for bytes section ≡ Ok source
   pub turned : IsTurnedFrom source texts all
 
--- Why there is none: one of the programs isn't there, all of it is too much, or `.BTF.ext` is malformed; or memory ran out.
+-- Why there is none: one of the programs isn't there, all of it is too much, or else `.BTF.ext` is malformed; or memory ran out.
 abbrev pub IsObjectFault : Source → List Seat → LinkFault → Type 0
 IsObjectFault source seats fault =
-    (fitted source seats ≡ Err fault) ⊎ ((fault ≡ Memory) ⊎ IsUnmoved source.plan (calls_of source.plan.object seats) fault)
+    (fitted source seats ≡ Err fault)
+    ⊎ ((fault ≡ Memory) ⊎ ((fitted source seats ≡ Ok seats) × IsUnmoved source.plan (calls_of source.plan.object seats) fault))
 
 abbrev pub IsSourceFault : Source → List (List ℕ) → TurnFault → Type 0
 IsSourceFault source texts told =
