@@ -1,8 +1,5 @@
 -- The file of tests of a plan, whose sections may name files.
-use Rattle.std.specs.Prelude.{ℕ, ◌≡◌, ◌+◌, Bool, true, false, List, ◌++◌, codes, decimal, min, Option, Some}
-use Rattle.bpf_join.specs.declared.chain.ChainFault.{ChainFault}
-use Rattle.bpf_join.specs.declared.fault.JoinFault.{JoinFault}
-use Rattle.bpf_join.specs.declared.fault.JoinFault.TheVariants.{First, Second}
+use Rattle.std.specs.Prelude.{ℕ, ◌≡◌, ◌+◌, Bool, true, false, List, ◌++◌, codes, decimal, min, Option, Some, None}
 use Rattle.bpf_suite.specs.Refusals.{text_of_refusal}
 use Rattle.bpfdb_cli.specs.declared.plans.Plan.{Plan}
 use Rattle.bpfdb_faults.specs.Faults.{line_of, object_text}
@@ -14,6 +11,7 @@ use Rattle.suite_files.specs.Refused.{IsFilesFault}
 use Rattle.suite_files.specs.Replaced.{IsReplaced}
 use Rattle.suite_files.specs.declared.fault.FilesFault.{FilesFault}
 use Rattle.suite_files.specs.declared.fault.FilesFault.TheVariants.{Section, Link, Memory}
+use Rattle.suite_files.specs.declared.fault.KeptFault.{KeptFault}
 use Rattle.suite_files.specs.declared.place.Place.{Place}
 use Rattle.input_texts.specs.Paths.{folder_of}
 
@@ -43,22 +41,18 @@ pub record IsUnreplaced (bytes_at : List ℕ → Option (List ℕ)) (plan : Plan
   pub why : IsFilesFault bytes_at place of_file fault
 
 -- Which object it is, by the line of its section.
-abbrev pub object_end : JoinFault → ℕ → ℕ → List ℕ
-object_end (First fault) index line = codes " (the object in line " ++ decimal line ++ codes ")\n"
-object_end (Second fault) index line =
+abbrev pub object_end : Option ℕ → ℕ → List ℕ
+object_end None line = codes " (the object in line " ++ decimal line ++ codes ")\n"
+object_end (Some index) line =
     codes " (object " ++ decimal (min (index + 1) 18446744073709551615) ++ codes " with the one in line " ++ decimal line ++ codes ")\n"
 
-abbrev pub join_text : JoinFault → List ℕ → List ℕ
-join_text (First fault) names = object_text fault names
-join_text (Second fault) names = object_text fault names
-
--- The line of an object that isn't linked.
-abbrev pub link_line : ChainFault → ℕ → List ℕ
-link_line told line = join_text told.fault told.names.items ++ object_end told.fault told.index line
+-- The line of an object of which no program is made.
+abbrev pub link_line : KeptFault → ℕ → List ℕ
+link_line kept line = object_text kept.fault kept.name.items ++ object_end kept.index line
 
 -- The line of each fault.
 abbrev pub files_line : FilesFault → List ℕ
 files_line (Section fault line) =
     text_of_refusal (codes "refused T") (named_fault fault).0 (codes " at line ") (Some line) (named_fault fault).1 ++ codes "\n"
-files_line (Link kept line) = link_line kept.value line
+files_line (Link kept line) = link_line kept line
 files_line Memory = line_of job.Memory

@@ -1,10 +1,9 @@
 //! The file of tests of a plan, whose sections may name files.
 ghost use Rattle.std.specs.Prelude.{◌≡◌};
-ghost use Rattle.bpfdb.specs.Tests.{IsPlaceOf, files_line, is_test, join_text, link_line, object_end};
+ghost use Rattle.bpfdb.specs.Tests.{IsPlaceOf, files_line, is_test, link_line, object_end};
 ghost use Rattle.bpfdb_faults.specs.Streams.{Told, stream};
 ghost use Rattle.counted_io.specs.Writing.{Writes, WritesAfter};
 
-use bpf_join::{ChainFault, JoinFault};
 use bpf_suite::put_numbered;
 use bpfdb_cli::Plan;
 use bpfdb_faults::{JobFault, flush_after, put_object, tell};
@@ -12,7 +11,7 @@ use bpfdb_options::Subcommand;
 use counted_io::{Counted, Piece, WriteFault, put, put_all};
 use input_texts::folder_of;
 use std::io::Write;
-use suite_files::{FilesFault, NamedFault, Place};
+use suite_files::{FilesFault, KeptFault, NamedFault, Place};
 
 /// Whether a subcommand runs tests.
 pub fn is_test(subcommand: Subcommand) -> bool
@@ -39,15 +38,14 @@ pub fn place_of<'a>(plan: &Plan<'a>) -> Place<'a>
 fn put_end<E: Write>(
     errors: &mut Counted<E>,
     so_far: Result<(), WriteFault>,
-    told: &ChainFault,
+    index: Option<usize>,
     line: usize,
 ) -> Result<(), WriteFault>
-    ensures { WritesAfter E.contents errors.old so_far errors.new result
-        (object_end told.now.fault told.now.index line) }
+    ensures { WritesAfter E.contents errors.old so_far errors.new result (object_end index line) }
 {
     let line = line as u64;
-    match told.fault {
-        JoinFault::First(_) => {
+    match index {
+        None => {
             let pieces = [
                 Piece::Text(b" (the object in line "),
                 Piece::Decimal(line),
@@ -55,28 +53,16 @@ fn put_end<E: Write>(
             ];
             put_all(errors, so_far, &pieces)
         }
-        JoinFault::Second(_) => {
+        Some(index) => {
             let pieces = [
                 Piece::Text(b" (object "),
-                Piece::Decimal((told.index as u64).saturating_add(1)),
+                Piece::Decimal((index as u64).saturating_add(1)),
                 Piece::Text(b" with the one in line "),
                 Piece::Decimal(line),
                 Piece::Text(b")\n"),
             ];
             put_all(errors, so_far, &pieces)
         }
-    }
-}
-
-/// Writes why an object isn't linked.
-fn put_link<E: Write>(errors: &mut Counted<E>, told: &ChainFault) -> Result<(), WriteFault>
-    ensures { Writes E.contents errors.old errors.new result
-        (join_text told.now.fault told.now.names.items) }
-{
-    let names = told.names.as_slice();
-    match &told.fault {
-        JoinFault::First(fault) => put_object(errors, Ok(()), fault, names, b""),
-        JoinFault::Second(fault) => put_object(errors, Ok(()), fault, names, b""),
     }
 }
 
@@ -98,13 +84,13 @@ fn tell_section<E: Write>(
 /// Writes the line of an object's fault, and flushes.
 fn tell_link<E: Write>(
     errors: &mut Counted<E>,
-    told: &ChainFault,
+    kept: &KeptFault,
     line: usize,
 ) -> Result<(), WriteFault>
-    ensures { Writes E.contents errors.old errors.new result (link_line told.now line) }
+    ensures { Writes E.contents errors.old errors.new result (link_line kept.now line) }
 {
-    let said = put_link(errors, told);
-    let ended = put_end(errors, said, told, line);
+    let said = put_object(errors, Ok(()), &kept.fault, kept.name.as_slice(), b"");
+    let ended = put_end(errors, said, kept.index, line);
     flush_after(errors, ended)
 }
 
@@ -114,7 +100,7 @@ fn tell_fault<E: Write>(errors: &mut Counted<E>, fault: &FilesFault) -> Result<(
 {
     match fault {
         FilesFault::Section(fault, line) => tell_section(errors, *fault, *line),
-        FilesFault::Link(kept, line) => tell_link(errors, kept.as_ref(), *line),
+        FilesFault::Link(kept, line) => tell_link(errors, kept, *line),
         FilesFault::Memory => tell(errors, &JobFault::Memory),
     }
 }

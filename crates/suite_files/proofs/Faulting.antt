@@ -1,16 +1,10 @@
 -- Why no file of tests comes of a piece.
-use Rattle.std.proofs.Common.{◌≡◌, ◌++◌, ℕ, Bool, true, List, Result, Ok, Err, inr, subst, sym}
+use Rattle.std.proofs.Common.{◌≡◌, ◌++◌, ℕ, List, Result, Ok, Err, inr, subst}
 use Rattle.std.specs.Prelude.{IfErr, IfOk, Option}
-use Rattle.bpf_join.specs.declared.chain.ChainFault.{ChainFault}
-use Rattle.bpf_link.specs.declared.linker.Linked.{Linked}
-use Rattle.suite_files.specs.Links.{IsProgramOf, IsUntold}
-use Rattle.suite_files.specs.Refused.{IsKept, IsPieceFault, IsTooLong, IsUnmade}
+use Rattle.suite_files.specs.Refused.{IsPieceFault, IsTooLong}
 use Rattle.suite_files.specs.Replaced.{IsPut}
 use Rattle.suite_files.specs.declared.fault.FilesFault.{FilesFault}
-use Rattle.suite_files.specs.declared.asked.Asked.{Asked}
 use Rattle.suite_files.specs.declared.place.Place.{Place}
-use Rattle.suite_files.specs.declared.put.PutFault.{PutFault}
-use Rattle.suite_files.specs.declared.put.PutFault.TheVariants.{Named, Link, Memory}
 use Rattle.input_texts.specs.declared.piece.Piece.{Piece}
 
 -- with what stands in its place the text is too long
@@ -34,11 +28,3 @@ of-ok {A = A} {E = E} P r a is p = subst (λ (q : Result A E). IfOk q P) is p
 
 pub of-err : {A E : Type 0} (P : E → Type 0) (r : Result A E) (e : E) → r ≡ Err e → IfErr r P → P e
 of-err {A = A} {E = E} P r e is p = subst (λ (q : Result A E). IfErr q P) is p
-
--- what is kept of an object of whose program no table is made
-pub kept-untold : (wanted : Bool) (asked : Asked) (object : List ℕ) (with : List (List ℕ)) (told : ChainFault) (fault : PutFault)
-    → IsKept told fault → wanted ≡ true → (program : Linked) → IsProgramOf asked object with program → IsUntold asked object with told
-    → IsUnmade wanted asked object with fault
-kept-untold wanted asked object with told (Named fault) is w program made u = is
-kept-untold wanted asked object with told (Link kept) is w program made u = inr (w, (program, made), subst (IsUntold asked object with) (sym is) u)
-kept-untold wanted asked object with told Memory is w program made u = tt

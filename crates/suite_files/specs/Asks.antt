@@ -1,6 +1,7 @@
 -- What a section asks of an object: the heads behind its own, as `link` takes such options. bpfdb's own choice.
 use Rattle.std.specs.Prelude.{ℕ, ◌≡◌, ◌⊎◌, ◌<◌, true, false, if◌then◌else◌, List, Option, Some, None, codes, is_some, length}
-use Rattle.std.specs.Str.{bytes_eq}
+use Rattle.std.specs.Borrow.{Bor}
+use Rattle.std.specs.Str.{IsUtf8, bytes_eq}
 use Rattle.bpf_packet.specs.declared.packet.Packet.{Packet}
 use Rattle.bpf_packet.specs.declared.packet.Packet.TheVariants.{Xdp, Tc}
 use Rattle.suite_files.specs.declared.asked.Asked.{Asked}
@@ -31,6 +32,13 @@ given_in piece = let options = option_lines piece in
     all_given (once_of (values_of word.Section options)) (once_of (values_of word.Entry options)) (once_of (values_of word.Stub options))
     (once_of (values_of word.Struct options)) (once_of (values_of word.AsCompiled options))
 
+-- A text as a string, if there is one: none where it isn't UTF-8.
+abbrev pub IsStr : Option (List ℕ) → Option (Option (Bor (List ℕ))) → Type 0
+IsStr None found = found ≡ Some None
+IsStr (Some text) None = IsUtf8 text → ⊥
+IsStr (Some text) (Some None) = ⊥
+IsStr (Some text) (Some (Some str)) = (str.now ≡ text) × IsUtf8 text
+
 -- What is asked, by what stands once at most.
 pub record Asks (piece : List ℕ) (asked : Asked) : Type 0 where
   pub lines : are_options piece ≡ true
@@ -41,14 +49,15 @@ pub record Asks (piece : List ℕ) (asked : Asked) : Type 0 where
   pub few : length asked.with.items < 17
   pub section : asked.section ≡ given.section
   pub entry : asked.entry ≡ given.entry
-  pub stubs : asked.stubs ≡ given.stubs
+  pub stubs : IsStr given.stubs (Some asked.stubs)
   pub left : asked.as_compiled ≡ is_some given.left
   pub packet : packet_in given.structs ≡ Some asked.packet
 
--- Nothing is: a line is none that it takes, something stands more than once, there is no such struct, or too many objects are joined.
+-- Nothing is: a line is none that it takes, something stands more than once, there is no such struct, the list of stubs is no text, or too many objects are
+-- joined.
 abbrev pub AsksNothing : List ℕ → Type 0
 AsksNothing piece = (are_options piece ≡ false) ⊎ ((given_in piece ≡ None)
-    ⊎ (((given : Given) × (given_in piece ≡ Some given) × (packet_in given.structs ≡ None))
+    ⊎ (((given : Given) × (given_in piece ≡ Some given) × ((packet_in given.structs ≡ None) ⊎ IsStr given.stubs None))
     ⊎ (most_with < length (values_of word.With (option_lines piece)))))
 
 abbrev pub IsAsked : List ℕ → Option Asked → Type 0

@@ -1,18 +1,25 @@
 -- Why no file of tests comes of one that names files: the first of its pieces in whose place nothing can stand.
 use Rattle.std.specs.Prelude.{ℕ, ◌≡◌, ◌⊎◌, ◌<◌, Bool, true, false, List, [], ◌++◌, Option, Some, None, get_or, length, ⊤}
-use Rattle.bpf_join.specs.declared.chain.ChainFault.{ChainFault}
+use Rattle.bpf_lines.specs.Objects.{IsProgramLinesFault}
+use Rattle.bpf_lines.specs.declared.objects.LinesFault.{LinesFault}
+use Rattle.bpf_link.specs.declared.fault.LinkFault.{LinkFault}
+use Rattle.bpf_load.specs.Faults.{IsLoadFault, name_of}
+use Rattle.bpf_load.specs.Targets.{Loads, contents}
+use Rattle.bpf_load.specs.declared.fault.ObjectFault.{ObjectFault}
+use Rattle.bpf_load.specs.declared.loading.Loaded.{Loaded}
+use Rattle.bpf_load.specs.declared.target.Target.{Target}
 use Rattle.suite_files.specs.Asks.{Asks, AsksNothing}
-use Rattle.bpf_link.specs.declared.linker.Linked.{Linked}
-use Rattle.suite_files.specs.Links.{IsProgramOf, IsUnlinked, IsUntold}
+use Rattle.suite_files.specs.Links.{IsTargetOf, names_told}
 use Rattle.suite_files.specs.Replaced.{IsPut, ReadFirst, ReplacesFirst, capture_name, no_piece, packet_number, paths_first}
 use Rattle.suite_files.specs.Shelves.{IsFile, IsNameFault, with_names}
 use Rattle.suite_files.specs.declared.asked.Asked.{Asked}
 use Rattle.suite_files.specs.declared.fault.FilesFault.{FilesFault}
 use Rattle.suite_files.specs.declared.fault.FilesFault.TheVariants as whole
+use Rattle.suite_files.specs.declared.fault.KeptFault.{KeptFault}
 use Rattle.suite_files.specs.declared.fault.NamedFault.TheVariants.{Malformed, NoPacket, TooMuch}
+use Rattle.suite_files.specs.declared.fault.PutFault.{PutFault}
+use Rattle.suite_files.specs.declared.fault.PutFault.TheVariants.{Named, Link, Memory}
 use Rattle.suite_files.specs.declared.place.Place.{Place}
-use Rattle.suite_files.specs.declared.put.PutFault.{PutFault}
-use Rattle.suite_files.specs.declared.put.PutFault.TheVariants.{Named, Link, Memory}
 use Rattle.suite_files.specs.declared.shelf.NameFault.{NameFault}
 use Rattle.suite_files.specs.declared.shelf.NameFault.TheVariants as name
 use Rattle.input_texts.specs.Captures.{packet_in}
@@ -66,25 +73,39 @@ pub record LacksObject (bytes_at : List ℕ → Option (List ℕ)) (place : Plac
   pub others : ReadFirst bytes_at place asked.with.items (length asked.with.items) with
   pub why : IsCopyFault place (with_names place paths asked.with.items (length asked.with.items)) asked.object fault
 
--- What is told is kept, unless memory runs out.
-abbrev pub IsKept : ChainFault → PutFault → Type 0
-IsKept told (Named fault) = ⊥
-IsKept told (Link kept) = kept.value ≡ told
-IsKept told Memory = ⊤
+-- A fault of an object is kept with the name that it tells, unless memory runs out.
+pub record Keeps (fault : LinkFault) (index : Option ℕ) (name : List ℕ) (kept : KeptFault) : Type 0 where
+  pub is_fault : kept.fault ≡ fault
+  pub is_index : kept.index ≡ index
+  pub is_name : kept.name.items ≡ name
 
--- (Or the table of its lines is wanted, and none comes of those of the objects of which a program does.)
-abbrev pub IsUnmade : Bool → Asked → List ℕ → List (List ℕ) → PutFault → Type 0
-IsUnmade wanted asked object with (Named fault) = ⊥
-IsUnmade wanted asked object with (Link kept) = IsUnlinked asked object with kept.value
-    ⊎ ((wanted ≡ true) × ((program : Linked) × IsProgramOf asked object with program) × IsUntold asked object with kept.value)
-IsUnmade wanted asked object with Memory = ⊤
+abbrev pub IsKept : LinkFault → Option ℕ → List ℕ → PutFault → Type 0
+IsKept fault index name (Named why) = ⊥
+IsKept fault index name (Link kept) = Keeps fault index name kept
+IsKept fault index name Memory = ⊤
+
+-- Nothing is told of a program's slots: the list of lines of an object is malformed, or that of one with functions.
+pub record IsUntold (target : Target) (loaded : Loaded) (fault : PutFault) : Type 0 where
+  pub refused : LinesFault
+  pub why : IsProgramLinesFault loaded.sources.own.items target.section.now (contents target.with.now) refused
+  pub kept : IsKept refused.fault refused.index (names_told target.section.now refused) fault
+
+abbrev pub HasNoTable : Bool → Target → Loaded → PutFault → Type 0
+HasNoTable wanted target loaded fault = (fault ≡ Memory) ⊎ ((wanted ≡ true) × IsUntold target loaded fault)
+
+-- No program is made of an object; or one is, and there is no table of its lines, which is wanted.
+pub data IsUnmade (wanted : Bool) (target : Target) (object : List ℕ) (fault : PutFault) : Type 0 where
+  Unloaded : (why : ObjectFault) → IsLoadFault target object why → IsKept why.fault why.index (name_of why) fault → IsUnmade wanted target object fault
+  Untabled : (loaded : Loaded) → Loads target object loaded → HasNoTable wanted target loaded fault → IsUnmade wanted target object fault
 
 pub record HasNoProgram (bytes_at : List ℕ → Option (List ℕ)) (place : Place) (asked : Asked) (fault : PutFault) : Type 0 where
   pub object : List ℕ
   pub file : IsFile bytes_at place asked.object object
   pub with : List (List ℕ)
   pub others : ReadFirst bytes_at place asked.with.items (length asked.with.items) with
-  pub why : IsUnmade place.lines asked object with fault
+  pub target : Target
+  pub is_target : IsTargetOf asked with target
+  pub why : IsUnmade place.lines target object fault
 
 abbrev pub IsOthersFault : (List ℕ → Option (List ℕ)) → Place → List (List ℕ) → Asked → PutFault → Type 0
 IsOthersFault bytes_at place paths asked fault = (fault ≡ Memory) ⊎ LacksOther bytes_at place paths asked.with.items fault

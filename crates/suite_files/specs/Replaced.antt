@@ -4,12 +4,14 @@ use Rattle.std.specs.List.{position_or_len}
 use Rattle.std.specs.Option.{option_and_then}
 use Rattle.counted_io.specs.Lines.{is_blank, trim_start}
 use Rattle.counted_io.specs.Numerals.{as_u64, natural}
+use Rattle.bpf_load.specs.Targets.{Loads}
+use Rattle.bpf_load.specs.declared.target.Target.{Target}
 use Rattle.suite_files.specs.Asks.{Asks}
-use Rattle.suite_files.specs.Links.{IsProgramOf, IsTableOf}
+use Rattle.suite_files.specs.Links.{IsTableOf, IsTargetOf}
 use Rattle.suite_files.specs.Maps.{maps_text}
 use Rattle.suite_files.specs.Shelves.{IsFile, most_files, path_of, with_names, with_path}
 use Rattle.suite_files.specs.declared.asked.Asked.{Asked}
-use Rattle.suite_files.specs.declared.linked.Made.{Made}
+use Rattle.suite_files.specs.declared.made.Made.{Made}
 use Rattle.suite_files.specs.declared.place.Place.{Place}
 use Rattle.input_texts.specs.Captures.{packet_in}
 use Rattle.input_texts.specs.Heads.{head_of}
@@ -53,15 +55,18 @@ ReadFirst bytes_at place names (suc n) all = (before : List (List ℕ)) × ReadF
 
 -- In place of `-- object FILE` stand the words of the program that is asked for, its maps, and the table of its lines.
 abbrev pub program_text : Made → List ℕ
-program_text made = with_lines (words_text made.program.words.items (maps_text made.program.shapes.items)) made.table.items
+program_text made =
+    let program = made.loaded.program in with_lines (words_text program.words.items (maps_text program.shapes.items)) made.table.items
 
 pub record IsAskedProgram (bytes_at : List ℕ → Option (List ℕ)) (place : Place) (asked : Asked) (made : Made) : Type 0 where
   pub object : List ℕ
   pub file : IsFile bytes_at place asked.object object
   pub with : List (List ℕ)
   pub others : ReadFirst bytes_at place asked.with.items (length asked.with.items) with
-  pub is_program : IsProgramOf asked object with made.program
-  pub is_table : IsTableOf place.lines asked object with made.program.words.items made.table.items
+  pub target : Target
+  pub is_target : IsTargetOf asked with target
+  pub loads : Loads target object made.loaded
+  pub is_table : IsTableOf place.lines target made.loaded made.table.items
 
 pub record IsProgramPut (bytes_at : List ℕ → Option (List ℕ)) (place : Place) (piece put : List ℕ) : Type 0 where
   pub asked : Asked

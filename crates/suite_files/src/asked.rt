@@ -1,6 +1,6 @@
 //! What a section asks of an object.
 ghost use Rattle.std.specs.Prelude.{◌≡◌, IfOk};
-ghost use Rattle.suite_files.specs.Asks.{IsAsked, given_in, packet_in};
+ghost use Rattle.suite_files.specs.Asks.{IsAsked, IsStr, given_in, packet_in};
 
 use bpf_packet::Packet;
 use input_texts::{Text, Word, are_options, head_of, once_of, option_lines, values_of};
@@ -17,7 +17,7 @@ pub struct Asked<'a> {
     pub with: Vec<Text<'a>>,
     pub section: Option<Text<'a>>,
     pub entry: Option<Text<'a>>,
-    pub stubs: Option<Text<'a>>,
+    pub stubs: Option<&'a str>,
     pub as_compiled: bool,
     pub packet: Option<Packet>,
 }
@@ -48,6 +48,19 @@ fn packet_in(named: &Option<Text<'_>>) -> Option<Option<Packet>>
     }
 }
 
+/// A text as a string, if there is one. None where it isn't UTF-8.
+fn str_of<'a>(text: &Option<Text<'a>>) -> Option<Option<&'a str>>
+    ensures { IsStr text.now result }
+{
+    let Some(text) = text else {
+        return Some(None);
+    };
+    match str::from_utf8(text.bytes) {
+        Ok(text) => Some(Some(text)),
+        Err(_) => None,
+    }
+}
+
 /// What the lines of a section say that stand once at most. None where one stands more than once.
 fn given_in(alloc: Global, piece: &[u8]) -> Result<Option<Given<'_>>, AllocError>
     ensures { IfOk result (λ given. given ≡ given_in piece.now) }
@@ -72,7 +85,7 @@ fn given_in(alloc: Global, piece: &[u8]) -> Result<Option<Given<'_>>, AllocError
 }
 
 /// What a section asks of an object. None where its lines aren't what it takes, one stands more than
-/// once, too many objects are joined, or there is no such struct.
+/// once, too many objects are joined, there is no such struct, or the list of stubs isn't UTF-8.
 pub fn asked_of(alloc: Global, piece: &[u8]) -> Result<Option<Asked<'_>>, AllocError>
     ensures { IfOk result (IsAsked piece.now) }
 {
@@ -85,6 +98,9 @@ pub fn asked_of(alloc: Global, piece: &[u8]) -> Result<Option<Asked<'_>>, AllocE
     let Some(packet) = packet_in(&given.structs) else {
         return Ok(None);
     };
+    let Some(stubs) = str_of(&given.stubs) else {
+        return Ok(None);
+    };
     let lines = option_lines(alloc, piece)?;
     let with = values_of(alloc, lines.as_slice(), Word::With)?;
     if with.len() > MOST_WITH {
@@ -95,7 +111,7 @@ pub fn asked_of(alloc: Global, piece: &[u8]) -> Result<Option<Asked<'_>>, AllocE
         with,
         section: given.section,
         entry: given.entry,
-        stubs: given.stubs,
+        stubs,
         as_compiled: given.left.is_some(),
         packet,
     }))

@@ -2,7 +2,7 @@
 ghost use Rattle.std.specs.Prelude.{◌≡◌};
 ghost use Rattle.suite_files.specs.Faults.{named_fault};
 
-use bpf_join::ChainFault;
+use bpf_link::LinkFault;
 
 /// What is wrong with a section that names files.
 #[derive(Clone, Copy)]
@@ -19,14 +19,31 @@ pub enum NamedFault {
     TooMuch,
 }
 
+/// Why no program is made of an object, with a copy of the name that it tells.
+#[derive(Drop)]
+pub struct KeptFault {
+    pub fault: LinkFault,
+    /// Which one of the objects with functions has it; none where it is the object itself, or what
+    /// comes of that and of those before.
+    pub index: Option<usize>,
+    pub name: Vec<u8>,
+}
+
+/// Why there is nothing in place of a piece.
+#[derive(Drop)]
+pub enum PutFault {
+    Named(NamedFault),
+    Link(KeptFault),
+    Memory,
+}
+
 /// Why no file of tests comes of one that names files.
 #[derive(Drop)]
 pub enum FilesFault {
     /// The first fault, and the line of its section, counted from 1.
     Section(NamedFault, usize),
-    /// No program is made of an object; and the line of its section. What is told of it is large, and
-    /// so it isn't moved.
-    Link(Box<ChainFault>, usize),
+    /// No program is made of an object; and the line of its section.
+    Link(KeptFault, usize),
     /// Memory ran out.
     Memory,
 }

@@ -7,9 +7,9 @@ ghost use Rattle.suite_files.specs.Shelves.{paths_on};
 ghost use Rattle.suite_files.specs.declared.file.Done.{Done};
 ghost use Rattle.input_texts.specs.Pieces.{front, pieces};
 
-use crate::fault::{FilesFault, NamedFault};
+use crate::fault::{FilesFault, NamedFault, PutFault};
 use crate::place::Place;
-use crate::put::{PutFault, put_piece};
+use crate::put::put_piece;
 use crate::shelf::Shelved;
 use bpfdb_files::Opener;
 use input_texts::{Piece, Word, front, head_of, pieces};
@@ -65,7 +65,7 @@ fn in_line(fault: PutFault, line: usize) -> FilesFault
 {
     match fault {
         PutFault::Named(fault) => FilesFault::Section(fault, line),
-        PutFault::Link(told) => FilesFault::Link(told, line),
+        PutFault::Link(kept) => FilesFault::Link(kept, line),
         PutFault::Memory => FilesFault::Memory,
     }
 }

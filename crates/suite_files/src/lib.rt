@@ -5,12 +5,12 @@
 mod asked;
 mod fault;
 mod file;
-mod linked;
+mod made;
 mod maps;
 mod place;
 mod put;
 mod shelf;
 
-pub use fault::{FilesFault, NamedFault};
+pub use fault::{FilesFault, KeptFault, NamedFault};
 pub use file::replaced;
 pub use place::Place;

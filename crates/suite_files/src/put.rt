@@ -1,8 +1,8 @@
 //! What stands in place of a piece.
 ghost use Rattle.std.specs.Prelude.{◌≡◌, ◌++◌, ◌<◌, [], IfOk, IfErr, OnOk, get_or, length};
 ghost use Rattle.suite_files.specs.Asks.{Asks};
-ghost use Rattle.suite_files.specs.Links.{IsProgramOf, IsTableOf, contents};
-ghost use Rattle.suite_files.specs.Refused.{IsAskedFault, IsCopyFault, IsKept, IsMemoryFault, IsOthersFault, IsPacketFault, IsProgramFault, IsPutFault, IsUnmade, put_fault};
+ghost use Rattle.bpf_load.specs.Targets.{contents};
+ghost use Rattle.suite_files.specs.Refused.{IsAskedFault, IsCopyFault, IsMemoryFault, IsOthersFault, IsPacketFault, IsProgramFault, IsPutFault, put_fault};
 ghost use Rattle.suite_files.specs.Replaced.{IsAskedProgram, IsMemoryPut, IsPacketPut, IsProgramPut, IsPut, ReadFirst, capture_name, packet_number, program_text, with_objects, with_piece, with_piece_by};
 ghost use Rattle.suite_files.specs.Shelves.{AreRead, IsFile, IsShelf, path_of, paths_on, with_names, with_path};
 ghost use Rattle.input_texts.specs.Heads.{head_of};
@@ -11,24 +11,15 @@ ghost use Rattle.input_texts.specs.Puts.{feeds, memory_text};
 ghost use Rattle.input_texts.specs.declared.word.Word.TheVariants as word;
 
 use crate::asked::{Asked, asked_of};
-use crate::fault::NamedFault;
-use crate::linked::{Made, program_of, table_of};
+use crate::fault::{NamedFault, PutFault};
+use crate::made::{Made, made_of, target_of};
 use crate::maps::maps_text;
 use crate::place::Place;
 use crate::shelf::{NameFault, Shelved, shelve};
-use bpf_join::ChainFault;
 use bpfdb_files::Opener;
 use counted_io::{find_blank, natural, trim_start};
 use input_texts::{Word, feeds, head_of, is_empty, memory_text, with_lines, words_text};
 use std::alloc::{AllocError, Global};
-
-/// Why there is nothing in place of a piece.
-#[derive(Drop)]
-pub enum PutFault {
-    Named(NamedFault),
-    Link(Box<ChainFault>),
-    Memory,
-}
 
 /// Why there is nothing in place of a piece whose file isn't there.
 fn fault_of(fault: NameFault) -> PutFault
@@ -37,17 +28,6 @@ fn fault_of(fault: NameFault) -> PutFault
     match fault {
         NameFault::Named(fault) => PutFault::Named(fault),
         NameFault::Memory => PutFault::Memory,
-    }
-}
-
-/// What is told of a piece of which no program is made, kept in memory of its own.
-#[inline(never)]
-fn boxed(alloc: Global, told: ChainFault) -> PutFault
-    ensures { IsKept told result }
-{
-    match Box::new(alloc, told) {
-        Ok(kept) => PutFault::Link(kept),
-        Err(_) => PutFault::Memory,
     }
 }
 
@@ -74,8 +54,9 @@ fn memory_put(alloc: Global, piece: &[u8], bytes: &[u8]) -> Result<Vec<u8>, Allo
 fn program_put(alloc: Global, piece: &[u8], made: &Made) -> Result<Vec<u8>, AllocError>
     ensures { IfOk result (λ put. put.items ≡ program_text made.now ++ feeds piece.now) }
 {
-    let maps = maps_text(alloc, made.program.shapes.as_slice())?;
-    let words = words_text(alloc, made.program.words.as_slice(), maps.as_slice())?;
+    let program = &made.loaded.program;
+    let maps = maps_text(alloc, program.shapes.as_slice())?;
+    let words = words_text(alloc, program.words.as_slice(), maps.as_slice())?;
     let text = with_lines(alloc, words, made.table.as_slice())?;
     with_feeds(alloc, text, piece)
 }
@@ -235,33 +216,6 @@ fn others_of<F: Opener>(
     Ok(all)
 }
 
-/// The program of an object that is asked for, with others that are joined to it, and its table.
-#[inline(never)]
-fn made_of(
-    alloc: Global,
-    wanted: bool,
-    asked: &Asked<'_>,
-    object: &[u8],
-    with: &[Vec<u8>],
-) -> Result<Made, PutFault>
-    ensures program { IfOk result (λ made.
-        IsProgramOf asked.now object.now (contents with.now) made.program) }
-    ensures table { IfOk result (λ made. IsTableOf wanted asked.now object.now (contents with.now)
-        made.program.words.items made.table.items) }
-    ensures err { IfErr result (IsUnmade wanted asked.now object.now (contents with.now)) }
-{
-    let program = match program_of(alloc, asked, object, with) {
-        Ok(Ok(program)) => program,
-        Ok(Err(told)) => return Err(boxed(alloc, told)),
-        Err(_) => return Err(PutFault::Memory),
-    };
-    match table_of(alloc, wanted, asked, object, with, program.words.as_slice()) {
-        Ok(Ok(table)) => Ok(Made { program, table }),
-        Ok(Err(told)) => Err(boxed(alloc, told)),
-        Err(_) => Err(PutFault::Memory),
-    }
-}
-
 /// The program that is asked for, and its table.
 fn asked_program<F: Opener>(
     alloc: Global,
@@ -287,9 +241,9 @@ fn asked_program<F: Opener>(
         Ok(at) => at,
         Err(fault) => return Err(fault_of(fault)),
     };
-    let wanted = place.lines;
     let object = shelf[at].bytes.as_slice();
-    match made_of(alloc, wanted, asked, object, others.as_slice()) {
+    let target = target_of(asked, others.as_slice());
+    match made_of(alloc, place.lines, &target, object) {
         Ok(made) => Ok(made),
         Err(fault) => Err(fault),
     }

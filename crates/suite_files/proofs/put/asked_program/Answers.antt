@@ -2,7 +2,7 @@ use Rattle.std.proofs.Common.{ℕ, List, inr, length, subst, sym}
 use Rattle.std.specs.Prelude.{Vec}
 use Rattle.std.specs.declared.alloc.Global.{Global}
 use Rattle.suite_files.proofs.Shelving.{file-in}
-use Rattle.suite_files.specs.Links.{contents}
+use Rattle.bpf_load.specs.Targets.{contents}
 use Rattle.suite_files.specs.Replaced.{ReadFirst}
 use Rattle.suite_files.specs.Shelves.{IsFile}
 use Rattle.suite_files.proofs.put.asked_program.Goals as goal
@@ -23,7 +23,9 @@ returns-in-Ok-made_of-clause-ok g c =
       others =
           subst (λ (all : List (Vec ℕ Global)). ReadFirst bytes_at c.args.place.now names (length names) (contents all)) (sym c.as_slice.ensures.value)
           c.in-Ok.ensures.ok;
-      is_program = c.in-Ok-made_of.ensures.program;
+      target = c.target_of-target.result;
+      is_target = c.target_of-target.ensures;
+      loads = c.in-Ok-made_of.ensures.program;
       is_table = c.in-Ok-made_of.ensures.table;
     }
 
@@ -43,5 +45,7 @@ returns-clause-err g c =
       others =
           subst (λ (all : List (Vec ℕ Global)). ReadFirst bytes_at c.args.place.now names (length names) (contents all)) (sym c.as_slice.ensures.value)
           c.in-Ok.ensures.ok;
+      target = c.target_of-target.result;
+      is_target = c.target_of-target.ensures;
       why = c.in-Err-made_of.ensures.err;
     }))

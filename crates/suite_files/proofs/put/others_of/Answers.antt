@@ -2,7 +2,7 @@ use Rattle.std.proofs.Common.{◌≡◌, ◌<◌, ◌+◌, ◌∙◌, ℕ, List,
 use Rattle.std.proofs.lemmas.List.{map-append}
 use Rattle.std.specs.Prelude.{Option, Vec, get_or}
 use Rattle.std.specs.declared.alloc.Global.{Global}
-use Rattle.suite_files.specs.Links.{contents}
+use Rattle.bpf_load.specs.Targets.{contents}
 use Rattle.suite_files.specs.Refused.{IsCopyFault}
 use Rattle.suite_files.specs.Replaced.{ReadFirst}
 use Rattle.suite_files.specs.Shelves.{IsFile, IsShelf, path_of, paths_on, with_names, with_path}

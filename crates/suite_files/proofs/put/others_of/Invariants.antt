@@ -1,4 +1,4 @@
-use Rattle.suite_files.specs.Links.{contents}
+use Rattle.bpf_load.specs.Targets.{contents}
 use Rattle.suite_files.specs.Replaced.{ReadFirst}
 use Rattle.suite_files.specs.Shelves.{IsShelf, paths_on, with_names}
 use Rattle.suite_files.proofs.put.others_of.Given as goal

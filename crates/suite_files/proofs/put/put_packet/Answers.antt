@@ -5,7 +5,7 @@ use Rattle.suite_files.specs.Refused.{IsNumberedFault, IsPacketFault, LacksPacke
 use Rattle.suite_files.specs.Replaced.{capture_name, packet_number}
 use Rattle.suite_files.specs.declared.fault.NamedFault.TheVariants.{NoPacket}
 use Rattle.suite_files.specs.declared.place.Place.{Place}
-use Rattle.suite_files.specs.declared.put.PutFault.TheVariants.{Named}
+use Rattle.suite_files.specs.declared.fault.PutFault.TheVariants.{Named}
 use Rattle.input_texts.specs.Heads.{head_of}
 use Rattle.input_texts.specs.Options.{is_empty}
 use Rattle.suite_files.specs.Shelves.{IsFile, IsShelf, path_of, paths_on, with_path}

@@ -1,0 +1,170 @@
+//! The program of an object, as a section asks for it.
+ghost use Rattle.std.specs.Prelude.{◌≡◌, All, IfErr, IfOk};
+ghost use Rattle.bpf_lines.specs.Objects.{HasPartLines, program_table};
+ghost use Rattle.bpf_load.specs.Faults.{name_of as fault_name};
+ghost use Rattle.bpf_load.specs.Targets.{Loads, contents};
+ghost use Rattle.suite_files.specs.Links.{AreLines, IsTableOf, IsTargetOf, name_of, names_told, section_told};
+ghost use Rattle.suite_files.specs.Refused.{HasNoTable, IsKept, IsUnmade, IsUntold};
+
+use crate::asked::Asked;
+use crate::fault::{KeptFault, PutFault};
+use bpf_lines::{LinesFault, ObjectLines, program_lines, write_table};
+use bpf_link::{LinkFault, fault_names};
+use bpf_load::{Loaded, ObjectFault, Target, load};
+use bpf_packet::Packet;
+use counted_io::{Counted, WriteFault};
+use input_texts::Text;
+use std::alloc::{AllocError, Global};
+
+/// A program with what it was linked of, and the table of where its slots stand in the source of
+/// that, if it is wanted.
+#[derive(Drop)]
+pub struct Made {
+    pub loaded: Loaded,
+    pub table: Vec<u8>,
+}
+
+/// A name, empty where there is none.
+fn name_of<'a>(text: &Option<Text<'a>>) -> &'a [u8]
+    ensures { result.now ≡ name_of text.now }
+{
+    match text {
+        Some(text) => text.bytes,
+        None => b"",
+    }
+}
+
+/// Which program a section asks for, with these objects joined to its own.
+pub fn target_of<'a>(asked: &'a Asked<'a>, with: &'a [Vec<u8>]) -> Target<'a>
+    ensures { IsTargetOf asked.now (contents with.now) result }
+{
+    Target {
+        section: name_of(&asked.section),
+        entry: name_of(&asked.entry),
+        counts: &[],
+        turns: &[],
+        with,
+        stubs: asked.stubs,
+        as_compiled: asked.as_compiled,
+        packet: asked.packet,
+    }
+}
+
+/// A fault of an object with a copy of the name that it tells, unless memory runs out.
+#[inline(never)]
+fn kept(alloc: Global, fault: LinkFault, index: Option<usize>, name: &[u8]) -> PutFault
+    ensures { IsKept fault index name.now result }
+{
+    match Vec::from_slice(alloc, name) {
+        Ok(name) => PutFault::Link(KeptFault { fault, index, name }),
+        Err(_) => PutFault::Memory,
+    }
+}
+
+/// Why no program is made of an object, kept.
+fn kept_object(alloc: Global, fault: &ObjectFault<'_>) -> PutFault
+    ensures { IsKept fault.now.fault fault.now.index (fault_name fault.now) result }
+{
+    kept(alloc, fault.fault, fault.index, fault.name())
+}
+
+/// The section whose lines an object tells: of one with functions it is that of these.
+fn section_told<'a>(index: Option<usize>, section: &'a [u8]) -> &'a [u8]
+    ensures { result.now ≡ section_told index section.now }
+{
+    match index {
+        None => section,
+        Some(_) => b".text",
+    }
+}
+
+/// Why nothing is told of an object's slots, kept.
+#[inline(never)]
+fn kept_lines(alloc: Global, section: &[u8], refused: &LinesFault<'_>) -> PutFault
+    ensures { IsKept refused.now.fault refused.now.index (names_told section.now refused.now) result }
+{
+    let told = section_told(refused.index, section);
+    let names = fault_names(refused.object.bytes, told, &refused.fault);
+    kept(alloc, refused.fault, refused.index, names.as_slice())
+}
+
+/// What is told of a program's slots: where they stand in the source of what it was linked of.
+fn lines_of<'a>(
+    alloc: Global,
+    target: &Target<'a>,
+    loaded: &'a Loaded,
+) -> Result<Vec<ObjectLines<'a>>, PutFault>
+    ensures ok { IfOk result (λ all. AreLines target.now loaded.now all.items) }
+    ensures told { IfOk result (λ all. All HasPartLines all.items) }
+    ensures err { IfErr result (IsUntold target.now loaded.now) }
+{
+    let own = loaded.sources.own.as_slice();
+    match program_lines(alloc, own, target.section, target.with) {
+        Ok(all) => Ok(all),
+        Err(refused) => Err(kept_lines(alloc, target.section, &refused)),
+    }
+}
+
+/// The table of a program's slots, of which this is told.
+fn written(
+    alloc: Global,
+    packet: Option<Packet>,
+    words: &[u8],
+    all: &[ObjectLines<'_>],
+) -> Result<Vec<u8>, AllocError>
+    requires { All HasPartLines all.now }
+    ensures { IfOk result (λ table. table.items ≡ program_table packet words.now all.now) }
+{
+    let mut writer = Counted::new(Vec::new(alloc));
+    match write_table(&mut writer, packet, words, all) {
+        Ok(()) => Ok(writer.into_inner()),
+        Err(WriteFault) => Err(AllocError),
+    }
+}
+
+/// The table of where a program's slots stand in its source; nothing where none is wanted.
+#[inline(never)]
+fn table_of(
+    alloc: Global,
+    wanted: bool,
+    target: &Target<'_>,
+    loaded: &Loaded,
+) -> Result<Vec<u8>, PutFault>
+    ensures ok { IfOk result (λ table. IsTableOf wanted target.now loaded.now table.items) }
+    ensures err { IfErr result (HasNoTable wanted target.now loaded.now) }
+{
+    if !wanted {
+        return Ok(Vec::new(alloc));
+    }
+    let all = match lines_of(alloc, target, loaded) {
+        Ok(all) => all,
+        Err(fault) => return Err(fault),
+    };
+    let words = loaded.program.words.as_slice();
+    match written(alloc, target.packet, words, all.as_slice()) {
+        Ok(table) => Ok(table),
+        Err(_) => Err(PutFault::Memory),
+    }
+}
+
+/// The program of an object, with its table.
+#[inline(never)]
+pub fn made_of(
+    alloc: Global,
+    wanted: bool,
+    target: &Target<'_>,
+    object: &[u8],
+) -> Result<Made, PutFault>
+    ensures program { IfOk result (λ made. Loads target.now object.now made.loaded) }
+    ensures table { IfOk result (λ made. IsTableOf wanted target.now made.loaded made.table.items) }
+    ensures err { IfErr result (IsUnmade wanted target.now object.now) }
+{
+    let loaded = match load(alloc, object, target) {
+        Ok(loaded) => loaded,
+        Err(fault) => return Err(kept_object(alloc, &fault)),
+    };
+    match table_of(alloc, wanted, target, &loaded) {
+        Ok(table) => Ok(Made { loaded, table }),
+        Err(fault) => Err(fault),
+    }
+}
