@@ -68,8 +68,11 @@ done
 # What is malformed, or not there.
 for piece in '-- mem-file' '-- mem-file \n' '-- mem-file empty\n00\n' '-- mem-file empty\n-- section x\n' '-- packet packets.pcap\n' '-- packet packets.pcap x\n' '-- packet packets.pcap -1\n' \
     '-- packet packets.pcap 18446744073709551616\n' '-- packet\n' '-- packet packets.pcap 1\n#\n' '-- object\n' '-- object \t\n-- entry x\n' '-- object empty\nentry x\n' '-- object empty\n#\n' \
-    '-- object empty\n-- entry x\n-- entry x\n' '-- object empty\n-- section x\n-- stub 5=1\n-- section y\n' '-- object empty\n-- as-compiled\n-- as-compiled\n' '-- object empty\n-- struct\n' \
-    '-- object empty\n-- struct xdp_md\n' '-- object empty\n-- with\n' "-- object empty\n$(printf -- '-- with empty\\n%.0s' 1 2 3 4 5 6 7 8 9 10 11 12 13 14 15 16 17)"; do
+    '-- object empty\n-- section x\n-- section x\n' '-- object empty\n-- section x\n-- stub 5=1\n-- section y\n' '-- object empty\n-- as-compiled\n-- as-compiled\n' '-- object empty\n-- struct\n' \
+    '-- object empty\n-- struct xdp_md\n' '-- object empty\n-- with\n' "-- object empty\n$(printf -- '-- with empty\\n%.0s' 1 2 3 4 5 6 7 8 9 10 11 12 13 14 15 16 17)" \
+    "-- object empty\n$(printf -- '-- entry x\\n%.0s' 1 2 3 4 5 6 7 8 9 10 11 12 13 14 15 16 17)" \
+    '-- object empty\n-- entry x@65536\n' '-- object empty\n-- entry x@\n' '-- object empty\n-- entry x\n-- entry y@-1\n' \
+    '-- object empty\n-- entry \377\n' '-- object empty\n-- stub \377\n'; do
     fails 'refused T9 at line 4: malformed section of a file' "# \n-- result\n0\n$piece"
 done
 # (a file that is there, but outside of the folder, isn't read without --anywhere; and a name that leads out of it nowhere)
@@ -88,7 +91,7 @@ tests 0 '1..1\nok 1\n' '-- mem-file below/abc\n-- listing\nldxb r0, [r1+0]\nexit
 for name in missing below/missing empty/abc below ..x; do
     fails "refused T11 at line 1: file can't be read" "-- mem-file $name\n-- listing\nexit\n-- result\n0\n"
 done
-fails "refused T11 at line 1: file can't be read" '-- mem-file \0377\n-- listing\nexit\n-- result\n0\n'
+fails "refused T11 at line 1: file can't be read" '-- mem-file \377\n-- listing\nexit\n-- result\n0\n'
 # (the first section with a fault, of those that name files; these come before all others)
 fails "refused T11 at line 3: file can't be read" '-- steps\nx\n-- mem-file missing\n-- packet\n'
 fails 'refused T4 at line 3: malformed section' '-- mem-file below/abc\n\n-- steps\nx\n'
@@ -97,6 +100,7 @@ fails 'refused T2 at line 1: unknown section' '-- entry x\n-- listing\nexit\n-- 
 fails 'refused T2 at line 3: unknown section' '-- result\n0\n-- stub 5=1\n-- listing\nexit\n'
 fails 'refused T2 at line 1: unknown section' '-- objects empty\n'
 fails 'refused E1: no ELF file (the object in line 1)' '-- object empty\n-- result\n0\n'
+fails 'refused E1: no ELF file (the object in line 1)' "-- object empty\n$(printf -- '-- entry x\\n%.0s' 1 2 3 4 5 6 7 8 9 10 11 12 13 14 15 16)-- result\n0\n"
 fails 'refused E32: malformed list of stubs (the object in line 2)' '\n-- object empty\n-- stub 5\n-- result\n0\n'
 # (the other subcommands read no such names, and neither does a word of an option)
 usage "unexpected argument '--anywhere' found" run --anywhere folder/empty
@@ -115,6 +119,32 @@ for compiler in $compilers; do
     tests 0 '1..1\nok 1\n' '-- object program.o\n-- section time\n-- with mock.o\n-- result\n1000\n'
     # (sixteen objects are joined, the most, and the last of them answers the helper)
     tests 0 '1..1\nok 1\n' "-- object program.o\n-- section time\n$(printf -- '-- with other.o\\n%.0s' 1 2 3 4 5 6 7 8 9 10 11 12 13 14 15)-- with mock.o\n-- result\n1000\n"
+    # Programs in turn of turns/pair.c over the numbers 3 and 5 of 8 bytes each: 2 * 3 + 100 * 3 + 10000 * 16, and over the second of them alone
+    # 2 * 3 + 100 * 5 + 10000 * 8; 41, 42 and 43, whatever their context; and the time, which is 1000 or 7, once more than a hundred times.
+    "$compiler" -g -O2 -target bpf -c "$parts/turns/pair.c" -o folder/pair.o 2> found/err || complain "$compiler: pair.c: $(cat found/err)"
+    numbers='-- mem\n0300000000000000 0500000000000000\n'
+    tests 0 '1..1\nok 1\n' "-- object pair.o\n-- entry store\n-- entry take\n$numbers-- result\n160306\n"
+    tests 0 '1..1\nok 1\n' "-- object pair.o\n-- entry  store \n\n--entry take@8\r\n$numbers-- result\n80506\n"
+    tests 0 '1..1\nok 1\n' "-- object pair.o\n-- entry take@0x8\n$numbers-- result\n80500\n"
+    tests 0 '1..2\nok 1 - a\nok 2 - b\n' "-- object pair.o\n-- entry count\n-- entry count@16\n-- entry count\n$numbers-- name\na\n-- result\n43\n-- name\nb\n-- object pair.o\n-- entry count@0\n-- result\n41\n"
+    tests 0 '1..1\nok 1\n' '-- object pair.o\n-- with mock.o\n-- entry begin\n-- entry end\n-- result\n101000\n'
+    tests 0 '1..1\nok 1\n' '-- object pair.o\n-- entry begin\n-- stub 5=7\n-- entry end\n-- result\n707\n'
+    fails 'refused E31: no such function in the code section: none (the object in line 1)' '-- object pair.o\n-- entry store\n-- entry none@8\n-- result\n0\n'
+    fails 'refused E8: no such code section: .text, prog/one, prog/two, prog/three, prog/timed, prog/timed too, prog/field, prog/fields (the object in line 3)' '-- result\n0\n-- object pair.o\n-- section none\n-- entry store\n-- entry take\n'
+    # Their lines are those that `lines` tells of the same program.
+    "$program" link --entry store --entry take folder/pair.o > words 2> told || complain "$compiler: link of programs in turn: $(cat told)"
+    {
+        printf -- '-- words\n'
+        od -An -v -tx1 words
+        printf -- '-- maps\n%s\n-- lines\n' "$(sed -n 's/^--maps //p' told)"
+        "$program" lines --object --entry store --entry take folder/pair.o
+        printf -- '-- mem\n0300000000000000 0500000000000000\n-- result\n160306\n'
+    } > folder/lines.test
+    printf -- "-- object pair.o\n-- entry store\n-- entry take\n$numbers-- result\n160306\n" > folder/t.test
+    "$program" test --cover-info folder/lines.test > found/wanted 2> found/err || complain "$compiler: lines of programs in turn: $(cat found/err)"
+    "$program" test --cover-info folder/t.test > found/out 2> found/err || complain "$compiler: lines of programs in turn: $(cat found/err)"
+    count=$((count + 1))
+    { grep -q '^DA:[0-9]*,1$' found/out && cmp -s found/wanted found/out; } || complain "$compiler: lines of programs in turn: $(cat found/out)"
     # A test for each program of an object; behind each its own faults, in its own line.
     tests 1 "1..3\nok 1 - a\nnot ok 2 - b\n# the test in line 7\n# came: exited at 1: r0 0x1\n# wanted: result 9\n# debug: bpfdb-show 'b' 'folder/t.test'\nok 3 - c\n" \
         '-- name\na\n-- object program.o\n-- section count\n-- result\n1\n-- name\nb\n-- object program.o\n-- section two\n-- entry first_of_two\n-- result\n9\n-- name\nc\n-- object program.o\n-- section two\n-- entry second\n\n-- result\n2\n'

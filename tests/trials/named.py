@@ -9,7 +9,8 @@ import subprocess
 import sys
 
 LINES = re.compile(r'(the test in line |the program in line |at line )(\d+)')
-PROGRAMS = [['first'], ['two', 'first_of_two'], ['two', 'second'], ['count'], ['time', None, '-- stub 5=7'], ['time', None, '-- with mock.o']]
+PROGRAMS = [['first'], ['two', 'first_of_two'], ['two', 'second'], ['count'], ['time', None, '-- stub 5=7'], ['time', None, '-- with mock.o'],
+            [None, 'counting', '-- entry second', '-- entry counting@1'], ['two', 'second@2'], [None, 'now@1', '-- stub 5=7', '-- entry first_byte']]
 
 
 def run(program, folder, *words):
@@ -64,7 +65,7 @@ def some_test(random):
     sections = []
     if random.random() < 0.7:
         section, *more = random.choice(PROGRAMS)
-        options = ['-- section ' + section] + ['-- entry ' + name for name in more[:1] if name] + more[1:]
+        options = (['-- section ' + section] if section else []) + ['-- entry ' + name for name in more[:1] if name] + more[1:]
         random.shuffle(options)
         for _ in range(random.randrange(3)):
             options.insert(random.randrange(len(options) + 1), random.choice(['', ' ', '\t']))

@@ -2,3 +2,4 @@ pub mod Desking
 pub mod Faulting
 pub mod Naming
 pub mod Shelving
+pub mod Strings

@@ -7,6 +7,7 @@ use Rattle.bpf_link.specs.Names.{fault_names}
 use Rattle.bpf_load.specs.Targets.{contents, texts}
 use Rattle.bpf_load.specs.declared.loading.Loaded.{Loaded}
 use Rattle.bpf_load.specs.declared.target.Target.{Target}
+use Rattle.suite_files.specs.Asks.{entry_in, turns_in}
 use Rattle.suite_files.specs.declared.asked.Asked.{Asked}
 
 -- A name, empty where there is none.
@@ -16,9 +17,9 @@ name_of text = unwrap_or text []
 -- Which program is asked for, with these objects joined to its own.
 pub record IsTargetOf (asked : Asked) (others : List (List ℕ)) (target : Target) : Type 0 where
   pub section : target.section.now ≡ name_of asked.section
-  pub entry : target.entry.now ≡ name_of asked.entry
+  pub entry : target.entry.now ≡ entry_in (texts asked.entries.items)
   pub counts : texts target.counts.now ≡ []
-  pub turns : texts target.turns.now ≡ []
+  pub turns : texts target.turns.now ≡ turns_in (texts asked.entries.items)
   pub with : contents target.with.now ≡ others
   pub stubs : target.stubs ≡ asked.stubs
   pub as_compiled : target.as_compiled ≡ asked.as_compiled

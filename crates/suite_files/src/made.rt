@@ -1,8 +1,11 @@
 //! The program of an object, as a section asks for it.
-ghost use Rattle.std.specs.Prelude.{◌≡◌, All, IfErr, IfOk};
+ghost use Rattle.std.specs.Prelude.{◌≡◌, ◌&&◌, All, IfErr, IfOk, length, nat_le, not};
+ghost use Rattle.std.specs.List.{list_all};
 ghost use Rattle.bpf_lines.specs.Objects.{HasPartLines, program_table};
 ghost use Rattle.bpf_load.specs.Faults.{name_of as fault_name};
-ghost use Rattle.bpf_load.specs.Targets.{Loads, contents};
+ghost use Rattle.bpf_load.specs.Targets.{Loads, contents, texts};
+ghost use Rattle.input_texts.specs.Turns.{has_place};
+ghost use Rattle.suite_files.specs.Asks.{entry_in, names_one, turns_in};
 ghost use Rattle.suite_files.specs.Links.{AreLines, IsTableOf, IsTargetOf, name_of, names_told, section_told};
 ghost use Rattle.suite_files.specs.Refused.{HasNoTable, IsKept, IsUnmade, IsUntold};
 
@@ -13,7 +16,7 @@ use bpf_link::{LinkFault, fault_names};
 use bpf_load::{Loaded, ObjectFault, Target, load};
 use bpf_packet::Packet;
 use counted_io::{Counted, WriteFault};
-use input_texts::Text;
+use input_texts::{Text, has_place};
 use std::alloc::{AllocError, Global};
 
 /// A program with what it was linked of, and the table of where its slots stand in the source of
@@ -34,15 +37,58 @@ fn name_of<'a>(text: &Option<Text<'a>>) -> &'a [u8]
     }
 }
 
+/// Whether none of some texts has a place of the context.
+fn have_no_places(entries: &[&str]) -> bool
+    ensures { result ≡ list_all (λ text. not (has_place text.now)) entries.now }
+{
+    entries.iter().all(|text| !has_place(text.as_bytes()))
+}
+
+/// Whether there is one text at most, without a place of the context.
+fn is_one(entries: &[&str]) -> bool
+    ensures { result ≡ (nat_le (length entries.now) 1
+        && list_all (λ text. not (has_place text.now)) entries.now) }
+{
+    entries.len() <= 1 && have_no_places(entries)
+}
+
+/// Whether one program is named at most, and no place of its context.
+fn names_one(entries: &[&str]) -> bool
+    ensures { result ≡ names_one (texts entries.now) }
+{
+    is_one(entries)
+}
+
+/// The name of the only program that is named: empty where none is, or they are called in turn.
+fn entry_in<'a>(entries: &[&'a str]) -> &'a [u8]
+    ensures { result.now ≡ entry_in (texts entries.now) }
+{
+    if !names_one(entries) {
+        return b"";
+    }
+    match entries {
+        [text, ..] => text.as_bytes(),
+        [] => b"",
+    }
+}
+
+/// The programs that are called in turn: none where one is named.
+fn turns_in<'a>(entries: &'a [&'a str]) -> &'a [&'a str]
+    ensures { texts result.now ≡ turns_in (texts entries.now) }
+{
+    if names_one(entries) { &[] } else { entries }
+}
+
 /// Which program a section asks for, with these objects joined to its own.
 pub fn target_of<'a>(asked: &'a Asked<'a>, with: &'a [Vec<u8>]) -> Target<'a>
     ensures { IsTargetOf asked.now (contents with.now) result }
 {
+    let entries = asked.entries.as_slice();
     Target {
         section: name_of(&asked.section),
-        entry: name_of(&asked.entry),
+        entry: entry_in(entries),
         counts: &[],
-        turns: &[],
+        turns: turns_in(entries),
         with,
         stubs: asked.stubs,
         as_compiled: asked.as_compiled,
