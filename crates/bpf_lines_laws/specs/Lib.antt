@@ -1,0 +1,4 @@
+pub mod Origins
+pub mod Kept
+pub mod Joins
+pub mod Laws
