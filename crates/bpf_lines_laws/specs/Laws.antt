@@ -4,8 +4,8 @@ use Rattle.bpf_link.specs.Programs.{Asked, IsLinkedAs}
 use Rattle.bpf_link.specs.declared.linker.Linked.{Linked}
 use Rattle.bpf_lines.specs.Objects.{AreProgramLines, program_table}
 use Rattle.bpf_lines.specs.declared.objects.ObjectLines.{ObjectLines}
-use Rattle.bpf_load.specs.Targets.{Loads, contents}
-use Rattle.bpf_load.specs.declared.loading.Loaded.{Loaded}
+use Rattle.bpf_load.specs.Targets.{LinksTo, contents}
+use Rattle.bpf_load.specs.declared.loading.LinkedObject.{LinkedObject}
 use Rattle.bpf_load.specs.declared.target.Target.{Target}
 use Rattle.bpf_lines_laws.specs.Joins.{AreOthers, CallsNone}
 use Rattle.bpf_lines_laws.specs.Kept.{IsKept, code_begin}
@@ -23,13 +23,13 @@ pub record AreTheSlots {asked : Asked} {program : Linked} (it : IsLinkedAs asked
 -- So it is of each program that is loaded of FILE alone: of that with the entries that its maps are told, and with its programs in turn.
 abbrev pub LinesAreTheSlots : Type 0
 LinesAreTheSlots =
-    (target : Target) (file : List ℕ) (loaded : Loaded) (loads : Loads target file loaded) (all : List ObjectLines)
+    (target : Target) (file : List ℕ) (loaded : LinkedObject) (loads : LinksTo target file loaded) (all : List ObjectLines)
     → contents target.with.now ≡ [] → AreProgramLines loaded.sources.own.items target.section.now [] all
     → AreTheSlots loads.linked all (IsKept loads.linked)
 
 -- And of each that is loaded of FILE and others that are joined to it, but for what these answer.
 abbrev pub JoinedLinesAreTheSlots : Type 0
 JoinedLinesAreTheSlots =
-    (target : Target) (file : List ℕ) (loaded : Loaded) (loads : Loads target file loaded) (joins : AreOthers target loaded.sources)
+    (target : Target) (file : List ℕ) (loaded : LinkedObject) (loads : LinksTo target file loaded) (joins : AreOthers target loaded.sources)
     (all : List ObjectLines) → AreProgramLines loaded.sources.own.items target.section.now (contents target.with.now) all
     → AreTheSlots loads.linked all (λ n. IsKept loads.linked n × CallsNone target loaded.sources joins n)

@@ -1,8 +1,13 @@
--- Why no program comes of FILE: the first step that isn't done, of its maps, its programs in turn, the stubs, the others, the link; and what is told of that.
+-- Why no program comes of FILE: the first step that isn't done. Of an object these are the entries of its maps, its programs in turn, the stubs, the
+-- others, the link; then its maps and the checker. And what is told of that.
 use Rattle.std.specs.Prelude.{ℕ, ◌≡◌, nat_lt, Bool, if◌then◌else◌, List, [], ◌∷◌, Option, Some, None, Ok, Err, get_or, length}
 use Rattle.std.specs.Borrow.{Bor}
 use Rattle.bpf_counts.specs.Counted.{IsCountFault, IsCounted}
 use Rattle.bpf_counts.specs.declared.told.CountFault.{CountFault}
+use Rattle.bpf_isa.specs.Checker.{IsRefused}
+use Rattle.bpf_isa.specs.Maps.{IsFirstBadMap, IsListFault}
+use Rattle.bpf_isa.specs.declared.fault.MapFault.{MapFault}
+use Rattle.bpf_isa.specs.declared.maps.MapShape.{MapShape}
 use Rattle.bpf_join.specs.Chains.{IsChainFault}
 use Rattle.bpf_join.specs.declared.chain.ChainFault.{ChainFault}
 use Rattle.bpf_join.specs.declared.fault.JoinFault.{JoinFault}
@@ -12,13 +17,19 @@ use Rattle.bpf_link.specs.Programs.{IsLinkRefusal}
 use Rattle.bpf_link.specs.declared.fault.LinkFault.{LinkFault}
 use Rattle.bpf_link.specs.declared.fault.LinkFault.TheVariants as link
 use Rattle.bpf_link.specs.declared.stubs.Stub.{Stub}
+use Rattle.bpf_text.specs.Listing.{IsFaultOf}
 use Rattle.bpf_turns.specs.Turned.{IsTurnFault}
 use Rattle.bpf_turns.specs.declared.seats.TurnFault.{TurnFault}
 use Rattle.input_texts.specs.Counts.{map_in}
 use Rattle.input_texts.specs.Turns.{name_in}
-use Rattle.bpf_load.specs.Targets.{Gathers, IsOwn, asked_of, contents, object_of, stubs_of, texts}
+use Rattle.bpf_load.specs.Targets.{AreNamedMaps, Gathers, Holds, IsOwn, LinksTo, asked_of, contents, object_of, stubs_of, texts}
 use Rattle.bpf_load.specs.declared.fault.ObjectFault.{ObjectFault}
+use Rattle.bpf_load.specs.declared.fault.TargetFault.{TargetFault}
+use Rattle.bpf_load.specs.declared.fault.TargetFault.TheVariants as why
+use Rattle.bpf_load.specs.declared.loading.LinkedObject.{LinkedObject}
 use Rattle.bpf_load.specs.declared.loading.Sources.{Sources}
+use Rattle.bpf_load.specs.declared.target.SourceKind.{SourceKind}
+use Rattle.bpf_load.specs.declared.target.SourceKind.TheVariants as kind
 use Rattle.bpf_load.specs.declared.target.Target.{Target}
 
 -- What is told: a fault, which of the others has it, and a name, one that was asked for or those that stand in the object.
@@ -82,7 +93,26 @@ pub data IsGatherFault (target : Target) (file : List ℕ) (it : ObjectFault) : 
       → (told : ChainFault) → LacksOthers own (contents target.with.now) target.section.now target.as_compiled told
       → Tells (joined_fault told.fault) (joined_index told.fault told.index) told.names.items it → IsGatherFault target file it
 
-pub data IsLoadFault (target : Target) (file : List ℕ) (it : ObjectFault) : Type 0 where
-  Ungathered : IsGatherFault target file it → IsLoadFault target file it
+pub data IsObjectFault (target : Target) (file : List ℕ) (it : ObjectFault) : Type 0 where
+  Ungathered : IsGatherFault target file it → IsObjectFault target file it
   Unlinked : (sources : Sources) → Gathers target file sources → (fault : LinkFault) → IsLinkRefusal (asked_of target sources) fault
-      → Tells fault None (fault_names (object_of sources) target.section.now fault) it → IsLoadFault target file it
+      → Tells fault None (fault_names (object_of sources) target.section.now fault) it → IsObjectFault target file it
+
+-- The text of a map table names none.
+abbrev pub IsMapsFault : Option (Bor (List ℕ)) → MapFault → Type 0
+IsMapsFault None fault = ⊥
+IsMapsFault (Some text) fault = IsListFault text.now fault
+
+-- Maps are out of their limits: those of an object, or those that are named.
+abbrev pub HasMapsFault : SourceKind → Target → List ℕ → MapFault → Type 0
+HasMapsFault kind.Object target file fault = (linked : LinkedObject) × LinksTo target file linked × IsFirstBadMap linked.program.shapes.items fault
+HasMapsFault _ target file fault = IsMapsFault target.maps fault
+
+-- Each comes where those before don't.
+abbrev pub IsTargetFault : Target → List ℕ → TargetFault → Type 0
+IsTargetFault target file (why.Object it) = (target.kind ≡ kind.Object) × IsObjectFault target file it
+IsTargetFault target file (why.Maps fault) = HasMapsFault target.kind target file fault
+IsTargetFault target file (why.Listing fault) =
+    (target.kind ≡ kind.Listing) × (maps : List MapShape) × AreNamedMaps target.maps maps × IsFaultOf file fault
+IsTargetFault target file (why.Program fault) = (object : Option LinkedObject) × (words : List ℕ) × (maps : List MapShape)
+    × Holds target.kind target file object words maps × IsRefused words maps fault

@@ -1,18 +1,26 @@
--- What FILE comes to, an object, by what says which of its programs runs: its own object, what that comes to with others, and the program of this.
-use Rattle.std.specs.Prelude.{ℕ, ◌≡◌, Bool, List, [], ◌∷◌, Vec, Option, Some, None, Result, Ok, map}
+-- What FILE comes to by what says which program runs: of an object its own object, what that comes to with others, and what is linked of this;
+-- and the program, which the checker accepts.
+use Rattle.std.specs.Prelude.{ℕ, ◌≡◌, Bool, List, [], ◌∷◌, Vec, Option, Some, None, Result, Ok, map, option_map}
 use Rattle.std.specs.declared.alloc.Global.{Global}
 use Rattle.std.specs.Borrow.{Bor}
 use Rattle.std.specs.Option.{option_map_or}
 use Rattle.bpf_counts.specs.Counted.{IsCounted}
+use Rattle.bpf_isa.specs.Maps.{IsMapList, items_of, shape_of}
+use Rattle.bpf_isa.specs.Programs.{Checked, IsProgram}
+use Rattle.bpf_isa.specs.declared.maps.MapShape.{MapShape}
 use Rattle.bpf_join.specs.Chains.{IsChain}
 use Rattle.bpf_join.specs.declared.joined.Joined.{Joined}
 use Rattle.bpf_link.specs.Programs.{Asked, IsLinkedAs}
 use Rattle.bpf_link.specs.StubLists.{stubs_in}
 use Rattle.bpf_link.specs.declared.fault.LinkFault.{LinkFault}
 use Rattle.bpf_link.specs.declared.stubs.Stub.{Stub}
+use Rattle.bpf_text.specs.Listing.{IsListing}
 use Rattle.bpf_turns.specs.Turned.{IsTurned}
-use Rattle.bpf_load.specs.declared.loading.Loaded.{Loaded}
+use Rattle.bpf_load.specs.declared.loading.LinkedObject.{LinkedObject}
 use Rattle.bpf_load.specs.declared.loading.Sources.{Sources}
+use Rattle.bpf_load.specs.declared.program.Loaded.{Loaded}
+use Rattle.bpf_load.specs.declared.target.SourceKind.{SourceKind}
+use Rattle.bpf_load.specs.declared.target.SourceKind.TheVariants.{Words, Listing, Object}
 use Rattle.bpf_load.specs.declared.target.Target.{Target}
 
 -- Texts, and the bytes of files.
@@ -70,10 +78,42 @@ asked_of target sources = record {
   packet = target.packet;
 }
 
--- The program, and how many relocations of fields are left undone in FILE's own code.
-pub record Loads (target : Target) (file : List ℕ) (loaded : Loaded) : Type 0 where
-  pub gathers : Gathers target file loaded.sources
-  pub linked : IsLinkedAs (asked_of target loaded.sources) loaded.program
+-- What is linked of it, and how many relocations of fields are left undone in FILE's own code.
+pub record LinksTo (target : Target) (file : List ℕ) (it : LinkedObject) : Type 0 where
+  pub gathers : Gathers target file it.sources
+  pub linked : IsLinkedAs (asked_of target it.sources) it.program
 
-abbrev pub fields_of : Loaded → ℕ
-fields_of loaded = option_map_or (λ joined. joined.fields) loaded.sources.joined loaded.program.fields
+abbrev pub fields_of : LinkedObject → ℕ
+fields_of linked = option_map_or (λ joined. joined.fields) linked.sources.joined linked.program.fields
+
+-- The maps that a text names; none where there is no text.
+abbrev pub AreNamedMaps : Option (Bor (List ℕ)) → List MapShape → Type 0
+AreNamedMaps None maps = maps ≡ []
+AreNamedMaps (Some text) maps = IsMapList text.now × (maps ≡ map shape_of (items_of text.now))
+
+-- The words of FILE and their maps: words as they are and those of a listing, with the maps that are named; or those to which an object is linked,
+-- with its own maps.
+abbrev pub Holds : SourceKind → Target → List ℕ → Option LinkedObject → List ℕ → List MapShape → Type 0
+Holds Object target file None words maps = ⊥
+Holds Object target file (Some linked) words maps =
+    LinksTo target file linked × (words ≡ linked.program.words.items) × (maps ≡ linked.program.shapes.items)
+Holds Listing target file object words maps = (object ≡ None) × AreNamedMaps target.maps maps × IsListing file words
+Holds Words target file object words maps = (object ≡ None) × AreNamedMaps target.maps maps × (words ≡ file)
+
+-- One that is lent.
+abbrev pub lent : Option (Bor LinkedObject) → Option LinkedObject
+lent object = option_map (λ o. o.now) object
+
+abbrev pub loaded_of : Checked → Option LinkedObject → Loaded
+loaded_of program object = record { program = program; object = object }
+
+-- The object that is known beside it: what FILE is linked to, where that is one.
+abbrev pub IsObjectOf : SourceKind → Target → List ℕ → Option LinkedObject → Type 0
+IsObjectOf Object target file None = ⊥
+IsObjectOf Object target file (Some linked) = LinksTo target file linked
+IsObjectOf kind target file object = object ≡ None
+
+-- The program, which the checker accepts, and the object that it was linked of.
+pub record Loads (target : Target) (file : List ℕ) (loaded : Loaded) : Type 0 where
+  pub holds : Holds target.kind target file loaded.object loaded.program.bytes loaded.program.maps
+  pub accepted : IsProgram loaded.program

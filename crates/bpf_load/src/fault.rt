@@ -1,12 +1,14 @@
-//! Why no program is made of an object.
+//! Why no program is made of FILE.
 ghost use Rattle.std.specs.Prelude.{◌≡◌, [], List, None, get_or, map, ℕ};
 ghost use Rattle.bpf_link.specs.Names.{fault_names};
 ghost use Rattle.bpf_load.specs.Faults.{Tells, count_name, joined_fault, joined_index, name_of, or_found, turn_at, turn_name};
 
 use arrayvec::ArrayVec;
 use bpf_counts::CountFault;
+use bpf_isa::{LoadFault, MapFault};
 use bpf_join::{ChainFault, JoinFault};
 use bpf_link::{LinkFault, fault_names};
+use bpf_text::AsmFault;
 use bpf_turns::TurnFault;
 use input_texts::{map_in, name_in};
 
@@ -21,6 +23,20 @@ pub struct ObjectFault<'a> {
     pub asked: Option<&'a [u8]>,
     /// The names that it tells else, as they stand in the object.
     pub found: ArrayVec<u8, 4369>,
+}
+
+/// Why no program is made of FILE, in the order in which it is looked at; of an object it is looked
+/// first at that, then at its maps.
+#[derive(Drop)]
+pub enum TargetFault<'a> {
+    /// The map table.
+    Maps(MapFault),
+    /// The listing.
+    Listing(AsmFault),
+    /// The checker refuses the words.
+    Program(LoadFault),
+    /// The object.
+    Object(ObjectFault<'a>),
 }
 
 impl<'a> ObjectFault<'a> {

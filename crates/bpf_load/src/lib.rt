@@ -1,10 +1,12 @@
-//! The program of an object, from its file and what says which of its programs runs.
+//! A program, from FILE and what says which of its programs runs.
 #![tactic(auto)]
 
 mod fault;
 mod loading;
+mod program;
 mod target;
 
-pub use fault::ObjectFault;
-pub use loading::{Loaded, Sources, gathered, load};
-pub use target::Target;
+pub use fault::{ObjectFault, TargetFault, in_object};
+pub use loading::{LinkedObject, Sources, gathered, link_object};
+pub use program::{Loaded, load, load_again, named_maps};
+pub use target::{SourceKind, Target};

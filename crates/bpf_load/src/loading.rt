@@ -1,9 +1,9 @@
-//! From an object's file to its program.
+//! From an object's file to the program that is linked of it.
 ghost use Rattle.std.specs.Prelude.{◌≡◌, IfErr, IfOk};
 ghost use Rattle.bpf_counts.specs.Counted.{IsCounted};
 ghost use Rattle.bpf_link.specs.Programs.{IsLinkRefusal, IsLinkedAs};
-ghost use Rattle.bpf_load.specs.Faults.{IsGatherFault, IsLoadFault, IsOwnFault, LacksOthers};
-ghost use Rattle.bpf_load.specs.Targets.{Gathers, IsOwn, JoinsTo, Loads, asked_of, fields_of, contents, object_of, texts};
+ghost use Rattle.bpf_load.specs.Faults.{IsGatherFault, IsObjectFault, IsOwnFault, LacksOthers};
+ghost use Rattle.bpf_load.specs.Targets.{Gathers, IsOwn, JoinsTo, LinksTo, asked_of, fields_of, contents, object_of, texts};
 
 use crate::fault::{ObjectFault, in_object, of_count, of_others, of_turns};
 use crate::target::{Target, stubs_of};
@@ -39,12 +39,12 @@ impl Sources {
 
 /// An object's program, and what it was linked of.
 #[derive(Drop)]
-pub struct Loaded {
+pub struct LinkedObject {
     pub sources: Sources,
     pub program: Linked,
 }
 
-impl Loaded {
+impl LinkedObject {
     /// How many relocations of fields are left undone in FILE's own code.
     pub fn fields(&self) -> u32
         ensures { result ≡ fields_of self.now }
@@ -180,16 +180,20 @@ fn linked(alloc: Global, target: &Target<'_>, sources: &Sources) -> Result<Linke
 
 /// The program of FILE, an object: what `gathered` makes of it, linked.
 #[inline(never)]
-pub fn load<'a>(alloc: Global, file: &[u8], target: &Target<'a>) -> Result<Loaded, ObjectFault<'a>>
-    ensures ok { IfOk result (Loads target.now file.now) }
-    ensures err { IfErr result (IsLoadFault target.now file.now) }
+pub fn link_object<'a>(
+    alloc: Global,
+    file: &[u8],
+    target: &Target<'a>,
+) -> Result<LinkedObject, ObjectFault<'a>>
+    ensures ok { IfOk result (LinksTo target.now file.now) }
+    ensures err { IfErr result (IsObjectFault target.now file.now) }
 {
     let sources = match gathered(alloc, file, target) {
         Ok(sources) => sources,
         Err(fault) => return Err(fault),
     };
     match linked(alloc, target, &sources) {
-        Ok(program) => Ok(Loaded { sources, program }),
+        Ok(program) => Ok(LinkedObject { sources, program }),
         Err(fault) => Err(in_object(sources.object(), target.section, fault)),
     }
 }

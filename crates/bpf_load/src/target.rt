@@ -1,4 +1,4 @@
-//! What says which program of an object runs.
+//! What says which program runs.
 ghost use Rattle.std.specs.Prelude.{◌≡◌, IfErr, IfOk, Err, Ok};
 ghost use Rattle.bpf_load.specs.Targets.{stubs_of};
 
@@ -6,9 +6,24 @@ use arrayvec::ArrayVec;
 use bpf_link::{LinkFault, MOST_STUBS, Stub, stubs_in};
 use bpf_packet::Packet;
 
-/// Which program of an object runs, and with what.
+/// What FILE is.
+#[derive(Clone, Copy)]
+pub enum SourceKind {
+    /// A program's raw words, little-endian (RFC 9669, section 3).
+    Words,
+    /// A listing, which is assembled.
+    Listing,
+    /// An object, which is linked.
+    Object,
+}
+
+/// Which program runs, and with what. What is said of an object says nothing of words and listings,
+/// and the names of maps nothing of an object, which has its own.
 #[derive(Clone, Copy)]
 pub struct Target<'a> {
+    pub kind: SourceKind,
+    /// The map table's text, as `8x2,4x256`; without one there are no maps.
+    pub maps: Option<&'a str>,
     /// The name of the section with its code; where it is empty it is the only one.
     pub section: &'a [u8],
     /// The name of the function of that section at which it begins; where it is empty it is the only

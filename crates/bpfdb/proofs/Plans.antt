@@ -2,8 +2,7 @@
 use Rattle.std.proofs.Common.{ℕ, ◌≡◌, ◌≢◌, ◌∙◌, Bool, true, false, List, Option, Some, None, subst, sym}
 use Rattle.bpfdb_faults.specs.Streams.{Stream}
 use Rattle.bpfdb_cli.specs.declared.plans.Plan.{Plan}
-use Rattle.bpfdb_jobs.specs.Objects.{links_first}
-use Rattle.bpfdb_jobs.specs.Statuses.{EndsAs, EndsWith}
+use Rattle.bpfdb_jobs.specs.Statuses.{EndsWith}
 use Rattle.bpfdb_jobs.proofs.Statuses.{ends_with}
 use Rattle.bpfdb_jobs.specs.declared.job.Job.{Job}
 use Rattle.bpfdb_options.specs.declared.subcommand.Subcommand.{Subcommand}
@@ -47,13 +46,8 @@ ends_plan_with reader writer errors bytes_at at_terminal plan status (Unread fau
 ends_plan_with reader writer errors bytes_at at_terminal plan status (Done of are does) other =
     ends_replaced_with reader writer errors bytes_at at_terminal plan of status does other
 
--- Of a job of `debug` it is 0 then.
-debug_ends_as : (links : Bool) (job : Job) (status : ℕ) → EndsAs links Debug job status → status ≡ 0
-debug_ends_as false job status ends = ends.2
-debug_ends_as true job status ends = ends.4.2
-
--- So it is of a plan to debug.
+-- Of a plan to debug it is 0 then.
 pub debug_ends_with : (plan : Plan) (status : ℕ) → plan.subcommand ≡ Debug → EndsPlanWith plan status → status ≡ 0
 debug_ends_with plan status debugs ends =
     let at : EndsWith Debug ends.job status = subst (λ (s : Subcommand). EndsWith s ends.job status) (ends.is.subcommand ∙ debugs) ends.ends in
-    debug_ends_as (links_first Debug ends.job) ends.job status at
+    at.2

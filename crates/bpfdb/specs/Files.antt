@@ -22,7 +22,7 @@ kind_in Test is_source = Source
 kind_in subcommand is_source = if is_source then Source else Program
 
 abbrev pub kind_of : Plan → FileKind
-kind_of plan = kind_in plan.subcommand (plan.options.is_listing || plan.options.is_object)
+kind_of plan = kind_in plan.subcommand (plan.target.is_listing || plan.target.is_object)
 
 -- What is read of the file of a path that may not be there: where there is none, no bytes.
 abbrev pub GivesNamed : (List ℕ → Option (List ℕ)) → FileKind → Option (Bor (List ℕ)) → List ℕ → Type 0
@@ -71,7 +71,7 @@ pub record AreRead (bytes_at : List ℕ → Option (List ℕ)) (plan : Plan) (of
   pub file : Gives (kind_of plan) (bytes_at plan.file.now) (Some of.file)
   pub context : GivesNamed bytes_at Context plan.memory of.context
   pub other : GivesNamed bytes_at Source plan.other of.other
-  pub with : GivesFirst bytes_at Source (texts plan.with.items) (length plan.with.items) of.with
+  pub with : GivesFirst bytes_at Source (texts plan.target.with.items) (length plan.target.with.items) of.with
 
 -- Why they aren't read: by the first of them that can't be.
 pub data IsUnread (bytes_at : List ℕ → Option (List ℕ)) (plan : Plan) (fault : JobFault) : Type 0 where
@@ -82,7 +82,7 @@ pub data IsUnread (bytes_at : List ℕ → Option (List ℕ)) (plan : Plan) (fau
       → GivesNamed bytes_at Context plan.memory of_path → NamesGiven plan.other fault → IsUnread bytes_at plan fault
   OfWith : (of_file of_path of_other : List ℕ) → Gives (kind_of plan) (bytes_at plan.file.now) (Some of_file)
       → GivesNamed bytes_at Context plan.memory of_path → GivesNamed bytes_at Source plan.other of_other
-      → NamesOne bytes_at Source (texts plan.with.items) fault → IsUnread bytes_at plan fault
+      → NamesOne bytes_at Source (texts plan.target.with.items) fault → IsUnread bytes_at plan fault
 
 -- The program that is built in: r0 = 42, and the end.
 abbrev pub first_program : List ℕ

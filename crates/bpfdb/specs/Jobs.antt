@@ -2,8 +2,11 @@
 use Rattle.std.specs.Prelude.{ℕ, ◌≡◌, ◌==◌, Bool, if◌then◌else◌, List, [], length, map, Option, Some, None}
 use Rattle.std.specs.Borrow.{Bor}
 use Rattle.bpf_load.specs.Targets.{contents, texts}
+use Rattle.bpf_load.specs.declared.target.SourceKind.{SourceKind}
+use Rattle.bpf_load.specs.declared.target.SourceKind.TheVariants.{Listing, Object, Words}
 use Rattle.bpf_load.specs.declared.target.Target.{Target}
 use Rattle.bpfdb_cli.specs.declared.plans.Plan.{Plan}
+use Rattle.bpfdb_cli.specs.declared.plans.TargetWords.{TargetWords}
 use Rattle.bpfdb_jobs.specs.declared.job.Job.{Job}
 use Rattle.bpfdb_jobs.specs.Jobs.{name_or_empty as text_or_empty}
 use Rattle.bpfdb.specs.Files.{Contents}
@@ -19,19 +22,25 @@ abbrev pub name_or_empty : Option (Bor (List ℕ)) → List ℕ
 name_or_empty name = text_or_empty name
 
 -- Of an object of programs in turn the entry is its only program.
-abbrev pub entry_of : Plan → List ℕ
-entry_of plan = if length plan.turns.items == 0 then name_or_empty plan.options.entry else []
+abbrev pub entry_of : TargetWords → List ℕ
+entry_of words = if length words.turns.items == 0 then name_or_empty words.entry else []
 
--- Which program of an object runs: what the plan says of that.
+-- What FILE is.
+abbrev pub source_kind : TargetWords → SourceKind
+source_kind words = if words.is_object then Object else if words.is_listing then Listing else Words
+
+-- What FILE is, and which program runs: what the plan says of that.
 pub record IsTargetOf (plan : Plan) (of : Contents) (target : Target) : Type 0 where
-  pub section : target.section.now ≡ name_or_empty plan.options.section
-  pub entry : target.entry.now ≡ entry_of plan
-  pub counts : texts target.counts.now ≡ texts plan.counts.items
-  pub turns : texts target.turns.now ≡ texts plan.turns.items
+  pub kind : target.kind ≡ source_kind plan.target
+  pub maps : target.maps ≡ plan.target.maps
+  pub section : target.section.now ≡ name_or_empty plan.target.section
+  pub entry : target.entry.now ≡ entry_of plan.target
+  pub counts : texts target.counts.now ≡ texts plan.target.counts.items
+  pub turns : texts target.turns.now ≡ texts plan.target.turns.items
   pub with : contents target.with.now ≡ of.with
-  pub stubs : target.stubs ≡ plan.options.stubs
-  pub as_compiled : target.as_compiled ≡ plan.options.as_compiled
-  pub packet : target.packet ≡ plan.options.packet
+  pub stubs : target.stubs ≡ plan.target.stubs
+  pub as_compiled : target.as_compiled ≡ plan.target.as_compiled
+  pub packet : target.packet ≡ plan.target.packet
 
 -- It has the plan's subcommand and options, the name of FILE and its bytes, those of PATH, those of the other file, if there is one, and what says which
 -- program of an object runs.
@@ -42,8 +51,4 @@ pub record IsJobOf (plan : Plan) (of : Contents) (job : Job) : Type 0 where
   pub context : job.context.now ≡ of.context
   pub other : IsNamed plan.other of.other job.other
   pub target : IsTargetOf plan of job.target
-  pub shapes : job.shapes ≡ None
-  pub goals : job.goals ≡ None
-  pub places : job.places ≡ None
-  pub object : job.object ≡ None
   pub options : job.options ≡ plan.options

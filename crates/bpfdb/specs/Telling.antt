@@ -7,7 +7,6 @@ use Rattle.bpfdb_faults.specs.Streams.{Gets, Loses, Spared, Stream, Told}
 use Rattle.bpfdb_faults.specs.declared.fault.JobFault.TheVariants.{Memory, Output}
 use Rattle.bpfdb_jobs.specs.Done.{DoesJob}
 use Rattle.bpfdb_jobs.specs.declared.job.Job.{Job}
-use Rattle.bpfdb_options.specs.declared.options.Options.{Options}
 use Rattle.bpfdb_options.specs.declared.subcommand.Subcommand.{Subcommand}
 use Rattle.bpfdb_options.specs.declared.subcommand.Subcommand.TheVariants as ask
 use Rattle.bpfdb.specs.declared.telling.Telling.{Telling}
@@ -18,18 +17,21 @@ use Rattle.answer_forms.specs.declared.answer.Answer.{Answer}
 use Rattle.answer_forms.specs.declared.answer.Answer.TheVariants as answer
 
 -- What is printed, by what is asked.
-abbrev pub answer_for : Subcommand → Options → Answer
-answer_for ask.Run options = answer.Value
-answer_for ask.Trace options = if options.is_profile then answer.Profile else answer.Run
-answer_for ask.Lines options = if options.is_object then answer.Sources else answer.Lines
-answer_for ask.Disasm options = answer.Listing
-answer_for ask.Check options = answer.Check
-answer_for ask.Test options = answer.Report
-answer_for _ options = answer.Run
+abbrev pub answer_by : Subcommand → Plan → Answer
+answer_by ask.Run plan = answer.Value
+answer_by ask.Trace plan = if plan.options.is_profile then answer.Profile else answer.Run
+answer_by ask.Lines plan = if plan.target.is_object then answer.Sources else answer.Lines
+answer_by ask.Disasm plan = answer.Listing
+answer_by ask.Check plan = answer.Check
+answer_by ask.Test plan = answer.Report
+answer_by _ plan = answer.Run
+
+abbrev pub answer_for : Plan → Answer
+answer_for plan = answer_by plan.subcommand plan
 
 -- The form in which it is told, and its text in that.
 abbrev pub telling_of : Plan → Option Telling
-telling_of plan = if plan.dot then Some Graph else if plan.json then Some (Json (answer_for plan.subcommand plan.options)) else None
+telling_of plan = if plan.dot then Some Graph else if plan.json then Some (Json (answer_for plan)) else None
 
 abbrev pub told_in : Telling → List ℕ → List ℕ
 told_in (Json answer) text = json_of answer text

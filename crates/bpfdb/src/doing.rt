@@ -55,7 +55,7 @@ pub fn do_plan<F: Opener, R: Read, W: Write, E: Write>(
         Ok(other) => other,
         Err(fault) => return give_up(errors, &fault),
     };
-    let with = match read_each(alloc, files, plan.with.as_slice(), FileKind::Source) {
+    let with = match read_each(alloc, files, plan.target.with.as_slice(), FileKind::Source) {
         Ok(with) => with,
         Err(fault) => return give_up(errors, &fault),
     };

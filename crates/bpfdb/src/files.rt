@@ -22,7 +22,7 @@ pub fn kind_of(plan: &Plan<'_>) -> FileKind
         Subcommand::Link => FileKind::Source,
         Subcommand::Test => FileKind::Source,
         _ => {
-            if plan.options.is_listing || plan.options.is_object {
+            if plan.target.is_listing || plan.target.is_object {
                 FileKind::Source
             } else {
                 FileKind::Program

@@ -1,10 +1,10 @@
 //! The job of a plan.
 ghost use Rattle.std.specs.Prelude.{◌≡◌};
 ghost use Rattle.bpfdb.specs.Files.{contents_in};
-ghost use Rattle.bpfdb.specs.Jobs.{IsJobOf, IsTargetOf, entry_of, name_or_empty};
+ghost use Rattle.bpfdb.specs.Jobs.{IsJobOf, IsTargetOf, entry_of, name_or_empty, source_kind};
 
-use bpf_load::Target;
-use bpfdb_cli::Plan;
+use bpf_load::{SourceKind, Target};
+use bpfdb_cli::{Plan, TargetWords};
 use bpfdb_jobs::Job;
 
 /// What was read of the files of a plan.
@@ -34,27 +34,39 @@ pub fn job_of<'a>(plan: &'a Plan<'a>, bytes: &Bytes<'a>) -> Job<'a>
             None => None,
         },
         target: target_of(plan, bytes),
-        shapes: None,
-        goals: None,
-        places: None,
-        object: None,
         options: plan.options,
     }
 }
 
-/// Which program of an object runs.
+/// What FILE is, and which program runs.
 fn target_of<'a>(plan: &'a Plan<'a>, bytes: &Bytes<'a>) -> Target<'a>
     ensures { IsTargetOf plan.now (contents_in bytes.now) result }
 {
+    let words = &plan.target;
     Target {
-        section: name_or_empty(plan.options.section),
-        entry: entry_of(plan),
-        counts: plan.counts.as_slice(),
-        turns: plan.turns.as_slice(),
+        kind: source_kind(words),
+        maps: words.maps,
+        section: name_or_empty(words.section),
+        entry: entry_of(words),
+        counts: words.counts.as_slice(),
+        turns: words.turns.as_slice(),
         with: bytes.with,
-        stubs: plan.options.stubs,
-        as_compiled: plan.options.as_compiled,
-        packet: plan.options.packet,
+        stubs: words.stubs,
+        as_compiled: words.as_compiled,
+        packet: words.packet,
+    }
+}
+
+/// What FILE is.
+fn source_kind(words: &TargetWords<'_>) -> SourceKind
+    ensures { result ≡ source_kind words.now }
+{
+    if words.is_object {
+        SourceKind::Object
+    } else if words.is_listing {
+        SourceKind::Listing
+    } else {
+        SourceKind::Words
     }
 }
 
@@ -70,11 +82,11 @@ fn name_or_empty(name: Option<&str>) -> &[u8]
 
 /// The name of the entry: empty where programs are called in turn, since that of their object is its
 /// only one.
-fn entry_of<'a>(plan: &Plan<'a>) -> &'a [u8]
-    ensures { result.now ≡ entry_of plan.now }
+fn entry_of<'a>(words: &TargetWords<'a>) -> &'a [u8]
+    ensures { result.now ≡ entry_of words.now }
 {
-    if plan.turns.is_empty() {
-        name_or_empty(plan.options.entry)
+    if words.turns.is_empty() {
+        name_or_empty(words.entry)
     } else {
         b""
     }

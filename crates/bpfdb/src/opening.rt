@@ -6,7 +6,7 @@ ghost use Rattle.bpfdb_limits.specs.Limits.{IsLimit};
 ghost use Rattle.bpfdb_options.specs.declared.subcommand.Subcommand.TheVariants.{Debug};
 
 use arrayvec::ArrayVec;
-use bpfdb_cli::Plan;
+use bpfdb_cli::{Plan, TargetWords};
 use bpfdb_files::{Opener, Retrying};
 use bpfdb_options::{NO_OPTIONS, Subcommand};
 use std::fs;
@@ -54,9 +54,19 @@ pub fn first_plan() -> Plan<'static>
         file: "",
         memory: None,
         other: None,
-        with: ArrayVec::new(),
-        turns: ArrayVec::new(),
-        counts: ArrayVec::new(),
+        target: TargetWords {
+            is_listing: false,
+            is_object: false,
+            maps: None,
+            section: None,
+            entry: None,
+            stubs: None,
+            as_compiled: false,
+            packet: None,
+            with: ArrayVec::new(),
+            turns: ArrayVec::new(),
+            counts: ArrayVec::new(),
+        },
         options: NO_OPTIONS,
         json: false,
         dot: false,

@@ -8,7 +8,7 @@ use answer_forms::{Answer, dot_of, json_of};
 use bpfdb_cli::Plan;
 use bpfdb_faults::{JobFault, give_up, told_as, write_out};
 use bpfdb_jobs::{Job, tool};
-use bpfdb_options::{Options, Subcommand};
+use bpfdb_options::Subcommand;
 use counted_io::{Counted, WriteFault};
 use std::alloc::{AllocError, Global};
 use std::io::{Read, Write};
@@ -30,7 +30,7 @@ pub fn telling_of(plan: &Plan<'_>) -> Option<Telling>
         return Some(Telling::Graph);
     }
     if plan.json {
-        Some(Telling::Json(answer_for(plan.subcommand, &plan.options)))
+        Some(Telling::Json(answer_for(plan)))
     } else {
         None
     }
@@ -46,20 +46,21 @@ fn told_in(alloc: Global, telling: Telling, text: &[u8]) -> Result<Vec<u8>, Allo
     }
 }
 
-fn answer_for(subcommand: Subcommand, options: &Options<'_>) -> Answer
-    ensures { result ≡ answer_for subcommand options.now }
+/// What is printed, by what is asked.
+fn answer_for(plan: &Plan<'_>) -> Answer
+    ensures { result ≡ answer_for plan.now }
 {
-    match subcommand {
+    match plan.subcommand {
         Subcommand::Run => Answer::Value,
         Subcommand::Trace => {
-            if options.is_profile {
+            if plan.options.is_profile {
                 Answer::Profile
             } else {
                 Answer::Run
             }
         }
         Subcommand::Lines => {
-            if options.is_object {
+            if plan.target.is_object {
                 Answer::Sources
             } else {
                 Answer::Lines

@@ -12,6 +12,7 @@ use Rattle.bpfdb_cli.specs.CommandLine.{command_app}
 use Rattle.bpfdb_cli.specs.declared.plans.Plan.{Plan}
 use Rattle.bpfdb_cli.specs.declared.plans.PlanFault.{PlanFault}
 use Rattle.bpfdb_cli.specs.declared.plans.PlanFault.TheVariants.{Usage, Memory}
+use Rattle.bpfdb_cli.specs.declared.plans.TargetWords.{TargetWords}
 use Rattle.bpf_packet.specs.Names.{packet_name}
 use Rattle.bpf_packet.specs.declared.packet.Packet.{Packet}
 use Rattle.input_texts.specs.Counts.{are_counts}
@@ -54,7 +55,6 @@ NamesPacket (Some text) (Some packet) = packet_name packet ≡ text
 
 -- Options say what a subcommand's matches say.
 pub record Chooses (rows : List Row) (options : Options) : Type 0 where
-  pub maps : option_map (λ s. s.now) options.maps ≡ first_of (codes "maps") rows
   pub journal : options.journal ≡ number_or default_journal (first_of (codes "journal") rows)
   pub limit : options.limit ≡ number_or default_limit (first_of (codes "steps") rows)
   pub from : options.from ≡ number_or 1 (first_of (codes "from") rows)
@@ -62,13 +62,6 @@ pub record Chooses (rows : List Row) (options : Options) : Type 0 where
   pub branches : options.only_branches ≡ is_given (first_of (codes "branches") rows)
   pub profile : options.is_profile ≡ is_given (first_of (codes "profile") rows)
   pub strict : options.is_strict ≡ is_given (first_of (codes "strict") rows)
-  pub listing : options.is_listing ≡ is_given (first_of (codes "listing") rows)
-  pub object : options.is_object ≡ is_given (first_of (codes "object") rows)
-  pub section : option_map (λ s. s.now) options.section ≡ first_of (codes "section") rows
-  pub entry : option_map (λ s. s.now) options.entry ≡ first_of (codes "entry") rows
-  pub stubs : option_map (λ s. s.now) options.stubs ≡ first_of (codes "stub") rows
-  pub as_compiled : options.as_compiled ≡ is_given (first_of (codes "as-compiled") rows)
-  pub packet : NamesPacket (first_of (codes "packet") rows) options.packet
   pub joined : options.is_joined ≡ is_given (first_of (codes "joined") rows)
   pub registers : NamesRegisters (first_of (codes "registers") rows) options.registers
   pub what : option_map (λ s. s.now) options.what ≡ first_of (codes "what") rows
@@ -114,18 +107,30 @@ names_one entries = nat_le (length entries) 1 && list_all (λ text. not (has_pla
 abbrev pub turns_in : List Row → List Text
 turns_in rows = if names_one (texts_in (codes "entry") rows) then [] else texts_in (codes "entry") rows
 
+-- What they say of FILE, and of the program that runs.
+pub record Aims (rows : List Row) (target : TargetWords) : Type 0 where
+  pub listing : target.is_listing ≡ is_given (first_of (codes "listing") rows)
+  pub object : target.is_object ≡ is_given (first_of (codes "object") rows)
+  pub maps : option_map (λ s. s.now) target.maps ≡ first_of (codes "maps") rows
+  pub section : option_map (λ s. s.now) target.section ≡ first_of (codes "section") rows
+  pub entry : option_map (λ s. s.now) target.entry ≡ first_of (codes "entry") rows
+  pub stubs : option_map (λ s. s.now) target.stubs ≡ first_of (codes "stub") rows
+  pub as_compiled : target.as_compiled ≡ is_given (first_of (codes "as-compiled") rows)
+  pub packet : NamesPacket (first_of (codes "packet") rows) target.packet
+  pub with : map (λ s. s.now) target.with.items ≡ texts_in (codes "with") rows
+  pub few : length (texts_in (codes "with") rows) ≤ most_texts
+  pub turns : map (λ s. s.now) target.turns.items ≡ turns_in rows
+  pub few_turns : length (turns_in rows) ≤ most_texts
+  pub counts : map (λ s. s.now) target.counts.items ≡ texts_in (codes "entries") rows
+  pub few_counts : length (texts_in (codes "entries") rows) ≤ most_texts
+
 -- A plan says what they say.
 pub record Says (name : Text) (rows : List Row) (plan : Plan) : Type 0 where
   pub subcommand : subcommand_name plan.subcommand ≡ name
   pub file : first_of (codes "file") rows ≡ Some plan.file.now
   pub memory : option_map (λ s. s.now) plan.memory ≡ first_of (codes "mem") rows
   pub other : option_map (λ s. s.now) plan.other ≡ other_in rows
-  pub with : map (λ s. s.now) plan.with.items ≡ texts_in (codes "with") rows
-  pub few : length (texts_in (codes "with") rows) ≤ most_texts
-  pub turns : map (λ s. s.now) plan.turns.items ≡ turns_in rows
-  pub few_turns : length (turns_in rows) ≤ most_texts
-  pub counts : map (λ s. s.now) plan.counts.items ≡ texts_in (codes "entries") rows
-  pub few_counts : length (texts_in (codes "entries") rows) ≤ most_texts
+  pub target : Aims rows plan.target
   pub options : Chooses rows plan.options
   pub json : plan.json ≡ is_given (first_of (codes "json") rows)
   pub dot : plan.dot ≡ is_given (first_of (codes "dot") rows)

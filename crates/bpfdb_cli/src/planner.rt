@@ -7,10 +7,10 @@ ghost use Rattle.input_texts.specs.Turns.{has_place};
 ghost use Rattle.clap.specs.Words.{Row, Text, all_of, first_of, found_of, rows_of, subcommand_rows_of};
 ghost use Rattle.bpfdb_limits.specs.Limits.{IsLimit};
 ghost use Rattle.bpfdb_cli.specs.Scaffolding.{AskAlike};
-ghost use Rattle.bpfdb_cli.specs.Plans.{AreInRange, Chooses, HasKindIfTold, IsFaultOf, IsNumber, IsPlan, IsPlanOf, NamesPart, NamesRegisters, Says, Tells, asks_of_link, counts_strictly, go_together, is_given, joins_nothing, joins_packet, names_one, object_fits, link_fits, names_other, number_or, other_in, run_fits, given_or, NamesPacket, entries_fit, has_offset, graph_fits, is_json_graph, is_json_tracefile, most_texts, names_side, writes_fit, shows_json, texts_in, told_fits, turns_in};
+ghost use Rattle.bpfdb_cli.specs.Plans.{Aims, AreInRange, Chooses, HasKindIfTold, IsFaultOf, IsNumber, IsPlan, IsPlanOf, NamesPart, NamesRegisters, Says, Tells, asks_of_link, counts_strictly, go_together, is_given, joins_nothing, joins_packet, names_one, object_fits, link_fits, names_other, number_or, other_in, run_fits, given_or, NamesPacket, entries_fit, has_offset, graph_fits, is_json_graph, is_json_tracefile, most_texts, names_side, writes_fit, shows_json, texts_in, told_fits, turns_in};
 
 use crate::command_line::command_line;
-use crate::plans::{MOST_TEXTS, Plan, PlanFault};
+use crate::plans::{MOST_TEXTS, Plan, PlanFault, TargetWords};
 use arrayvec::ArrayVec;
 use bpf_packet::Packet;
 use bpfdb_limits::{DEFAULT_JOURNAL, DEFAULT_LIMIT, GREATEST_COUNT, is_limit};
@@ -166,27 +166,23 @@ fn plan_in<'a>(name: &'a str, found: &ArgMatches<'a>) -> Result<Plan<'a>, &'stat
     let Some(options) = options_in(found) else {
         return Err(BAD_VALUE);
     };
+    let Some(packet) = packet_of(text_of(found, "packet")) else {
+        return Err(BAD_VALUE);
+    };
     match misfit_in(name, found) {
         Some(why) => return Err(why),
         None => {}
     }
-    let Some(with) = texts_of(found, "with") else {
-        return Err(MANY_OBJECTS);
-    };
-    let Some(turns) = turns_of(found) else {
-        return Err(MANY_ENTRIES);
-    };
-    let Some(counts) = texts_of(found, "entries") else {
-        return Err(MANY_COUNTS);
+    let target = match target_in(found, packet) {
+        Ok(target) => target,
+        Err(why) => return Err(why),
     };
     Ok(Plan {
         subcommand,
         file,
         memory: text_of(found, "mem"),
         other: other_of(found),
-        with,
-        turns,
-        counts,
+        target,
         options,
         json: is_given(found, "json"),
         dot: is_given(found, "dot"),
@@ -460,6 +456,41 @@ fn asks_of_link(found: &ArgMatches<'_>) -> bool
     chooses || (has_text(found, "stub") || leaves)
 }
 
+/// What a subcommand's matches say of FILE and of the program that runs, which takes this struct; or
+/// why they don't.
+fn target_in<'a>(
+    found: &ArgMatches<'a>,
+    packet: Option<Packet>,
+) -> Result<TargetWords<'a>, &'static str>
+    requires { NamesPacket (first_of (codes "packet") (rows_of (found_of found.now))) packet }
+    ensures value { IfOk result (Aims (rows_of (found_of found.now))) }
+    ensures none { OnErr result ((target : TargetWords) →
+        Aims (rows_of (found_of found.now)) target → ⊥) }
+{
+    let Some(with) = texts_of(found, "with") else {
+        return Err(MANY_OBJECTS);
+    };
+    let Some(turns) = turns_of(found) else {
+        return Err(MANY_ENTRIES);
+    };
+    let Some(counts) = texts_of(found, "entries") else {
+        return Err(MANY_COUNTS);
+    };
+    Ok(TargetWords {
+        is_listing: is_given(found, "listing"),
+        is_object: is_given(found, "object"),
+        maps: text_of(found, "maps"),
+        section: text_of(found, "section"),
+        entry: text_of(found, "entry"),
+        stubs: text_of(found, "stub"),
+        as_compiled: is_given(found, "as-compiled"),
+        packet,
+        with,
+        turns,
+        counts,
+    })
+}
+
 /// The options of a subcommand's matches. None where a number is out of its range, or a name none
 /// of those that its option takes.
 fn options_in<'a>(found: &ArgMatches<'a>) -> Option<Options<'a>>
@@ -475,10 +506,8 @@ fn options_in<'a>(found: &ArgMatches<'a>) -> Option<Options<'a>>
     let from = number_or(text_of(found, "from"), 1)?;
     let count = number_or(text_of(found, "count"), GREATEST_COUNT)?;
     let registers = registers_of(text_of(found, "registers"))?;
-    let packet = packet_of(text_of(found, "packet"))?;
     let show = part_of(text_of(found, "show"))?;
     Some(Options {
-        maps: text_of(found, "maps"),
         journal,
         limit,
         from,
@@ -486,13 +515,6 @@ fn options_in<'a>(found: &ArgMatches<'a>) -> Option<Options<'a>>
         only_branches: is_given(found, "branches"),
         is_profile: is_given(found, "profile"),
         is_strict: is_given(found, "strict"),
-        is_listing: is_given(found, "listing"),
-        is_object: is_given(found, "object"),
-        section: text_of(found, "section"),
-        entry: text_of(found, "entry"),
-        stubs: text_of(found, "stub"),
-        as_compiled: is_given(found, "as-compiled"),
-        packet,
         is_joined: is_given(found, "joined"),
         registers,
         what: text_of(found, "what"),

@@ -3,12 +3,42 @@ ghost use Rattle.std.specs.Prelude.{◌≡◌};
 ghost use Rattle.bpfdb_cli.specs.Plans.{status_of};
 
 use arrayvec::ArrayVec;
+use bpf_packet::Packet;
 use bpfdb_options::{Options, Subcommand};
 use clap::Error;
 use clap::error::ErrorKind;
 
 /// The most times that an option is given which may be given more than once.
 pub const MOST_TEXTS: usize = 16;
+
+/// What FILE is, and which program runs. What is said of an object says nothing of words and listings.
+#[derive(Drop)]
+pub struct TargetWords<'a> {
+    /// FILE is a listing, assembled first.
+    pub is_listing: bool,
+    /// FILE is an object; it is linked first.
+    pub is_object: bool,
+    /// The map table's text, as `8x2,4x256`; without one there are no maps.
+    pub maps: Option<&'a str>,
+    /// The name of the code section that is linked; without one it is the only one.
+    pub section: Option<&'a str>,
+    /// The name of the function of that section at which the program begins; without one it is the
+    /// only one that is known outside the object, or else the section's first slot.
+    pub entry: Option<&'a str>,
+    /// The helpers whose calls are answered by a constant, as `5=0,14=-1`; without it none is.
+    pub stubs: Option<&'a str>,
+    /// Relocations of fields are left undone: fields stay where they were when it was compiled.
+    pub as_compiled: bool,
+    /// The kernel's struct that the entry takes; without it its context is the machine's.
+    pub packet: Option<Packet>,
+    /// The paths of the objects with functions that are joined to FILE, in their order.
+    pub with: ArrayVec<&'a str, MOST_TEXTS>,
+    /// The programs of an object that are called in turn, each as `NAME` or `NAME@OFFSET`; none where
+    /// it is the one program of the entry.
+    pub turns: ArrayVec<&'a str, MOST_TEXTS>,
+    /// How many entries maps of the object have, each as `NAME=N`.
+    pub counts: ArrayVec<&'a str, MOST_TEXTS>,
+}
 
 /// What a command line asks for.
 #[derive(Drop)]
@@ -21,13 +51,7 @@ pub struct Plan<'a> {
     /// The path of the other file: of the script that is obeyed before `origin` asks, or of the second
     /// program or context of `diff`, or of its trace.
     pub other: Option<&'a str>,
-    /// The paths of the objects with functions that are joined to FILE, in their order.
-    pub with: ArrayVec<&'a str, MOST_TEXTS>,
-    /// The programs of an object that are called in turn, each as `NAME` or `NAME@OFFSET`; none where
-    /// it is the one program that the options name.
-    pub turns: ArrayVec<&'a str, MOST_TEXTS>,
-    /// How many entries maps of the object have, each as `NAME=N`.
-    pub counts: ArrayVec<&'a str, MOST_TEXTS>,
+    pub target: TargetWords<'a>,
     pub options: Options<'a>,
     /// What is printed is told as objects of JSON, one a line.
     pub json: bool,

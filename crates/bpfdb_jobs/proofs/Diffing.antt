@@ -1,8 +1,10 @@
 -- How a job of `diff` ends.
-use Rattle.std.proofs.Common.{ℕ, ◌≡◌, Bool, true, false, List, Option, Some, None, Result, Ok, Err, ap, ap₂, subst, sym, ◌∙◌}
+use Rattle.std.proofs.Common.{ℕ, ◌≡◌, Bool, true, false, List, Option, Some, None, Result, Ok, Err, ap, ap₂, inl, inr, subst, sym, ◌∙◌}
 use Rattle.std.specs.Borrow.{Bor}
 use Rattle.std.specs.Prelude.{OnErr, OnOk, is_some}
-use Rattle.bpf_isa.specs.Programs.{Checked}
+use Rattle.bpf_load.specs.Targets.{Loads}
+use Rattle.bpf_load.specs.declared.program.Loaded.{Loaded}
+use Rattle.bpf_steps.specs.Opening.{Opened}
 use Rattle.bpf_steps.specs.State.{State, initial}
 use Rattle.bpf_lines.specs.declared.place_names.Names.{Names}
 use Rattle.bpf_link.specs.declared.fault.LinkFault.{LinkFault}
@@ -14,11 +16,11 @@ use Rattle.bpfdb_faults.specs.Streams.{Stream, Told}
 use Rattle.bpfdb_faults.specs.declared.refusal.JobRefusal.{JobRefusal}
 use Rattle.bpfdb_faults.specs.declared.refusal.JobRefusal.TheVariants.{Maps, Listing, Load, Open, OtherRun, TraceLine, Journal, What, Goal, NoPlace, Object, Functions, Tests, NoTest, ManyTests, Script}
 use Rattle.bpfdb_jobs.specs.Endings.{EndsPrinted, OutLost, Printed}
-use Rattle.bpfdb_jobs.specs.Jobs.{AgainstPrints, DiffPrints, IsOtherRun, Opens, Print, Prints, RunsPrint, against_print, compared_print, comparison_of, diff_status, other_bytes, runs_told, section_of}
+use Rattle.bpfdb_jobs.specs.Jobs.{AgainstPrints, DiffPrints, IsOtherRun, Print, Prints, RunsPrint, against_print, compared_print, comparison_of, diff_status, other_bytes, runs_told, section_of}
 use Rattle.bpfdb_jobs.specs.Openings.{OpensAs, OpensRuns}
 use Rattle.bpfdb_jobs.specs.Origins.{RefusesNames}
 use Rattle.bpfdb_jobs.specs.Sources.{sources}
-use Rattle.bpfdb_jobs.specs.Refusals.{RefusesAgainst, RefusesDiff, RefusesEither, RefusesMachine, RefusesRuns}
+use Rattle.bpfdb_jobs.specs.Refusals.{RefusesAgainst, RefusesDiff, RefusesEither, RefusesMachine, RefusesOtherRun, RefusesRuns}
 use Rattle.bpfdb_jobs.specs.declared.job.Job.{Job}
 use Rattle.bpfdb_options.specs.declared.subcommand.Subcommand.TheVariants.{Diff}
 use Rattle.input_texts.specs.TraceFaults.{bad_line}
@@ -52,14 +54,17 @@ against-diff : (job : Job) (a : Print) → job.options.other_is_trace ≡ true �
 against-diff job a e is = subst (λ (b : Bool). DiffPrints b job a) (sym e) is
 
 pub runs-refuse : (job : Job) (refusal : JobRefusal) → job.options.other_is_trace ≡ false → RefusesRuns job refusal → RefusesDiff job refusal
-runs-refuse job refusal e is = subst (λ (b : Bool). RefusesEither b job refusal) (sym e) is
+runs-refuse job refusal e is = subst (λ (b : Bool). RefusesEither b job refusal) (sym e) (inl is)
+
+pub other-refuses : (job : Job) (refusal : JobRefusal) → job.options.other_is_trace ≡ false → RefusesOtherRun job refusal → RefusesDiff job refusal
+other-refuses job refusal e is = subst (λ (b : Bool). RefusesEither b job refusal) (sym e) (inr is)
 
 pub against-refuses : (job : Job) (refusal : JobRefusal) → job.options.other_is_trace ≡ true → RefusesAgainst job refusal → RefusesDiff job refusal
 against-refuses job refusal e is = subst (λ (b : Bool). RefusesEither b job refusal) (sym e) is
 
 -- a refusal of the names in maps
-pub names-refused : (job other : Job) (x y : State) → job.options.other_is_trace ≡ false → OpensAs job x → IsOtherRun job other → OpensAs other y
-    → (fault : LinkFault) (name : Bor (List ℕ)) → job.options.alone ≡ false → RefusesNames job.object (section_of job) fault name.now
+pub names-refused : (job other : Job) (x y : State) → job.options.other_is_trace ≡ false → (o : OpensAs job x) → IsOtherRun job other → OpensAs other y
+    → (fault : LinkFault) (name : Bor (List ℕ)) → job.options.alone ≡ false → RefusesNames o.0.object (section_of job) fault name.now
     → RefusesDiff job (Object fault name)
 names-refused job other x y runs o is t fault name asked refuses =
     runs-refuse job (Object fault name) runs (o.0, other, t.0, (o.1, is, t.1), asked, refuses)
@@ -95,6 +100,10 @@ module _ (job other : Job) (x y : State) (names : Option Names) (o : OpensRuns j
         refuses,
       )
 
+-- a machine that was opened on a program that was loaded
+abbrev pub opens-as : (job : Job) (loaded : Loaded) (x : State) → Loads job.target job.file.now loaded → Opened loaded.program job.context.now x → OpensAs job x
+opens-as job loaded x loads o = (loaded, record { loads = loads; short = o.0 }, o.1)
+
 pub opened-initial : (job : Job) (x : State) → OpensAs job x → x ≡ initial x.program job.context.now
 opened-initial job x o = o.2 ∙ ap (λ (z : State). initial z.program job.context.now) (sym o.2)
 
@@ -129,12 +138,12 @@ machine-against job ManyTests p = p
 
 -- what is printed of a run along a trace
 pub against-prints : (job : Job) (x : State) (form : Form) (file : List ℕ) → job.options.other_is_trace ≡ true
-    → (code : Checked) × Opens job code × (x ≡ initial code job.context.now) → file ≡ other_bytes job.other
+    → OpensAs job x → file ≡ other_bytes job.other
     → (form_in (told file) ≡ Some form) × (bad_line file ≡ None) → Prints Diff job (against_print form job.options.limit x (told file))
 against-prints job x form file e o same is =
     against-diff job (against_print form job.options.limit x (told file)) e
     (record {
-      code = o.0;
+      loaded = o.0;
       opens = o.1;
       form = form;
       has = ap (λ (bytes : List ℕ). form_in (told bytes)) (sym same) ∙ is.0;

@@ -12,7 +12,7 @@ use Rattle.bpf_journal.specs.Tracks.{RingHolds, Track, ring_room}
 use Rattle.bpf_ring.specs.declared.keeper.RingKeeper.{RingKeeper}
 use Rattle.bpf_link.specs.declared.fault.LinkFault.{LinkFault}
 use Rattle.bpf_lines.specs.declared.place_names.Names.{Names}
-use Rattle.bpf_steps.specs.State.{State, initial}
+use Rattle.bpf_steps.specs.State.{State}
 use Rattle.bpf_origin.specs.Answers.{Answer}
 use Rattle.bpf_origin.specs.Asked.{answer_about, parts_asked}
 use Rattle.bpf_origin.specs.declared.fault.WhatFault.{WhatFault}
@@ -25,23 +25,28 @@ use Rattle.bpf_session.specs.Plain.{plain_end, plain_steps}
 use Rattle.bpf_session.specs.Points.{Bounds, Point}
 use Rattle.bpf_session.specs.Sessions.{HasPast, SessionValue, bounds_of, track_at}
 use Rattle.bpfdb_script.specs.declared.refusal.Refusal.{Refusal}
-use Rattle.bpfdb_jobs.specs.Jobs.{Prints, arrival_of, named_print, section_of, start_of}
+use Rattle.bpf_load.specs.Targets.{Loads}
+use Rattle.bpf_load.specs.declared.loading.LinkedObject.{LinkedObject}
+use Rattle.bpf_load.specs.declared.program.Loaded.{Loaded}
+use Rattle.bpfdb_jobs.specs.Jobs.{IsKnown, OpensSession, Prints, arrival_of, initial_of, named_print, section_of, start_of}
 use Rattle.bpfdb_jobs.specs.Obeying.{ObeysScript, arrived}
 use Rattle.bpfdb_jobs.specs.Openings.{AreAskedParts, HasArrived, HasTail, IsOpening, IsStart}
 use Rattle.bpfdb_jobs.specs.Origins.{AreNamesOf, Asks, IsTail, RefusesNames, RefusesWhat, arrival, bounds, branches_by, followed_by, obeyed, question_by, run_arrival, run_history}
 use Rattle.bpfdb_jobs.specs.Refusals.{RefusesArrival, RefusesAs}
 use Rattle.bpfdb_jobs.specs.declared.job.Job.{Job}
+use Rattle.bpfdb_jobs.specs.declared.known.Known.{Known}
 use Rattle.bpfdb_faults.specs.declared.refusal.JobRefusal.TheVariants as jobs
 use Rattle.bpfdb_options.specs.declared.subcommand.Subcommand.TheVariants.{Origin}
 use Rattle.counted_io.specs.Lines.{lines}
 
 -- a machine that has run, from the opening of the job
-module _ (job : Job) (old new : Moment RingKeeper) (n : ℕ) (start : IsStart job old) (steps : n ≡ plain_steps job.options.limit old.state)
+module _ (job : Job) (loaded : Loaded) (loads : Loads job.target job.file.now loaded) (old new : Moment RingKeeper) (n : ℕ)
+    (start : IsStart job loaded.program old) (steps : n ≡ plain_steps job.options.limit old.state)
     (state : new.state ≡ plain_end job.options.limit old.state)
     (kept : (h : List Record) → StandsFor RingHolds old.keeper old.state h
     → StandsFor RingHolds new.keeper new.state (history_after (ring_room old.keeper) n old.state h)) where
   abbrev first : State
-  first = initial start.code job.context.now
+  first = initial_of job loaded
 
   -- its journal holds the run's history
   history : history_after (ring_room old.keeper) n old.state [] ≡ run_history job.options first
@@ -50,11 +55,12 @@ module _ (job : Job) (old new : Moment RingKeeper) (n : ℕ) (start : IsStart jo
       ∙ ap (λ (x : State). history_after job.options.journal (plain_steps job.options.limit x) x []) start.state
 
   -- so it stands where it is asked without a script
-  pub run-arrives : job.other ≡ None → HasArrived job new n
+  pub run-arrives : job.other ≡ None → HasArrived job loaded.object new n
   run-arrives none = record {
-    code = start.code;
+    loaded = loaded;
+    of = refl;
     at = run_arrival job.options first;
-    opens = start.opens;
+    opens = record { opens = record { loads = loads; short = start.has_room.short }; sized = start.has_room.sized };
     arrives = ap (λ (script : Option (Bor (List ℕ))). arrival script job.options first) none;
     state = state ∙ ap (plain_end job.options.limit) start.state;
     held = subst (λ h. StandsFor RingHolds new.keeper new.state h) history (kept [] (start.empty, tt {0}));
@@ -62,28 +68,33 @@ module _ (job : Job) (old new : Moment RingKeeper) (n : ℕ) (start : IsStart jo
   }
 
 -- a session that has obeyed the job's script, from its opening
-module _ (job : Job) (script : Bor (List ℕ)) (given : job.other ≡ Some script) (old new : SessionValue RingKeeper) (start : IsOpening job old) where
+module _ (job : Job) (loaded : Loaded) (loads : Loads job.target job.file.now loaded) (script : Bor (List ℕ)) (given : job.other ≡ Some script)
+    (old new : SessionValue RingKeeper) (start : IsOpening job loaded.program old) where
   abbrev begins : Point
-  begins = (start_of job start.code).point
+  begins = (start_of job loaded.program).point
+
+  opens : OpensSession job loaded
+  opens = record { opens = record { loads = loads; short = start.room.short }; sized = start.room.sized }
 
   past : HasPast RingHolds old (track_at begins)
   past = start.begins.point.1
 
   -- what the script means there
-  same : obeyed (bounds_of ring_room old) (lines script.now) (arrived old (track_at begins) 0) ≡ arrival_of job start.code
+  same : obeyed (bounds_of ring_room old) (lines script.now) (arrived old (track_at begins) 0) ≡ arrival_of job loaded
   same = ap (λ (b : Bounds). obeyed b (lines script.now) (arrived old (track_at begins) 0)) start.begins.bounds
       ∙ ap (λ (p : Point). obeyed (bounds job.options) (lines script.now) (record { point = p; moves = 0 })) start.begins.point.0
-      ∙ ap (λ (s : Option (Bor (List ℕ))). arrival s job.options (initial start.code job.context.now)) (sym given)
+      ∙ ap (λ (s : Option (Bor (List ℕ))). arrival s job.options (initial_of job loaded)) (sym given)
 
   -- it stands where it is asked
   pub script-arrives : (moves : ℕ) (moment : Moment RingKeeper) → (moment.state ≡ new.moment.state) → (moment.keeper ≡ new.moment.keeper)
-      → ((t : Track) → ObeysScript old new t (lines script.now) 0 (Ok moves)) → HasArrived job moment moves
+      → ((t : Track) → ObeysScript old new t (lines script.now) 0 (Ok moves)) → HasArrived job loaded.object moment moves
   script-arrives moves moment state keeper obeys =
       let o = obeys (track_at begins) past in
       record {
-        code = start.code;
+        loaded = loaded;
+        of = refl;
         at = record { point = o.0; moves = moves };
-        opens = start.opens;
+        opens = opens;
         arrives = sym same ∙ o.2;
         state = state ∙ ap (λ (p : Point). p.state) o.1.0;
         held = rw (state, keeper) o.1.1.history;
@@ -93,32 +104,35 @@ module _ (job : Job) (script : Bor (List ℕ)) (given : job.other ≡ Some scrip
   -- a line of it is refused
   pub script-refuses : (refusal : Refusal) → ((t : Track) → ObeysScript old new t (lines script.now) 0 (Err refusal))
       → RefusesArrival job (jobs.Script refusal)
-  script-refuses refusal obeys = (start.code, start.opens, sym same ∙ obeys (track_at begins) past)
+  script-refuses refusal obeys = (loaded, opens, sym same ∙ obeys (track_at begins) past)
 
 -- how a question is asked over a history behind so many moves
 abbrev question : Job → List Record → ℕ → Question
 question job h n = record { addresses = job.options.addresses; lines = job.options.lines; opening = length h == n }
 
 -- a machine where it is asked
-module _ (job : Job) (moment : Moment RingKeeper) (n : ℕ) (a : HasArrived job moment n) where
+module _ (job : Job) (object : Option LinkedObject) (moment : Moment RingKeeper) (n : ℕ) (a : HasArrived job object moment n) where
   -- the answer about it is printed
   pub origin-prints : (q : Question) (what : Option What) (parts : List Part) → q ≡ question job a.at.point.history n
       → Asks job.options.what moment.state what → parts ≡ parts_asked moment.state what
-      → (tail : Answer) → IsTail job.options.only_branches (branches_by job.places job.options a.at) parts a.at.point tail
-      → (names : Option Names) → AreNamesOf job.object (section_of job) names
+      → (known : Known) → IsKnown job object known
+      → (tail : Answer) → IsTail job.options.only_branches (branches_by known.places job.options a.at) parts a.at.point tail
+      → (names : Option Names) → AreNamesOf object (section_of job) names
       → Prints Origin job (named_print names moment.state (followed_by (answer_about q parts a.at.point.history moment.state) tail))
-  origin-prints q what parts asks-as asks is tail behind names known = (
-    a.code,
+  origin-prints q what parts asks-as asks is known is_known tail behind names found = (
+    a.loaded,
+    known,
     a.at,
     what,
     tail,
     names,
     a.opens,
+    subst (λ (o : Option LinkedObject). IsKnown job o known) (sym a.of) is_known,
     a.arrives,
     subst (λ (x : State). Asks job.options.what x what) a.state asks,
-    subst (λ (ps : List Part). IsTail job.options.only_branches (branches_by job.places job.options a.at) ps a.at.point tail)
+    subst (λ (ps : List Part). IsTail job.options.only_branches (branches_by known.places job.options a.at) ps a.at.point tail)
         (is ∙ ap (λ (x : State). parts_asked x what) a.state) behind,
-    known,
+    subst (λ (o : Option LinkedObject). AreNamesOf o (section_of job) names) (sym a.of) found,
     ap (λ (z : Question). named_print names moment.state (followed_by (answer_about z parts a.at.point.history moment.state) tail))
         (asks-as ∙ ap (question job a.at.point.history) a.counted)
         ∙ ap (λ (ps : List Part). named_print names moment.state (followed_by (answer_about (question_by job.options a.at) ps a.at.point.history moment.state) tail)) is
@@ -128,25 +142,33 @@ module _ (job : Job) (moment : Moment RingKeeper) (n : ℕ) (a : HasArrived job 
   -- and so is what it refuses
   pub origin-refuses : (fault : WhatFault) → RefusesWhat job.options.what moment.state fault → RefusesAs Origin job (jobs.What fault)
   origin-refuses fault refuses =
-      (a.code, a.at, a.opens, a.arrives, subst (λ (x : State). RefusesWhat job.options.what x fault) a.state refuses)
+      (a.loaded, a.at, a.opens, a.arrives, subst (λ (x : State). RefusesWhat job.options.what x fault) a.state refuses)
 
   -- and where nothing is known of the names in maps
   pub names-refuse : (parts : List Part) → AreAskedParts job moment.state parts → (fault : LinkFault) (name : Bor (List ℕ))
-      → RefusesNames job.object (section_of job) fault name.now → RefusesAs Origin job (jobs.Object fault name)
-  names-refuse parts asked fault name lacks =
-      (a.code, a.at, asked.0, a.opens, a.arrives, subst (λ (x : State). Asks job.options.what x asked.0) a.state asked.1, lacks)
+      → RefusesNames object (section_of job) fault name.now → RefusesAs Origin job (jobs.Object fault name)
+  names-refuse parts asked fault name lacks = (
+    a.loaded,
+    a.at,
+    asked.0,
+    a.opens,
+    a.arrives,
+    subst (λ (x : State). Asks job.options.what x asked.0) a.state asked.1,
+    subst (λ (o : Option LinkedObject). RefusesNames o (section_of job) fault name.now) (sym a.of) lacks,
+  )
 
   -- branches are asked for in the same way
-  abbrev asked_by : Question → Query
-  asked_by q = record { question = q; places = job.places }
+  abbrev asked_by : Known → Question → Query
+  asked_by known q = record { question = q; places = known.places }
 
   -- behind it are the branches that were found
-  pub branches-behind : (q : Question) (parts : List Part) (found : Found) → AreAskedParts job moment.state parts → job.options.only_branches ≡ true
-      → q ≡ question job a.at.point.history n → IsFound (asked_by q) parts a.at.point.history moment.state found
-      → HasTail job found.timeline n parts (record { text = found.text.items; extent = found.extent })
-  branches-behind q parts found asked given asks-as is = record {
+  pub branches-behind : (known : Known) → IsKnown job object known → (q : Question) (parts : List Part) (found : Found) → AreAskedParts job moment.state parts → job.options.only_branches ≡ true
+      → q ≡ question job a.at.point.history n → IsFound (asked_by known q) parts a.at.point.history moment.state found
+      → HasTail job object found.timeline n parts (record { text = found.text.items; extent = found.extent })
+  branches-behind known is_known q parts found asked given asks-as is = record {
     arrived = record {
-      code = a.code;
+      loaded = a.loaded;
+      of = a.of;
       at = a.at;
       opens = a.opens;
       arrives = a.arrives;
@@ -155,21 +177,25 @@ module _ (job : Job) (moment : Moment RingKeeper) (n : ℕ) (a : HasArrived job 
       counted = a.counted;
     };
     asked = subst (λ (x : State). AreAskedParts job x parts) (sym is.state) asked;
-    is = subst (λ (b : Bool). IsTail b (branches_by job.places job.options a.at) parts a.at.point (record { text = found.text.items; extent = found.extent })) (sym given)
-        (subst (λ (z : Question). AreBranches (asked_by z) parts a.at.point.history a.at.point.state (record { text = found.text.items; extent = found.extent }))
+    known = known;
+    is_known = is_known;
+    is = subst (λ (b : Bool). IsTail b (branches_by known.places job.options a.at) parts a.at.point (record { text = found.text.items; extent = found.extent })) (sym given)
+        (subst (λ (z : Question). AreBranches (asked_by known z) parts a.at.point.history a.at.point.state (record { text = found.text.items; extent = found.extent }))
         (asks-as ∙ ap (question job a.at.point.history) a.counted)
-        (subst (λ (x : State). AreBranches (asked_by q) parts a.at.point.history x (record { text = found.text.items; extent = found.extent })) a.state
-        (subst (λ (z : Answer). AreBranches (asked_by q) parts a.at.point.history moment.state z) (same is.text is.extent) is.is)));
+        (subst (λ (x : State). AreBranches (asked_by known q) parts a.at.point.history x (record { text = found.text.items; extent = found.extent })) a.state
+        (subst (λ (z : Answer). AreBranches (asked_by known q) parts a.at.point.history moment.state z) (same is.text is.extent) is.is)));
   }
     where
       same : {text : List ℕ} {extent : Extent} {other : Answer} → text ≡ other.text → extent ≡ other.extent → other ≡ record { text = text; extent = extent }
       same e f = ap₂ (λ (text : List ℕ) (extent : Extent). record { text = text; extent = extent }) (sym e) (sym f)
 
   -- or nothing
-  pub nothing-behind : (parts : List Part) → AreAskedParts job moment.state parts → job.options.only_branches ≡ false
-      → HasTail job moment n parts (record { text = []; extent = Whole })
-  nothing-behind parts asked without = record {
+  pub nothing-behind : (known : Known) → IsKnown job object known → (parts : List Part) → AreAskedParts job moment.state parts
+      → job.options.only_branches ≡ false → HasTail job object moment n parts (record { text = []; extent = Whole })
+  nothing-behind known is_known parts asked without = record {
     arrived = a;
     asked = asked;
-    is = subst (λ (b : Bool). IsTail b (branches_by job.places job.options a.at) parts a.at.point (record { text = []; extent = Whole })) (sym without) refl;
+    known = known;
+    is_known = is_known;
+    is = subst (λ (b : Bool). IsTail b (branches_by known.places job.options a.at) parts a.at.point (record { text = []; extent = Whole })) (sym without) refl;
   }

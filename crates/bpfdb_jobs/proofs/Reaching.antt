@@ -14,83 +14,101 @@ use Rattle.bpf_link.specs.declared.fault.LinkFault.{LinkFault}
 use Rattle.bpf_lines.specs.declared.place_names.Names.{Names}
 use Rattle.bpf_isa.specs.Programs.{Checked}
 use Rattle.bpf_whynot.specs.declared.fault.GoalFault.TheVariants.{NoSlot}
-use Rattle.bpfdb_jobs.specs.Jobs.{AreAsked, AsksGoals, Prints, asked_of, named_print, section_of}
+use Rattle.bpf_load.specs.declared.loading.LinkedObject.{LinkedObject}
+use Rattle.bpfdb_jobs.specs.Jobs.{AreAsked, AsksGoals, IsKnown, Prints, asked_of, named_print, section_of}
 use Rattle.bpfdb_jobs.specs.Openings.{HasArrived}
 use Rattle.bpfdb_jobs.specs.Origins.{AreNamesOf, RefusesNames}
 use Rattle.bpfdb_jobs.specs.Refusals.{RefusesAs, RefusesWhynot, lacks_place}
 use Rattle.bpfdb_jobs.specs.Whynots.{IsRefusalOf, RefusesGoals}
 use Rattle.bpfdb_jobs.specs.declared.job.Job.{Job}
+use Rattle.bpfdb_jobs.specs.declared.known.Known.{Known}
 use Rattle.bpfdb_faults.specs.declared.refusal.JobRefusal.{JobRefusal}
 use Rattle.bpfdb_faults.specs.declared.refusal.JobRefusal.TheVariants.{Maps, Listing, Load, Open, OtherRun, TraceLine, Journal, What, Goal, NoPlace, Object, Functions, Tests, NoTest, ManyTests, Script}
 use Rattle.bpfdb_options.specs.declared.subcommand.Subcommand.TheVariants.{Whynot}
 
 -- how it is asked over a history behind so many moves
-abbrev search : Job → List ℕ → List Record → ℕ → Query
-search job goals h n = record {
+abbrev search : Job → Known → List ℕ → List Record → ℕ → Query
+search job known goals h n = record {
   goals = goals;
   question = record { addresses = job.options.addresses; lines = job.options.lines; opening = length h == n };
   alone = job.options.alone;
-  places = job.places;
+  places = known.places;
 }
 
 -- the refusal of slots that are none
-pub goal-refuses : (job : Job) (program : Checked) (slots : List ℕ) (fault : GoalFault) (refusal : JobRefusal) → AreAsked job slots
-    → goals_in program slots ≡ Err fault → IsRefusalOf job fault refusal → RefusesGoals job program refusal
-goal-refuses job program slots fault (Goal told) asked none r = ((slots, asked, none ∙ ap (λ f. Err f) (sym r.0)), ap (λ f. lacks_place f (asked_of job)) r.0 ∙ r.1)
-goal-refuses job program slots fault (NoPlace name) asked none r =
+pub goal-refuses : (job : Job) (known : Known) (program : Checked) (slots : List ℕ) (fault : GoalFault) (refusal : JobRefusal) → AreAsked job known slots
+    → goals_in program slots ≡ Err fault → IsRefusalOf job fault refusal → RefusesGoals job known program refusal
+goal-refuses job known program slots fault (Goal told) asked none r = ((slots, asked, none ∙ ap (λ f. Err f) (sym r.0)), ap (λ f. lacks_place f (asked_of job)) r.0 ∙ r.1)
+goal-refuses job known program slots fault (NoPlace name) asked none r =
     (r.0, (slots, asked, none ∙ ap (λ f. Err f) r.1), ap (λ f. lacks_place f (asked_of job)) (sym r.1) ∙ r.2)
-goal-refuses job program slots fault (Maps why) asked none r = absurd r
-goal-refuses job program slots fault (Listing why) asked none r = absurd r
-goal-refuses job program slots fault (Load why) asked none r = absurd r
-goal-refuses job program slots fault (Open why) asked none r = absurd r
-goal-refuses job program slots fault (OtherRun refusal) asked none r = absurd r
-goal-refuses job program slots fault (TraceLine why line) asked none r = absurd r
-goal-refuses job program slots fault (Journal why) asked none r = absurd r
-goal-refuses job program slots fault (Script refusal) asked none r = absurd r
-goal-refuses job program slots fault (What why) asked none r = absurd r
-goal-refuses job program slots fault (Object why name) asked none r = absurd r
-goal-refuses job program slots fault (Functions why index name) asked none r = absurd r
-goal-refuses job program slots fault (Tests why line) asked none r = absurd r
-goal-refuses job program slots fault (NoTest name) asked none r = absurd r
-goal-refuses job program slots fault ManyTests asked none r = absurd r
+goal-refuses job known program slots fault (Maps why) asked none r = absurd r
+goal-refuses job known program slots fault (Listing why) asked none r = absurd r
+goal-refuses job known program slots fault (Load why) asked none r = absurd r
+goal-refuses job known program slots fault (Open why) asked none r = absurd r
+goal-refuses job known program slots fault (OtherRun refusal) asked none r = absurd r
+goal-refuses job known program slots fault (TraceLine why line) asked none r = absurd r
+goal-refuses job known program slots fault (Journal why) asked none r = absurd r
+goal-refuses job known program slots fault (Script refusal) asked none r = absurd r
+goal-refuses job known program slots fault (What why) asked none r = absurd r
+goal-refuses job known program slots fault (Object why name) asked none r = absurd r
+goal-refuses job known program slots fault (Functions why index name) asked none r = absurd r
+goal-refuses job known program slots fault (Tests why line) asked none r = absurd r
+goal-refuses job known program slots fault (NoTest name) asked none r = absurd r
+goal-refuses job known program slots fault ManyTests asked none r = absurd r
 
 -- a machine where it is asked
-module _ (job : Job) (moment : Moment RingKeeper) (n : ℕ) (a : HasArrived job moment n) where
+module _ (job : Job) (object : Option LinkedObject) (known : Known) (is_known : IsKnown job object known) (moment : Moment RingKeeper) (n : ℕ)
+    (a : HasArrived job object moment n) where
+  -- what is known of the object that was loaded
+  known-here : IsKnown job a.loaded.object known
+  known-here = subst (λ (o : Option LinkedObject). IsKnown job o known) (sym a.of) is_known
+
   -- the answer about it is printed
-  pub whynot-prints : (s : Query) (goals : List ℕ) (can : ℕ → List ℕ → Bool) → s ≡ search job goals a.at.point.history n
-      → AsksGoals job moment.state.program (Ok goals) → TellsReach moment.state.program goals can
-      → (names : Option Names) → AreNamesOf job.object (section_of job) names
+  pub whynot-prints : (s : Query) (goals : List ℕ) (can : ℕ → List ℕ → Bool) → s ≡ search job known goals a.at.point.history n
+      → AsksGoals job known moment.state.program (Ok goals) → TellsReach moment.state.program goals can
+      → (names : Option Names) → AreNamesOf object (section_of job) names
       → Prints Whynot job (named_print names moment.state (why_not can s a.at.point.history moment.state))
-  whynot-prints s goals can asks named tells names known = (
-    a.code,
+  whynot-prints s goals can asks named tells names found = (
+    a.loaded,
+    known,
     a.at,
     goals,
     can,
     names,
     a.opens,
+    known-here,
     a.arrives,
-    subst (λ (x : State). AsksGoals job x.program (Ok goals)) a.state named,
+    subst (λ (x : State). AsksGoals job known x.program (Ok goals)) a.state named,
     subst (λ (x : State). TellsReach x.program goals can) a.state tells,
-    known,
-    ap (λ (z : Query). named_print names moment.state (why_not can z a.at.point.history moment.state)) (asks ∙ ap (search job goals a.at.point.history) a.counted)
-        ∙ ap (λ (x : State). named_print names x (why_not can (search job goals a.at.point.history a.at.moves) a.at.point.history x)) a.state,
+    subst (λ (o : Option LinkedObject). AreNamesOf o (section_of job) names) (sym a.of) found,
+    ap (λ (z : Query). named_print names moment.state (why_not can z a.at.point.history moment.state)) (asks ∙ ap (search job known goals a.at.point.history) a.counted)
+        ∙ ap (λ (x : State). named_print names x (why_not can (search job known goals a.at.point.history a.at.moves) a.at.point.history x)) a.state,
   )
 
   -- nothing is known of the names in maps
-  pub names-lack : (goals : List ℕ) → AsksGoals job moment.state.program (Ok goals) → (fault : LinkFault) (name : Bor (List ℕ))
-      → RefusesNames job.object (section_of job) fault name.now → RefusesAs Whynot job (Object fault name)
-  names-lack goals named fault name lacks =
-      (a.code, a.at, goals, a.opens, a.arrives, subst (λ (x : State). AsksGoals job x.program (Ok goals)) a.state named, lacks)
+  pub names-lack : (goals : List ℕ) → AsksGoals job known moment.state.program (Ok goals) → (fault : LinkFault) (name : Bor (List ℕ))
+      → RefusesNames object (section_of job) fault name.now → RefusesAs Whynot job (Object fault name)
+  names-lack goals named fault name lacks = (
+    a.loaded,
+    known,
+    a.at,
+    goals,
+    a.opens,
+    known-here,
+    a.arrives,
+    subst (λ (x : State). AsksGoals job known x.program (Ok goals)) a.state named,
+    subst (λ (o : Option LinkedObject). RefusesNames o (section_of job) fault name.now) (sym a.of) lacks,
+  )
 
   -- and so is what it refuses
-  at-goals : (goals : Result (List ℕ) GoalFault) → AsksGoals job moment.state.program goals → AsksGoals job a.at.point.state.program goals
-  at-goals goals named = subst (λ (x : State). AsksGoals job x.program goals) a.state named
+  at-goals : (goals : Result (List ℕ) GoalFault) → AsksGoals job known moment.state.program goals → AsksGoals job known a.at.point.state.program goals
+  at-goals goals named = subst (λ (x : State). AsksGoals job known x.program goals) a.state named
 
-  pub whynot-refuses : (refusal : JobRefusal) → RefusesGoals job moment.state.program refusal → RefusesAs Whynot job refusal
-  whynot-refuses (Journal fault) r = subst (λ f. RefusesWhynot job (Journal f)) (sym r) (a.code, a.opens.opens, a.opens.sized)
-  whynot-refuses (Listing fault) r = (a.code.maps, a.opens.opens.program.maps, r.0, r.1)
-  whynot-refuses (Goal fault) r = (a.code, a.at, a.opens, a.arrives, at-goals (Err fault) r.0, r.1)
-  whynot-refuses (NoPlace name) r = (r.0, (a.code, a.at, a.opens, a.arrives, at-goals (Err NoSlot) r.1, r.2))
+  pub whynot-refuses : (refusal : JobRefusal) → RefusesGoals job known moment.state.program refusal → RefusesAs Whynot job refusal
+  whynot-refuses (Journal fault) r = subst (λ f. RefusesWhynot job (Journal f)) (sym r) (a.opens.opens.short, a.opens.sized)
+  whynot-refuses (Listing fault) r = r
+  whynot-refuses (Goal fault) r = (a.loaded, known, a.at, a.opens, known-here, a.arrives, at-goals (Err fault) r.0, r.1)
+  whynot-refuses (NoPlace name) r = (r.0, (a.loaded, known, a.at, a.opens, known-here, a.arrives, at-goals (Err NoSlot) r.1, r.2))
   whynot-refuses (Maps fault) r = absurd r
   whynot-refuses (Load fault) r = absurd r
   whynot-refuses (Open fault) r = absurd r

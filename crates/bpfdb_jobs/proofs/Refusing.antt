@@ -1,32 +1,51 @@
--- Which refusals of a program, of a machine and of a session are the same, and the last one of a session.
-use Rattle.std.proofs.Common.{◌≡◌, refl, subst, sym}
-use Rattle.bpf_isa.specs.Programs.{Checked}
+-- Which refusals of a machine and of a session are the same, and the last one of a session.
+use Rattle.std.proofs.Common.{◌≡◌, ◌≤◌, length, refl, subst, sym}
+use Rattle.bpf_entries.specs.Keeping.{IsSize}
 use Rattle.bpf_ring.specs.declared.fault.JournalFault.TheVariants.{OutOfMemory}
+use Rattle.bpf_steps.specs.Platform.{context_limit}
 use Rattle.bpfdb_faults.specs.Faults.{refusal_line, session_line}
-use Rattle.bpfdb_jobs.specs.Jobs.{OpensSession}
-use Rattle.bpfdb_jobs.specs.Refusals.{Refuses, RefusesArrival, RefusesMachine, RefusesOrigin, RefusesProgram, RefusesWhynot}
+use Rattle.bpfdb_faults.specs.Machines.{RefusesOpening}
+use Rattle.bpfdb_jobs.specs.Refusals.{Refuses, RefusesArrival, RefusesMachine, RefusesOrigin, RefusesWhynot}
 use Rattle.bpfdb_jobs.specs.declared.job.Job.{Job}
 use Rattle.bpfdb_faults.specs.declared.refusal.JobRefusal.{JobRefusal}
 use Rattle.bpfdb_faults.specs.declared.refusal.JobRefusal.TheVariants.{Maps, Listing, Load, Open, OtherRun, TraceLine, Journal, What, Goal, NoPlace, Object, Functions, Tests, NoTest, ManyTests, Script}
 
--- a refusal of a program is one of a machine on it, and that one of a session over it
-pub program-machine : (job : Job) (refusal : JobRefusal) → RefusesProgram job refusal → RefusesMachine job refusal
-program-machine job (Maps fault) p = p
-program-machine job (Listing fault) p = p
-program-machine job (Load fault) p = p
-program-machine job (Open fault) p = absurd p
-program-machine job (OtherRun refusal) p = absurd p
-program-machine job (TraceLine fault line) p = absurd p
-program-machine job (Journal fault) p = absurd p
-program-machine job (Script refusal) p = absurd p
-program-machine job (What fault) p = absurd p
-program-machine job (Goal fault) p = absurd p
-program-machine job (NoPlace name) p = absurd p
-program-machine job (Object fault name) p = absurd p
-program-machine job (Functions fault index name) p = absurd p
-program-machine job (Tests fault line) p = absurd p
-program-machine job (NoTest name) p = absurd p
-program-machine job ManyTests p = absurd p
+-- a refusal of a context is one of a machine on it, that one of a session
+pub opening-machine : (job : Job) (refusal : JobRefusal) → RefusesOpening job.context.now refusal → RefusesMachine job refusal
+opening-machine job (Maps fault) p = absurd p
+opening-machine job (Listing fault) p = absurd p
+opening-machine job (Load fault) p = absurd p
+opening-machine job (Open fault) p = p
+opening-machine job (OtherRun refusal) p = absurd p
+opening-machine job (TraceLine fault line) p = absurd p
+opening-machine job (Journal fault) p = absurd p
+opening-machine job (Script refusal) p = absurd p
+opening-machine job (What fault) p = absurd p
+opening-machine job (Goal fault) p = absurd p
+opening-machine job (NoPlace name) p = absurd p
+opening-machine job (Object fault name) p = absurd p
+opening-machine job (Functions fault index name) p = absurd p
+opening-machine job (Tests fault line) p = absurd p
+opening-machine job (NoTest name) p = absurd p
+opening-machine job ManyTests p = absurd p
+
+pub opening-refuses : (job : Job) (refusal : JobRefusal) → RefusesOpening job.context.now refusal → Refuses job refusal
+opening-refuses job (Maps fault) p = absurd p
+opening-refuses job (Listing fault) p = absurd p
+opening-refuses job (Load fault) p = absurd p
+opening-refuses job (Open fault) p = p
+opening-refuses job (OtherRun refusal) p = absurd p
+opening-refuses job (TraceLine fault line) p = absurd p
+opening-refuses job (Journal fault) p = absurd p
+opening-refuses job (Script refusal) p = absurd p
+opening-refuses job (What fault) p = absurd p
+opening-refuses job (Goal fault) p = absurd p
+opening-refuses job (NoPlace name) p = absurd p
+opening-refuses job (Object fault name) p = absurd p
+opening-refuses job (Functions fault index name) p = absurd p
+opening-refuses job (Tests fault line) p = absurd p
+opening-refuses job (NoTest name) p = absurd p
+opening-refuses job ManyTests p = absurd p
 
 pub machine-session : (job : Job) (refusal : JobRefusal) → RefusesMachine job refusal → Refuses job refusal
 machine-session job (Maps fault) p = p
@@ -85,7 +104,7 @@ arrival-origin job ManyTests p = p
 
 pub arrival-whynot : (job : Job) (refusal : JobRefusal) → RefusesArrival job refusal → RefusesWhynot job refusal
 arrival-whynot job (Maps fault) p = p
-arrival-whynot job (Listing fault) p = p
+arrival-whynot job (Listing fault) p = absurd p
 arrival-whynot job (Load fault) p = p
 arrival-whynot job (Open fault) p = p
 arrival-whynot job (OtherRun refusal) p = p
@@ -121,5 +140,6 @@ session-refused job (NoTest name) p = absurd p
 session-refused job ManyTests p = absurd p
 
 -- Where a session was opened, memory for answers may be missing still.
-pub no-places : (job : Job) (code : Checked) (refusal : JobRefusal) → OpensSession job code → refusal ≡ Journal OutOfMemory → Refuses job refusal
-no-places job code refusal opens is = subst (Refuses job) (sym is) (code, opens.opens, opens.sized)
+pub no-places : (job : Job) (refusal : JobRefusal) → length job.context.now ≤ context_limit → IsSize job.options.journal → refusal ≡ Journal OutOfMemory
+    → Refuses job refusal
+no-places job refusal short sized is = subst (Refuses job) (sym is) (short, sized)

@@ -1,18 +1,18 @@
 -- The exit status of a job that was done.
 use Rattle.std.proofs.Common.{ℕ, ◌≡◌, ◌≢◌, Bool, true, false, Option, Some, None, Result, Ok, Err, ap, subst, sym}
-use Rattle.bpf_isa.specs.Programs.{Checked}
+use Rattle.bpf_load.specs.Targets.{Loads}
+use Rattle.bpf_load.specs.declared.program.Loaded.{Loaded}
 use Rattle.bpf_session.specs.declared.fault.RunFault.{RunFault}
 use Rattle.bpf_suite.specs.declared.cover.CoverForm.{CoverForm}
 use Rattle.bpfdb_faults.specs.Streams.{Stream}
 use Rattle.bpfdb_faults.specs.declared.fault.JobFault.{JobFault}
 use Rattle.bpfdb_jobs.specs.Cases as batches
-use Rattle.bpfdb_jobs.specs.Done.{DoesAs, DoesJob, DoesPlain, Over, Unlinked}
+use Rattle.bpfdb_jobs.specs.Done.{Does, DoesJob, DoesPlain, Unloaded}
 use Rattle.bpfdb_jobs.specs.Endings.{Broken, EndsPrinted, EndsSession, ErrLost, Exhausted, OutLost, Printed, Refused, Served}
 use Rattle.bpfdb_jobs.specs.Jobs.{Print, Prints}
-use Rattle.bpfdb_jobs.specs.Objects.{links_first}
 use Rattle.bpfdb_jobs.specs.Shown.{EndsTest}
 use Rattle.bpfdb_jobs.specs.Shown as shown
-use Rattle.bpfdb_jobs.specs.Statuses.{EndsAs, EndsBatchWith, EndsPlainWith, EndsSessionWith, EndsTestWith, EndsWith}
+use Rattle.bpfdb_jobs.specs.Statuses.{EndsBatchWith, EndsSessionWith, EndsTestWith, EndsWith}
 use Rattle.bpfdb_jobs.specs.Suites as tests
 use Rattle.bpfdb_jobs.specs.declared.job.Job.{Job}
 use Rattle.bpfdb_options.specs.declared.subcommand.Subcommand.{Subcommand}
@@ -49,11 +49,12 @@ run_with writer errors false false job status (tests.Done reported reports same 
 run_with writer errors false false job status (tests.Undone why reports told two) other = absurd (other two)
 
 module _ {R W E : Type 0} (reader : Stream R) (writer : Stream W) (errors : Stream E) where
-  session_with : (job : Job) (Serves : Checked → Type 0) (Breaks : Checked → RunFault → Type 0) (status : ℕ)
+  session_with : (job : Job) (loaded : Loaded) → Loads job.target job.file.now loaded → (Serves : Type 0) (Breaks : RunFault → Type 0) (status : ℕ)
       → EndsSession job Serves Breaks reader writer errors status → status ≢ 2 → EndsSessionWith job status
-  session_with job Serves Breaks status (Served code opens serves r w e zero) other = (code, opens, zero)
-  session_with job Serves Breaks status (Refused refusal why r w told two) other = absurd (other two)
-  session_with job Serves Breaks status (Broken code why opens breaks fails told two) other = absurd (other two)
+  session_with job loaded loads Serves Breaks status (Served room serves r w e zero) other =
+      (loaded, record { opens = record { loads = loads; short = room.short }; sized = room.sized }, zero)
+  session_with job loaded loads Serves Breaks status (Refused refusal why r w told two) other = absurd (other two)
+  session_with job loaded loads Serves Breaks status (Broken why room breaks fails told two) other = absurd (other two)
 
   batch_with : (job : Job) (status : ℕ) → batches.EndsBatch job reader writer errors status → status ≢ 2 → EndsBatchWith job status
   batch_with job status (batches.Served b is answers r w e zero) other = (b.maps.now, is.maps, zero)
@@ -77,9 +78,9 @@ module _ {R W E : Type 0} (reader : Stream R) (writer : Stream W) (errors : Stre
   printed_with s job status (ErrLost a prints out lost two) other = absurd (other two)
 
   -- the status of a job over FILE's bytes or its listing
-  plain_with : (s : Subcommand) (job : Job) (status : ℕ) → DoesPlain s job reader writer errors status → status ≢ 2 → EndsPlainWith s job status
-  plain_with Debug job status does other = session_with job _ _ status does other
-  plain_with Gdb job status does other = session_with job _ _ status does other
+  plain_with : (s : Subcommand) (job : Job) (status : ℕ) → DoesPlain s job reader writer errors status → status ≢ 2 → EndsWith s job status
+  plain_with Debug job status does other = session_with job does.0 does.1 _ _ status does.2 other
+  plain_with Gdb job status does other = session_with job does.0 does.1 _ _ status does.2 other
   plain_with Batch job status does other = batch_with job status does other
   plain_with Test job status does other = test_with job.options.show job status does.1 other
   plain_with Run job status does other = printed_with Run job status does.1 other
@@ -94,11 +95,6 @@ module _ {R W E : Type 0} (reader : Stream R) (writer : Stream W) (errors : Stre
   plain_with Link job status does other = printed_with Link job status does.1 other
 
   -- the status of a job that is done
-  ends_as : (links : Bool) (s : Subcommand) (job : Job) (status : ℕ) → DoesAs links s job reader writer errors status → status ≢ 2
-      → EndsAs links s job status
-  ends_as false s job status does other = plain_with s job status does other
-  ends_as true s job status (Over loaded over loads is does) other = (loaded, over, loads, is, plain_with s over status does other)
-  ends_as true s job status (Unlinked refusal refuses r-same w-same told two) other = absurd (other two)
-
   pub ends_with : (s : Subcommand) (job : Job) (status : ℕ) → DoesJob s job reader writer errors status → status ≢ 2 → EndsWith s job status
-  ends_with s job = ends_as (links_first s job) s job
+  ends_with s job status (Does does) other = plain_with s job status does other
+  ends_with s job status (Unloaded checks refusal refuses r-same w-same told two) other = absurd (other two)

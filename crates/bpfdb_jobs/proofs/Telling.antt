@@ -1,7 +1,7 @@
 -- How a run that is told ends.
 use Rattle.std.proofs.Common.{ℕ, ◌≡◌, List, [], ◌++◌, Option, Some, None, Result, Ok, Err, refl, ap, ◌∙◌}
 use Rattle.std.specs.Prelude.{IfErr, OnOk}
-use Rattle.bpf_steps.specs.State.{State, initial}
+use Rattle.bpf_steps.specs.State.{State}
 use Rattle.bpf_session.specs.Plain.{plain_end}
 use Rattle.bpf_trace.specs.UnwrittenTexts.{trace_until}
 use Rattle.bpf_trace.specs.declared.strict_run.Unwritten.{Unwritten}
@@ -9,60 +9,68 @@ use Rattle.bpf_trace.specs.Profiles.{counts_text, profile_of, profile_text}
 use Rattle.bpfdb_faults.specs.Streams.{Stream, Told}
 use Rattle.bpfdb_jobs.specs.Endings.{EndsPrinted, Exhausted, OutLost, Printed}
 use Rattle.bpfdb_faults.specs.Faults.{line_of}
-use Rattle.bpfdb_jobs.specs.Jobs.{Prints, run_end, shown_of, status_of_end, trace_or_stopped, trace_out, trace_print}
+use Rattle.bpfdb_jobs.specs.Jobs.{IsKnown, Prints, initial_of, run_end, shown_of, status_of_end, trace_or_stopped, trace_out, trace_print}
 use Rattle.bpfdb_jobs.proofs.Printing.{OpensStrict, strict-read}
 use Rattle.bpf_trace.specs.Tellings.{Tells}
 use Rattle.bpfdb_jobs.specs.Tellings.{fault_of_told}
 use Rattle.bpfdb_jobs.specs.declared.job.Job.{Job}
+use Rattle.bpfdb_jobs.specs.declared.known.Known.{Known}
 use Rattle.bpf_trace.specs.declared.trace.TraceFault.{TraceFault}
 use Rattle.bpf_trace.specs.declared.trace.TraceFault.TheVariants.{Memory, Write}
 use Rattle.bpfdb_options.specs.declared.subcommand.Subcommand.TheVariants.{Trace}
 
 -- what a run prints, from the machine that was opened
-trace-prints : (job : Job) (x end : State) (read : Option Unwritten) → OpensStrict job x read → read ≡ None
-    → end ≡ plain_end job.options.limit x → Prints Trace job (trace_print job x end)
-trace-prints job x end read o none e = (
+trace-prints : (job : Job) (known : Known) (x end : State) (read : Option Unwritten) (o : OpensStrict job x read) → IsKnown job o.0.object known
+    → read ≡ None → end ≡ plain_end job.options.limit x → Prints Trace job (trace_print job (shown_of job known) x end)
+trace-prints job known x end read o is_known none e = (
   o.0,
+  known,
   o.1,
-  ap (λ (y : State). trace_print job y end) o.2 ∙ ap (trace_print job (initial o.0 job.context.now)) (e ∙ ap (plain_end job.options.limit) o.2)
-      ∙ ap (λ (r : Option Unwritten). trace_or_stopped r job (initial o.0 job.context.now) (run_end job o.0)) (strict-read job x read None o none),
+  is_known,
+  ap (λ (y : State). trace_print job (shown_of job known) y end) o.2
+      ∙ ap (trace_print job (shown_of job known) (initial_of job o.0)) (e ∙ ap (plain_end job.options.limit) o.2)
+      ∙ ap (λ (r : Option Unwritten). trace_or_stopped r job (shown_of job known) (initial_of job o.0) (run_end job o.0)) (strict-read job x read None o none),
 )
 
-pub trace-ends : {W E : Type 0} {writer : Stream W} {errors : Stream E} (job : Job) (x end : State) (read : Option Unwritten)
-    (r : Result (Unit {0}) TraceFault) (status : ℕ) → OpensStrict job x read → read ≡ None
-    → Tells writer.bytes writer.old writer.new r (trace_out job x) → OnOk r (end ≡ plain_end job.options.limit x)
+pub trace-ends : {W E : Type 0} {writer : Stream W} {errors : Stream E} (job : Job) (known : Known) (x end : State) (read : Option Unwritten)
+    (r : Result (Unit {0}) TraceFault) (status : ℕ) → (o : OpensStrict job x read) → IsKnown job o.0.object known → read ≡ None
+    → Tells writer.bytes writer.old writer.new r (trace_out job (shown_of job known) x) → OnOk r (end ≡ plain_end job.options.limit x)
     → OnOk r ((errors.new ≡ errors.old) × (status ≡ status_of_end end.status))
     → IfErr r (λ why. Told errors (line_of (fault_of_told why)) × (status ≡ 2))
     → EndsPrinted Trace job writer errors status
-trace-ends job x end read (Ok done) status o none told e ok err =
-    Printed (trace_print job x end) (trace-prints job x end read o none e) (told.ok, told.same) ok.0 ok.1
-trace-ends job x end read (Err Memory) status o none told e ok err =
-    Exhausted (trace_print job x (plain_end job.options.limit x)) (trace-prints job x (plain_end job.options.limit x) read o none refl) tt told err.0 err.1
-trace-ends job x end read (Err Write) status o none told e ok err =
-    OutLost (trace_print job x (plain_end job.options.limit x)) (trace-prints job x (plain_end job.options.limit x) read o none refl) (told.err, told.fault) err.0 err.1
+trace-ends job known x end read (Ok done) status o is_known none told e ok err =
+    Printed (trace_print job (shown_of job known) x end) (trace-prints job known x end read o is_known none e) (told.ok, told.same) ok.0 ok.1
+trace-ends job known x end read (Err Memory) status o is_known none told e ok err =
+    Exhausted (trace_print job (shown_of job known) x (plain_end job.options.limit x))
+    (trace-prints job known x (plain_end job.options.limit x) read o is_known none refl) tt told err.0 err.1
+trace-ends job known x end read (Err Write) status o is_known none told e ok err =
+    OutLost (trace_print job (shown_of job known) x (plain_end job.options.limit x))
+    (trace-prints job known x (plain_end job.options.limit x) read o is_known none refl) (told.err, told.fault) err.0 err.1
 
 -- one that stopped
-until-prints : (job : Job) (x : State) (read : Option Unwritten) (at : Unwritten) → OpensStrict job x read → read ≡ Some at
-    → Prints Trace job (trace_or_stopped (Some at) job x x)
-until-prints job x read at o is = (
+until-prints : (job : Job) (known : Known) (x : State) (read : Option Unwritten) (at : Unwritten) (o : OpensStrict job x read)
+    → IsKnown job o.0.object known → read ≡ Some at → Prints Trace job (trace_or_stopped (Some at) job (shown_of job known) x x)
+until-prints job known x read at o is_known is = (
   o.0,
+  known,
   o.1,
-  ap (λ (y : State). trace_or_stopped (Some at) job y y) o.2
-      ∙ ap (λ (r : Option Unwritten). trace_or_stopped r job (initial o.0 job.context.now) (run_end job o.0)) (strict-read job x read (Some at) o is),
+  is_known,
+  ap (λ (y : State). trace_or_stopped (Some at) job (shown_of job known) y y) o.2
+      ∙ ap (λ (r : Option Unwritten). trace_or_stopped r job (shown_of job known) (initial_of job o.0) (run_end job o.0)) (strict-read job x read (Some at) o is),
 )
 
-pub until-ends : {W E : Type 0} {writer : Stream W} {errors : Stream E} (job : Job) (x : State) (read : Option Unwritten) (at : Unwritten)
-    (r : Result (Unit {0}) TraceFault) (status : ℕ) → OpensStrict job x read → read ≡ Some at
-    → Tells writer.bytes writer.old writer.new r (trace_until at (shown_of job) x)
+pub until-ends : {W E : Type 0} {writer : Stream W} {errors : Stream E} (job : Job) (known : Known) (x : State) (read : Option Unwritten) (at : Unwritten)
+    (r : Result (Unit {0}) TraceFault) (status : ℕ) → (o : OpensStrict job x read) → IsKnown job o.0.object known → read ≡ Some at
+    → Tells writer.bytes writer.old writer.new r (trace_until at (shown_of job known) x)
     → OnOk r ((errors.new ≡ errors.old) × (status ≡ 1))
     → IfErr r (λ why. Told errors (line_of (fault_of_told why)) × (status ≡ 2))
     → EndsPrinted Trace job writer errors status
-until-ends job x read at (Ok done) status o is told ok err =
-    Printed (trace_or_stopped (Some at) job x x) (until-prints job x read at o is) (told.ok, told.same) ok.0 ok.1
-until-ends job x read at (Err Memory) status o is told ok err =
-    Exhausted (trace_or_stopped (Some at) job x x) (until-prints job x read at o is) tt told err.0 err.1
-until-ends job x read at (Err Write) status o is told ok err =
-    OutLost (trace_or_stopped (Some at) job x x) (until-prints job x read at o is) (told.err, told.fault) err.0 err.1
+until-ends job known x read at (Ok done) status o is_known is told ok err =
+    Printed (trace_or_stopped (Some at) job (shown_of job known) x x) (until-prints job known x read at o is_known is) (told.ok, told.same) ok.0 ok.1
+until-ends job known x read at (Err Memory) status o is_known is told ok err =
+    Exhausted (trace_or_stopped (Some at) job (shown_of job known) x x) (until-prints job known x read at o is_known is) tt told err.0 err.1
+until-ends job known x read at (Err Write) status o is_known is told ok err =
+    OutLost (trace_or_stopped (Some at) job (shown_of job known) x x) (until-prints job known x read at o is_known is) (told.err, told.fault) err.0 err.1
 
 -- the profile of a run, from the machine that it left
 pub profile-is : (limit : ℕ) (counts : List ℕ) (x y : State) → counts ≡ profile_of limit x → y ≡ plain_end limit x

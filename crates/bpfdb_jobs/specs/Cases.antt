@@ -4,18 +4,18 @@ use Rattle.bpf_batch.specs.Batches.{AnswersAll, BreaksOff, FailsBy}
 use Rattle.bpf_batch.specs.declared.batch.Batch.{Batch}
 use Rattle.bpf_batch.specs.declared.fault.BatchFault.{BatchFault}
 use Rattle.bpf_batch.specs.declared.fault.BatchFault.TheVariants as batch
+use Rattle.bpf_load.specs.Targets.{AreNamedMaps}
 use Rattle.bpfdb_faults.specs.Faults.{input_line, line_of, output_line}
 use Rattle.bpfdb_faults.specs.Streams.{Spared, Stream, Told}
 use Rattle.bpfdb_faults.specs.declared.fault.JobFault.TheVariants as fault
 use Rattle.bpfdb_faults.specs.declared.refusal.JobRefusal.{JobRefusal}
-use Rattle.bpfdb_jobs.specs.Jobs.{HasMaps}
 use Rattle.bpfdb_jobs.specs.Refusals.{RefusesBatch}
 use Rattle.bpfdb_jobs.specs.Scripts.{Exchanges}
 use Rattle.bpfdb_jobs.specs.declared.job.Job.{Job}
 
 -- What the cases of a job share: its maps, its limit of steps, and FILE's bytes as the words of those that have none of their own.
 pub record IsBatchOf (job : Job) (b : Batch) : Type 0 where
-  pub maps : HasMaps job b.maps.now
+  pub maps : AreNamedMaps job.target.maps b.maps.now
   pub limit : b.limit ≡ job.options.limit
   pub program : b.program.now ≡ job.file.now
 

@@ -5,6 +5,8 @@ use Rattle.bpf_isa.specs.Programs.{Checked}
 use Rattle.bpf_journal.specs.Tracks.{RingHolds, ring_room}
 use Rattle.bpf_lines.specs.declared.place_names.Names.{Names}
 use Rattle.bpf_link.specs.declared.fault.LinkFault.{LinkFault}
+use Rattle.bpf_load.specs.declared.loading.LinkedObject.{LinkedObject}
+use Rattle.bpf_load.specs.declared.program.Loaded.{Loaded}
 use Rattle.bpf_ring.specs.declared.keeper.RingKeeper.{RingKeeper}
 use Rattle.bpf_remote.specs.Serving.{Breaks, Ends, Serves}
 use Rattle.bpf_remote.specs.declared.layout.Layout.{Layout}
@@ -26,14 +28,14 @@ layout_of registers.Bpf = layout.Bpf
 layout_of registers.X86 = layout.X86
 layout_of registers.Riscv = layout.Riscv
 
--- The names that gdb is told: those in the maps of the object that the words come from; none where these can't be known.
-abbrev pub KnowsNames : Job → Option Names → Type 0
-KnowsNames job names =
-    AreNamesOf job.object (section_of job) names ⊎ ((names ≡ None) × (why : LinkFault) × LacksNames job.object (section_of job) why)
+-- The names that gdb is told: those in the maps of the object that the program comes from; none where these can't be known.
+abbrev pub KnowsNames : Job → Option LinkedObject → Option Names → Type 0
+KnowsNames job object names =
+    AreNamesOf object (section_of job) names ⊎ ((names ≡ None) × (why : LinkFault) × LacksNames object (section_of job) why)
 
-pub record IsTarget (job : Job) (gdb : Target) : Type 0 where
+pub record IsTarget (job : Job) (object : Option LinkedObject) (gdb : Target) : Type 0 where
   pub layout : gdb.layout ≡ layout_of job.options.registers
-  pub names : KnowsNames job (option_map (λ n. n.now) gdb.names)
+  pub names : KnowsNames job object (option_map (λ n. n.now) gdb.names)
 
 -- A ring refuses no push.
 abbrev pub ring_refusals : RingKeeper → ℕ
@@ -41,7 +43,7 @@ ring_refusals ring = 0
 
 -- A session stands where one of the job begins.
 abbrev pub Begins : Job → Checked → SessionValue RingKeeper → Type 0
-Begins job code session = HasStanding RingHolds ring_refusals ring_room session (start_of job code)
+Begins job program session = HasStanding RingHolds ring_refusals ring_room session (start_of job program)
 
 -- What was known of the streams and of the session before it was served and after it.
 abbrev pub ends : {R W : Type 0} → Target → SessionValue RingKeeper → SessionValue RingKeeper → Stream R → Stream W → Ends RingKeeper R W
@@ -55,21 +57,21 @@ ends gdb from to reader writer = record {
   writer' = writer.new;
 }
 
-module _ {R W : Type 0} (job : Job) (reader : Stream R) (writer : Stream W) where
+module _ {R W : Type 0} (job : Job) (loaded : Loaded) (reader : Stream R) (writer : Stream W) where
   -- It was served to the connection's end.
-  pub record ServesConnection (code : Checked) : Type 0 where
+  pub record ServesConnection : Type 0 where
     pub gdb : Target
-    pub target : IsTarget job gdb
+    pub target : IsTarget job loaded.object gdb
     pub from : SessionValue RingKeeper
     pub to : SessionValue RingKeeper
-    pub begins : Begins job code from
+    pub begins : Begins job loaded.program from
     pub serves : Serves RingHolds ring_refusals ring_room reader.bytes writer.bytes (ends gdb from to reader writer)
 
   -- It was served until a read or a write failed.
-  pub record BreaksConnection (code : Checked) (why : RunFault) : Type 0 where
+  pub record BreaksConnection (why : RunFault) : Type 0 where
     pub gdb : Target
-    pub target : IsTarget job gdb
+    pub target : IsTarget job loaded.object gdb
     pub from : SessionValue RingKeeper
     pub to : SessionValue RingKeeper
-    pub begins : Begins job code from
+    pub begins : Begins job loaded.program from
     pub breaks : Breaks RingHolds ring_refusals ring_room reader.bytes writer.bytes why (ends gdb from to reader writer)

@@ -1,12 +1,11 @@
 -- How a job ends, as it stands on reader, writer and standard error.
 use Rattle.std.specs.Prelude.{◌≡◌, ℕ, List, ⊤}
-use Rattle.bpf_isa.specs.Programs.{Checked}
 use Rattle.bpf_session.specs.Runs.{FailsBy}
 use Rattle.bpf_session.specs.declared.fault.RunFault.{RunFault}
 use Rattle.bpf_session.specs.declared.fault.RunFault.TheVariants as run
 use Rattle.bpfdb_faults.specs.Faults.{input_line, line_of, output_line, session_line}
 use Rattle.bpfdb_faults.specs.Streams.{Gets, Loses, Spared, Stream, Told}
-use Rattle.bpfdb_jobs.specs.Jobs.{OpensSession, Print, Prints}
+use Rattle.bpfdb_jobs.specs.Jobs.{HasRoom, Print, Prints}
 use Rattle.bpfdb_jobs.specs.Refusals.{Refuses, RefusesAs}
 use Rattle.bpfdb_faults.specs.declared.fault.JobFault.TheVariants as fault
 use Rattle.bpfdb_jobs.specs.declared.job.Job.{Job}
@@ -42,12 +41,12 @@ broken_line run.Write = output_line
 
 -- How a job ends that opens a session: it was served to its end; or it was refused, and nothing was read and written; or it was served until
 -- a read or a write failed.
-pub data EndsSession {R W E : Type 0} (job : Job) (Serves : Checked → Type 0) (Breaks : Checked → RunFault → Type 0)
+pub data EndsSession {R W E : Type 0} (job : Job) (Serves : Type 0) (Breaks : RunFault → Type 0)
     (reader : Stream R) (writer : Stream W) (errors : Stream E) (status : ℕ) : Type 0 where
-  Served : (code : Checked) → OpensSession job code → Serves code → Spared reader → Spared writer → errors.new ≡ errors.old → status ≡ 0
+  Served : HasRoom job → Serves → Spared reader → Spared writer → errors.new ≡ errors.old → status ≡ 0
       → EndsSession job Serves Breaks reader writer errors status
   Refused : (refusal : JobRefusal) → Refuses job refusal → reader.new ≡ reader.old → writer.new ≡ writer.old → Told errors (session_line refusal)
       → status ≡ 2 → EndsSession job Serves Breaks reader writer errors status
-  Broken : (code : Checked) → (why : RunFault) → OpensSession job code → Breaks code why
+  Broken : (why : RunFault) → HasRoom job → Breaks why
       → FailsBy why reader.old reader.new writer.old writer.new → Told errors (broken_line why) → status ≡ 2
       → EndsSession job Serves Breaks reader writer errors status

@@ -3,11 +3,16 @@
 use Rattle.std.specs.Prelude.{ℕ, ◌≡◌, ◌==◌, ◌&&◌, Bool, true, false, if◌then◌else◌, List, [], ◌∷◌, ◌++◌, Option, Some, None, option_map, codes, decimal}
 use Rattle.std.specs.List.{after_first, before_first}
 use Rattle.std.specs.Option.{option_and_then, option_map_or}
-use Rattle.bpf_isa.specs.Programs.{Checked}
 use Rattle.bpf_isa.specs.declared.fault.LoadFault.{LoadFault}
 use Rattle.bpf_isa.specs.declared.fault.LoadFault.TheVariants.{Ragged, At}
 use Rattle.bpf_isa.specs.declared.fault.PieceFault.TheVariants.{Word}
 use Rattle.bpf_isa.specs.declared.fault.WordFault.TheVariants.{UnknownInstruction, UnusedField}
+use Rattle.bpf_load.specs.Faults.{IsTargetFault}
+use Rattle.bpf_load.specs.Targets.{Loads}
+use Rattle.bpf_load.specs.declared.fault.TargetFault.{TargetFault}
+use Rattle.bpf_load.specs.declared.fault.TargetFault.TheVariants.{Program}
+use Rattle.bpf_load.specs.declared.program.Loaded.{Loaded}
+use Rattle.bpf_load.specs.declared.target.SourceKind.TheVariants as kind
 use Rattle.bpf_text.specs.LineTable.{IsLineTable}
 use Rattle.bpf_text.specs.Listing.{IsFaultOf}
 use Rattle.bpf_text.specs.declared.fault.AsmFault.{AsmFault}
@@ -15,15 +20,11 @@ use Rattle.counted_io.specs.Lines.{lines}
 use Rattle.counted_io.specs.Numerals.{as_u64, natural}
 use Rattle.bpfdb_faults.specs.Streams.{Stream, Told}
 use Rattle.bpfdb_script.specs.Shown.{shown}
-use Rattle.bpfdb_jobs.specs.Jobs.{IsProgramOf}
 use Rattle.bpfdb_jobs.specs.Looks.{is_object, is_text}
 use Rattle.bpfdb_jobs.specs.Objects.{is_check}
-use Rattle.bpfdb_jobs.specs.Refusals.{RefusesProgram}
 use Rattle.bpfdb_jobs.specs.declared.hint.Hint.{Hint}
 use Rattle.bpfdb_jobs.specs.declared.hint.Hint.TheVariants as hint
 use Rattle.bpfdb_jobs.specs.declared.job.Job.{Job}
-use Rattle.bpfdb_faults.specs.declared.refusal.JobRefusal.{JobRefusal}
-use Rattle.bpfdb_faults.specs.declared.refusal.JobRefusal.TheVariants.{Load}
 
 -- The faults of a file that isn't words: C3, and at the first slot C4 and C6.
 abbrev pub is_of_file : LoadFault → Bool
@@ -36,9 +37,9 @@ abbrev pub look_of : List ℕ → Option Hint
 look_of file = if is_object file then Some hint.Object else if is_text file then Some hint.Listing else None
 
 -- After a refusal of words.
-abbrev pub look_after : JobRefusal → List ℕ → Option Hint
-look_after (Load fault) file = if is_of_file fault then look_of file else None
-look_after refusal file = None
+abbrev pub look_after : TargetFault → List ℕ → Option Hint
+look_after (Program fault) file = if is_of_file fault then look_of file else None
+look_after why file = None
 
 -- The line of an instruction, by the rows of a listing's table: their first word is the slot, their second one the line.
 abbrev pub number_of : List ℕ → Option ℕ
@@ -54,22 +55,21 @@ line_at slot (row ∷ rows) = if is_number slot (before_first (λ b. b == 32) ro
     else line_at slot rows
 
 -- After a refusal of a listing's program, by its table.
-abbrev pub place_after : JobRefusal → List ℕ → Option Hint
-place_after (Load (At slot fault)) table = option_map (hint.Line slot) (line_at slot (lines table))
-place_after refusal table = None
+abbrev pub place_after : TargetFault → List ℕ → Option Hint
+place_after (Program (At slot fault)) table = option_map (hint.Line slot) (line_at slot (lines table))
+place_after why table = None
 
--- The hint of a job, if there is one: none where FILE isn't read as a program, or is an object, or the program is accepted, or no table is made of a
+-- The hint of a job, if there is one: none where FILE isn't read as a program, or is an object, or the program is loaded, or no table is made of a
 -- listing.
 pub data IsHintOf (job : Job) (hint : Option Hint) : Type 0 where
   Unchecked : is_check job.subcommand ≡ false → hint ≡ None → IsHintOf job hint
-  Linked : job.options.is_object ≡ true → hint ≡ None → IsHintOf job hint
-  Accepted : (code : Checked) → IsProgramOf job code → hint ≡ None → IsHintOf job hint
-  Looks : (refusal : JobRefusal) → is_check job.subcommand ≡ true → job.options.is_object ≡ false → job.options.is_listing ≡ false
-      → RefusesProgram job refusal → hint ≡ look_after refusal job.file.now → IsHintOf job hint
-  Stands : (refusal : JobRefusal) (table : List ℕ) → is_check job.subcommand ≡ true → job.options.is_object ≡ false
-      → job.options.is_listing ≡ true → RefusesProgram job refusal → IsLineTable job.file.now table
-      → hint ≡ place_after refusal table → IsHintOf job hint
-  Untold : (why : AsmFault) → job.options.is_listing ≡ true → IsFaultOf job.file.now why → hint ≡ None → IsHintOf job hint
+  Linked : job.target.kind ≡ kind.Object → hint ≡ None → IsHintOf job hint
+  Accepted : (loaded : Loaded) → Loads job.target job.file.now loaded → hint ≡ None → IsHintOf job hint
+  Looks : (why : TargetFault) → is_check job.subcommand ≡ true → job.target.kind ≡ kind.Words → IsTargetFault job.target job.file.now why
+      → hint ≡ look_after why job.file.now → IsHintOf job hint
+  Stands : (why : TargetFault) (table : List ℕ) → is_check job.subcommand ≡ true → job.target.kind ≡ kind.Listing
+      → IsTargetFault job.target job.file.now why → IsLineTable job.file.now table → hint ≡ place_after why table → IsHintOf job hint
+  Untold : (why : AsmFault) → job.target.kind ≡ kind.Listing → IsFaultOf job.file.now why → hint ≡ None → IsHintOf job hint
 
 -- Its line on standard error.
 abbrev pub place_line : List ℕ → ℕ → ℕ → List ℕ

@@ -1,5 +1,5 @@
--- What a job asks for: its program and its session, and what each subcommand prints that reads no standard input.
-use Rattle.std.specs.Prelude.{◌≡◌, ◌≤◌, ◌&&◌, ℕ, Bool, true, false, List, [], ◌∷◌, ◌++◌, Option, Some, None, Result, Ok, is_some, length, map, count_by, codes, decimal, if◌then◌else◌}
+-- What a job asks for: its machine and its session, and what each subcommand prints that reads no standard input.
+use Rattle.std.specs.Prelude.{◌≡◌, ◌≤◌, ◌/◌, ◌&&◌, ◌||◌, ℕ, Bool, true, false, List, [], ◌++◌, Option, Some, None, Result, Ok, is_some, length, map, option_map, count_by, codes, decimal, if◌then◌else◌}
 use Rattle.std.specs.Borrow.{Bor}
 use Rattle.bpf_entries.specs.Keeping.{IsSize}
 use Rattle.bpf_diff.specs.Values.{Comparison, by_steps, by_writes}
@@ -9,16 +9,19 @@ use Rattle.input_texts.specs.TraceForms.{form_in, told}
 use Rattle.input_texts.specs.declared.trace_form.Form.{Form}
 use Rattle.bpf_entries.specs.declared.status.Status.{Status}
 use Rattle.bpf_entries.specs.declared.status.Status.TheVariants as status
-use Rattle.bpf_isa.specs.Maps.{IsMapList, items_of, shape_of}
-use Rattle.bpf_isa.specs.Programs.{Checked, IsProgram}
-use Rattle.bpf_isa.specs.declared.maps.MapShape.{MapShape}
-use Rattle.bpf_load.specs.Targets.{Gathers, Loads, contents, fields_of, object_of}
-use Rattle.bpf_load.specs.declared.loading.Loaded.{Loaded}
+use Rattle.bpf_isa.specs.Programs.{Checked}
+use Rattle.bpf_load.specs.Targets.{Gathers, LinksTo, Loads, contents, fields_of, object_of}
+use Rattle.bpf_load.specs.declared.loading.LinkedObject.{LinkedObject}
 use Rattle.bpf_load.specs.declared.loading.Sources.{Sources}
+use Rattle.bpf_load.specs.declared.program.Loaded.{Loaded}
+use Rattle.bpf_load.specs.declared.target.SourceKind.{SourceKind}
+use Rattle.bpf_load.specs.declared.target.SourceKind.TheVariants.{Listing, Object}
 use Rattle.bpf_lines.specs.Objects.{AreProgramLines, program_table}
 use Rattle.bpf_lines.specs.declared.objects.ObjectLines.{ObjectLines}
 use Rattle.bpf_lines.specs.declared.place_names.Names.{Names}
 use Rattle.bpf_lines.specs.Lookups.{AreListingSlots}
+use Rattle.bpf_lines.specs.PlaceSlots.{slots_told}
+use Rattle.bpf_lines.specs.PlaceTexts.{places_told}
 use Rattle.bpf_lines.specs.Places.{is_place}
 use Rattle.bpf_steps.specs.Platform.{context_limit}
 use Rattle.bpf_steps.specs.State.{State, initial}
@@ -49,43 +52,33 @@ use Rattle.bpfdb_jobs.specs.MapLines.{linked_told}
 use Rattle.bpfdb_jobs.specs.Origins.{Arrival, AreNamesOf, Asks, IsTail, answer_by, arrival, branches_by, followed_by, found_text, named_by, question_by, status_of_extent}
 use Rattle.bpfdb_jobs.specs.Sources.{both_marked, sources}
 use Rattle.bpfdb_jobs.specs.declared.job.Job.{Job}
+use Rattle.bpfdb_jobs.specs.declared.known.Known.{Known}
 use Rattle.bpfdb_options.specs.declared.subcommand.Subcommand.{Subcommand}
 use Rattle.bpfdb_options.specs.declared.subcommand.Subcommand.TheVariants.{Run, Trace, Debug, Origin, Whynot, Diff, Gdb, Asm, Disasm, Lines, Check, Link, Test, Batch}
 
--- The maps of an object that was linked; else the map table that a text names; no map where there is no text.
-abbrev pub AreMapsOf : Option (Bor (List MapShape)) → Option (Bor (List ℕ)) → List MapShape → Type 0
-AreMapsOf (Some shapes) text maps = maps ≡ shapes.now
-AreMapsOf None None maps = maps ≡ []
-AreMapsOf None (Some text) maps = IsMapList text.now × (maps ≡ map shape_of (items_of text.now))
-
-abbrev pub HasMaps : Job → List MapShape → Type 0
-HasMaps job maps = AreMapsOf job.shapes job.options.maps maps
-
--- The words of a program: FILE's bytes, or those of the listing that FILE is.
-abbrev pub HasWords : Bool → List ℕ → List ℕ → Type 0
-HasWords false file words = words ≡ file
-HasWords true file words = IsListing file words
-
--- The job's program: the checker accepted its words with its maps.
-pub record IsProgramOf (job : Job) (code : Checked) : Type 0 where
-  pub maps : HasMaps job code.maps
-  pub words : HasWords job.options.is_listing job.file.now code.bytes
-  pub accepted : IsProgram code
-
--- A machine can be opened on it with the job's context.
-pub record Opens (job : Job) (code : Checked) : Type 0 where
-  pub program : IsProgramOf job code
+-- A machine can be opened on any program with the job's context, and a session with its journal.
+pub record HasRoom (job : Job) : Type 0 where
   pub short : length job.context.now ≤ context_limit
-
--- A session can be opened on it, too: the journal's size is one.
-pub record OpensSession (job : Job) (code : Checked) : Type 0 where
-  pub opens : Opens job code
   pub sized : IsSize job.options.journal
 
--- Where a session begins.
+-- FILE is loaded, and a machine can be opened on its program.
+pub record Opens (job : Job) (loaded : Loaded) : Type 0 where
+  pub loads : Loads job.target job.file.now loaded
+  pub short : length job.context.now ≤ context_limit
+
+-- A session can be opened on it, too.
+pub record OpensSession (job : Job) (loaded : Loaded) : Type 0 where
+  pub opens : Opens job loaded
+  pub sized : IsSize job.options.journal
+
+-- The state in which that machine stands before its first step.
+abbrev pub initial_of : Job → Loaded → State
+initial_of job loaded = initial loaded.program job.context.now
+
+-- Where a session on a program begins.
 abbrev pub start_of : Job → Checked → Standing
-start_of job code = record {
-  point = opening (initial code job.context.now);
+start_of job program = record {
+  point = opening (initial program job.context.now);
   bounds = record { limit = job.options.limit; room = job.options.journal };
   refusals = 0;
 }
@@ -129,8 +122,8 @@ run_print limit Faulted end = stopped (place end ++ codes "\n")
 run_print limit Limit end = stopped (limit_line limit end.pc)
 
 -- The state to which the program runs without history, from the machine's opening to its end or to the limit of steps.
-abbrev pub run_end : Job → Checked → State
-run_end job code = plain_end job.options.limit (initial code job.context.now)
+abbrev pub run_end : Job → Loaded → State
+run_end job loaded = plain_end job.options.limit (initial_of job loaded)
 
 -- With `--strict` it stops before the first step that would read a byte of the stack which nothing wrote since the call.
 abbrev pub unwritten_in : Job → State → Option Unwritten
@@ -142,34 +135,33 @@ run_or_stopped (Some read) a = stopped (unwritten_line read)
 
 -- `trace`: the steps that are shown, with `--branches` the conditional jumps among them, or with `--profile` how often each instruction ran, and where
 -- the run ended. Its status is 1 where `run` has no result.
-abbrev pub shown_of : Job → Shown
-shown_of job = record {
+abbrev pub shown_of : Job → Known → Shown
+shown_of job known = record {
   from = job.options.from;
   count = job.options.count;
   only_branches = job.options.only_branches;
-  places = job.places;
+  places = known.places;
 }
 
-abbrev pub trace_out : Job → State → List ℕ
-trace_out job x =
-    if job.options.is_profile then profile_text job.options.limit x else trace_text job.options.limit (shown_of job) x
+abbrev pub trace_out : Job → Shown → State → List ℕ
+trace_out job shown x = if job.options.is_profile then profile_text job.options.limit x else trace_text job.options.limit shown x
 
 abbrev pub status_of_end : Status → ℕ
 status_of_end status.Exited = 0
 status_of_end _ = 1
 
-abbrev pub trace_print : Job → State → State → Print
-trace_print job x end = record { out = Some (trace_out job x); err = None; status = status_of_end end.status }
+abbrev pub trace_print : Job → Shown → State → State → Print
+trace_print job shown x end = record { out = Some (trace_out job shown x); err = None; status = status_of_end end.status }
 
 -- With `--strict` it stops there, too.
-abbrev pub trace_or_stopped : Option Unwritten → Job → State → State → Print
-trace_or_stopped None job x end = trace_print job x end
-trace_or_stopped (Some read) job x end = record { out = Some (trace_until read (shown_of job) x); err = None; status = 1 }
+abbrev pub trace_or_stopped : Option Unwritten → Job → Shown → State → State → Print
+trace_or_stopped None job shown x end = trace_print job shown x end
+trace_or_stopped (Some read) job shown x end = record { out = Some (trace_until read shown x); err = None; status = 1 }
 
 -- `origin`: where the machine stands, and where the values came from that are asked about. Where that is, by the job; or why its script is
 -- refused.
-abbrev pub arrival_of : Job → Checked → Result Arrival Refusal
-arrival_of job code = arrival job.other job.options (initial code job.context.now)
+abbrev pub arrival_of : Job → Loaded → Result Arrival Refusal
+arrival_of job loaded = arrival job.other job.options (initial_of job loaded)
 
 abbrev pub named_print : Option Names → State → Answer → Print
 named_print names end answer = record (printed (named_by names (found_text end answer))) { status = status_of_extent answer.extent }
@@ -179,31 +171,38 @@ abbrev pub asked_of : Job → List ℕ
 asked_of job = name_or_empty job.options.what
 
 -- They are named by that, or are those of the place of an object, or of a listing, which it names.
+abbrev pub is_listing : SourceKind → Bool
+is_listing Listing = true
+is_listing kind = false
+
+abbrev pub names_place : Job → Bool
+names_place job = is_listing job.target.kind && is_place (asked_of job)
+
 abbrev pub AreNamed : Bool → Job → List ℕ → Type 0
 AreNamed true job slots = AreListingSlots job.file.now (asked_of job) slots
 AreNamed false job slots = slots ≡ asked_of job
 
 abbrev pub AreGiven : Option (Bor (List ℕ)) → Job → List ℕ → Type 0
 AreGiven (Some goals) job slots = slots ≡ goals.now
-AreGiven None job slots = AreNamed (job.options.is_listing && is_place (asked_of job)) job slots
+AreGiven None job slots = AreNamed (names_place job) job slots
 
-abbrev pub AreAsked : Job → List ℕ → Type 0
-AreAsked job slots = AreGiven job.goals job slots
+abbrev pub AreAsked : Job → Known → List ℕ → Type 0
+AreAsked job known slots = AreGiven known.goals job slots
 
 -- The slots of a program, or why they are none.
-abbrev pub AsksGoals : Job → Checked → Result (List ℕ) GoalFault → Type 0
-AsksGoals job program goals = (slots : List ℕ) × AreAsked job slots × (goals_in program slots ≡ goals)
+abbrev pub AsksGoals : Job → Known → Checked → Result (List ℕ) GoalFault → Type 0
+AsksGoals job known program goals = (slots : List ℕ) × AreAsked job known slots × (goals_in program slots ≡ goals)
 
-abbrev pub query_of : Job → List ℕ → Arrival → Query
-query_of job goals at = record {
+abbrev pub query_of : Job → Known → List ℕ → Arrival → Query
+query_of job known goals at = record {
   goals = goals;
   question = question_by job.options at;
   alone = job.options.alone;
-  places = job.places;
+  places = known.places;
 }
 
-abbrev pub whynot_print : Option Names → Job → List ℕ → (ℕ → List ℕ → Bool) → Arrival → Print
-whynot_print names job goals can at = named_print names at.point.state (why_not can (query_of job goals at) at.point.history at.point.state)
+abbrev pub whynot_print : Option Names → Query → (ℕ → List ℕ → Bool) → Arrival → Print
+whynot_print names q can at = named_print names at.point.state (why_not can q at.point.history at.point.state)
 
 -- `diff`: the job of the other run, which has the bytes of the other file for its program, or for its context.
 abbrev pub other_bytes : Option (Bor (List ℕ)) → List ℕ
@@ -237,9 +236,9 @@ abbrev pub runs_print : Option Names → Job → Comparison → State → State 
 runs_print names job told x y = runs_told told.text told.same (sources names job.options told.values x y)
 
 -- (With `--alone` no names are looked for.)
-abbrev pub AreNamesFor : Bool → Job → Option Names → Type 0
-AreNamesFor true job names = names ≡ None
-AreNamesFor false job names = AreNamesOf job.object (section_of job) names
+abbrev pub AreNamesFor : Bool → Job → Option LinkedObject → Option Names → Type 0
+AreNamesFor true job object names = names ≡ None
+AreNamesFor false job object names = AreNamesOf object (section_of job) names
 
 -- Or the first step that the trace of another machine, which is the other file, tells otherwise, with status 0 where it tells the whole run.
 abbrev pub against_print : Form → ℕ → State → List (List ℕ) → Print
@@ -253,17 +252,17 @@ abbrev pub compared_print : Option Names → Job → Job → State → State →
 compared_print names job other x y = runs_print names job (comparison_of job other x y) x y
 
 abbrev pub RunsPrint : Job → Print → Type 0
-RunsPrint job a = (code : Checked) × (other : Job) × (second : Checked) × (names : Option Names)
-    × Opens job code × IsOtherRun job other × Opens other second × AreNamesFor job.options.alone job names
-    × (a ≡ compared_print names job other (initial code job.context.now) (initial second other.context.now))
+RunsPrint job a = (loaded : Loaded) × (other : Job) × (second : Loaded) × (names : Option Names)
+    × Opens job loaded × IsOtherRun job other × Opens other second × AreNamesFor job.options.alone job loaded.object names
+    × (a ≡ compared_print names job other (initial_of job loaded) (initial_of other second))
 
 pub record AgainstPrints (job : Job) (a : Print) : Type 0 where
-  pub code : Checked
-  pub opens : Opens job code
+  pub loaded : Loaded
+  pub opens : Opens job loaded
   pub form : Form
   pub has : form_in (told (other_bytes job.other)) ≡ Some form
   pub clear : bad_line (other_bytes job.other) ≡ None
-  pub prints : a ≡ against_print form job.options.limit (initial code job.context.now) (told (other_bytes job.other))
+  pub prints : a ≡ against_print form job.options.limit (initial_of job loaded) (told (other_bytes job.other))
 
 abbrev pub DiffPrints : Bool → Job → Print → Type 0
 DiffPrints true job a = AgainstPrints job a
@@ -277,48 +276,84 @@ check_line code =
 -- `link`: the words of the program, and what is told of it: the shapes of its maps, in the order of their numbers (none unless the object
 -- defines each as an array), and their names; how many calls are answered; and how many fields are left as compiled. Or with `--joined` the
 -- object that would be linked.
-abbrev pub link_print : Job → Loaded → Print
-link_print job loaded = record (printed loaded.program.words.items) {
-  err = linked_told (object_of loaded.sources) loaded.program.shapes.items loaded.program.names.items
-      (answered_if job.target.stubs loaded.program.answered) (fields_if job.target.as_compiled (fields_of loaded));
+abbrev pub link_print : Job → LinkedObject → Print
+link_print job linked = record (printed linked.program.words.items) {
+  err = linked_told (object_of linked.sources) linked.program.shapes.items linked.program.names.items
+      (answered_if job.target.stubs linked.program.answered) (fields_if job.target.as_compiled (fields_of linked));
 }
 
 abbrev pub LinkPrints : Bool → Job → Print → Type 0
-LinkPrints false job a = (loaded : Loaded) × Loads job.target job.file.now loaded × (a ≡ link_print job loaded)
+LinkPrints false job a = (linked : LinkedObject) × LinksTo job.target job.file.now linked × (a ≡ link_print job linked)
 LinkPrints true job a = (sources : Sources) × Gathers job.target job.file.now sources × (a ≡ printed (object_of sources))
 
 -- `lines`: the table of a listing; or of the program to which an object is linked, alone or joined with others, in their order.
-abbrev pub AreLinesFor : Job → Loaded → List ObjectLines → Type 0
-AreLinesFor job loaded all = AreProgramLines loaded.sources.own.items (section_of job) (contents job.target.with.now) all
+abbrev pub AreLinesFor : Job → LinkedObject → List ObjectLines → Type 0
+AreLinesFor job linked all = AreProgramLines linked.sources.own.items (section_of job) (contents job.target.with.now) all
 
-abbrev pub table_by : Job → Loaded → List ObjectLines → List ℕ
-table_by job loaded all = program_table job.target.packet loaded.program.words.items all
+abbrev pub table_by : Job → LinkedObject → List ObjectLines → List ℕ
+table_by job linked all = program_table job.target.packet linked.program.words.items all
+
+-- (An object is linked first.)
+abbrev pub links_first : SourceKind → Bool
+links_first Object = true
+links_first kind = false
 
 abbrev pub IsTable : Bool → Job → List ℕ → Type 0
+IsTable true job table = (linked : LinkedObject) × (all : List ObjectLines) × LinksTo job.target job.file.now linked × AreLinesFor job linked all
+    × (table ≡ table_by job linked all)
 IsTable false job table = IsLineTable job.file.now table
-IsTable true job table = (loaded : Loaded) × (all : List ObjectLines) × Loads job.target job.file.now loaded × AreLinesFor job loaded all
-    × (table ≡ table_by job loaded all)
+
+-- The slots of the place of an object that is asked about, by the table of its program's words.
+abbrev pub HasPlace : Bool → Job → Option LinkedObject → Option (List ℕ) → Type 0
+HasPlace true job (Some linked) (Some goals) =
+    (all : List ObjectLines) × AreLinesFor job linked all × (goals ≡ slots_told true (table_by job linked all) (asked_of job))
+HasPlace true job (Some linked) None = ⊥
+HasPlace asks job object goals = goals ≡ None
+
+-- Where each slot stands in C, by that table, where branches are told.
+abbrev pub HasPlaces : Bool → Job → Option LinkedObject → Option (List (List ℕ)) → Type 0
+HasPlaces true job (Some linked) (Some texts) =
+    (all : List ObjectLines) × AreLinesFor job linked all × (texts ≡ places_told (length linked.program.words.items / 8) (table_by job linked all))
+HasPlaces true job (Some linked) None = ⊥
+HasPlaces tells job object texts = texts ≡ None
+
+-- `whynot` may ask about a place; its answer tells branches, and so does what is asked with `--branches`.
+abbrev pub is_whynot : Subcommand → Bool
+is_whynot Whynot = true
+is_whynot subcommand = false
+
+abbrev pub asks_place : Job → Bool
+asks_place job = is_whynot job.subcommand && is_place (asked_of job)
+
+abbrev pub tells_branches : Job → Bool
+tells_branches job = is_whynot job.subcommand || job.options.only_branches
+
+-- What is known of a program's slots.
+pub record IsKnown (job : Job) (object : Option LinkedObject) (known : Known) : Type 0 where
+  pub goals : HasPlace (asks_place job) job object (option_map (λ goals. goals.now) known.goals)
+  pub places : HasPlaces (tells_branches job) job object (option_map (λ texts. map (λ text. text.items) texts.now) known.places)
 
 -- What a subcommand prints of a job that has what it needs: one that reads no standard input. (`test` has a definition of its own.)
 abbrev pub Prints : Subcommand → Job → Print → Type 0
-Prints Run job a = (code : Checked) × Opens job code × (a ≡ run_or_stopped (unwritten_in job (initial code job.context.now))
-    (run_print job.options.limit (ending_of (run_end job code).status) (run_end job code)))
-Prints Trace job a = (code : Checked) × Opens job code
-    × (a ≡ trace_or_stopped (unwritten_in job (initial code job.context.now)) job (initial code job.context.now) (run_end job code))
+Prints Run job a = (loaded : Loaded) × Opens job loaded × (a ≡ run_or_stopped (unwritten_in job (initial_of job loaded))
+    (run_print job.options.limit (ending_of (run_end job loaded).status) (run_end job loaded)))
+Prints Trace job a = (loaded : Loaded) × (known : Known) × Opens job loaded × IsKnown job loaded.object known
+    × (a ≡ trace_or_stopped (unwritten_in job (initial_of job loaded)) job (shown_of job known) (initial_of job loaded) (run_end job loaded))
 Prints Debug job a = ⊥
-Prints Origin job a = (code : Checked) × (at : Arrival) × (what : Option What) × (tail : Answer) × (names : Option Names) × OpensSession job code
-    × (arrival_of job code ≡ Ok at) × Asks job.options.what at.point.state what
-    × IsTail job.options.only_branches (branches_by job.places job.options at) (parts_asked at.point.state what) at.point tail
-    × AreNamesOf job.object (section_of job) names × (a ≡ named_print names at.point.state (followed_by (answer_by job.options what at) tail))
-Prints Whynot job a = (code : Checked) × (at : Arrival) × (goals : List ℕ) × (can : ℕ → List ℕ → Bool) × (names : Option Names)
-    × OpensSession job code × (arrival_of job code ≡ Ok at) × AsksGoals job at.point.state.program (Ok goals)
-    × TellsReach at.point.state.program goals can × AreNamesOf job.object (section_of job) names × (a ≡ whynot_print names job goals can at)
+Prints Origin job a = (loaded : Loaded) × (known : Known) × (at : Arrival) × (what : Option What) × (tail : Answer) × (names : Option Names)
+    × OpensSession job loaded × IsKnown job loaded.object known × (arrival_of job loaded ≡ Ok at) × Asks job.options.what at.point.state what
+    × IsTail job.options.only_branches (branches_by known.places job.options at) (parts_asked at.point.state what) at.point tail
+    × AreNamesOf loaded.object (section_of job) names × (a ≡ named_print names at.point.state (followed_by (answer_by job.options what at) tail))
+Prints Whynot job a = (loaded : Loaded) × (known : Known) × (at : Arrival) × (goals : List ℕ) × (can : ℕ → List ℕ → Bool) × (names : Option Names)
+    × OpensSession job loaded × IsKnown job loaded.object known × (arrival_of job loaded ≡ Ok at) × AsksGoals job known at.point.state.program (Ok goals)
+    × TellsReach at.point.state.program goals can × AreNamesOf loaded.object (section_of job) names
+    × (a ≡ whynot_print names (query_of job known goals at) can at)
 Prints Diff job a = DiffPrints job.options.other_is_trace job a
 Prints Gdb job a = ⊥
 Prints Test job a = ⊥
 Prints Batch job a = ⊥
 Prints Asm job a = (words : List ℕ) × IsListing job.file.now words × (a ≡ printed words)
-Prints Disasm job a = (code : Checked) × IsProgramOf job code × (a ≡ printed (canon code))
-Prints Lines job a = (table : List ℕ) × IsTable job.options.is_object job table × (a ≡ printed table)
-Prints Check job a = (code : Checked) × IsProgramOf job code × (a ≡ printed (check_line code))
+Prints Disasm job a = (loaded : Loaded) × Loads job.target job.file.now loaded × (a ≡ printed (canon loaded.program))
+Prints Lines job a = (table : List ℕ) × IsTable (links_first job.target.kind) job table × (a ≡ printed table)
+Prints Check job a = (loaded : Loaded) × Loads job.target job.file.now loaded × (a ≡ printed (check_line loaded.program))
 Prints Link job a = LinkPrints job.options.is_joined job a

@@ -13,23 +13,26 @@ use Rattle.bpf_origin.specs.declared.question.Extent.TheVariants.{Whole}
 use Rattle.bpf_origin.specs.declared.question.Question.{Question}
 use Rattle.bpf_origin.specs.declared.what.What.{What}
 use Rattle.bpf_lines.specs.declared.place_names.Names.{Names}
+use Rattle.bpf_load.specs.declared.loading.LinkedObject.{LinkedObject}
+use Rattle.bpf_load.specs.declared.program.Loaded.{Loaded}
 use Rattle.bpf_steps.specs.State.{State, initial}
 use Rattle.bpf_session.specs.Sessions.{SessionValue}
 use Rattle.bpf_whynot.specs.Answers.{Query, why_not}
 use Rattle.bpfdb_jobs.specs.Connections.{Begins}
 use Rattle.bpf_diff.specs.Values.{Pair, pair_of}
 use Rattle.bpf_entries.specs.Keeping.{IsSize}
-use Rattle.bpfdb_jobs.specs.Jobs.{AreNamesFor, IsOtherRun, Opens, OpensSession, arrival_of, comparison_of}
+use Rattle.bpfdb_jobs.specs.Jobs.{AreNamesFor, HasRoom, IsKnown, IsOtherRun, Opens, OpensSession, arrival_of, comparison_of, initial_of}
 use Rattle.bpfdb_jobs.specs.Sources.{behind, sources}
 use Rattle.bpfdb_jobs.specs.declared.runs.ComparedRuns.{ComparedRuns}
 use Rattle.bpfdb_jobs.specs.declared.source.Sources.{Sources}
 use Rattle.bpfdb_options.specs.declared.options.Options.{Options}
 use Rattle.bpfdb_jobs.specs.Origins.{Arrival, Asks, IsTail, branches_by, followed_by, found_text, named_by}
 use Rattle.bpfdb_jobs.specs.declared.job.Job.{Job}
+use Rattle.bpfdb_jobs.specs.declared.known.Known.{Known}
 
 -- A machine stands at the opening of the job's program.
 abbrev pub OpensAs : Job → State → Type 0
-OpensAs job x = (code : Checked) × Opens job code × (x ≡ initial code job.context.now)
+OpensAs job x = (loaded : Loaded) × Opens job loaded × (x ≡ initial_of job loaded)
 
 -- Two machines stand at the openings of two runs that are compared, whose names in maps these are.
 pub record OpensRuns (job other : Job) (x y : State) (names : Option Names) : Type 0 where
@@ -37,7 +40,7 @@ pub record OpensRuns (job other : Job) (x y : State) (names : Option Names) : Ty
   pub first : OpensAs job x
   pub is_other : IsOtherRun job other
   pub second : OpensAs other y
-  pub named : AreNamesFor job.options.alone job names
+  pub named : AreNamesFor job.options.alone job first.0.object names
 
 -- They were compared, and each machine still has its program.
 pub record AreCompared (job other : Job) (x y : State) (found : ComparedRuns) : Type 0 where
@@ -66,26 +69,25 @@ pub record AreSources (names : Option (Bor Names)) (options : Options) (values :
   pub first : found.first.items ≡ (sources (option_map (λ n. n.now) names) options values x y).0
   pub second : found.second.items ≡ (sources (option_map (λ n. n.now) names) options values x y).1
 
--- It has the job's program, and stands where one of the job begins.
-pub record IsOpening (job : Job) (session : SessionValue RingKeeper) : Type 0 where
-  pub code : Checked
-  pub opens : OpensSession job code
-  pub begins : Begins job code session
+-- It has the program, and stands where one of the job begins.
+pub record IsOpening (job : Job) (program : Checked) (session : SessionValue RingKeeper) : Type 0 where
+  pub room : HasRoom job
+  pub begins : Begins job program session
 
--- It stands at the opening of the job's program, and its journal of the job's size is empty.
-pub record IsStart (job : Job) (moment : Moment RingKeeper) : Type 0 where
-  pub code : Checked
-  pub opens : OpensSession job code
-  pub state : moment.state ≡ initial code job.context.now
+-- It stands at the opening of the program, and its journal of the job's size is empty.
+pub record IsStart (job : Job) (program : Checked) (moment : Moment RingKeeper) : Type 0 where
+  pub has_room : HasRoom job
+  pub state : moment.state ≡ initial program job.context.now
   pub empty : RingHolds moment.keeper []
   pub room : ring_room moment.keeper ≡ job.options.journal
 
 -- It stands where `origin` asks of the job, behind so many moves.
-pub record HasArrived (job : Job) (moment : Moment RingKeeper) (moves : ℕ) : Type 0 where
-  pub code : Checked
+pub record HasArrived (job : Job) (object : Option LinkedObject) (moment : Moment RingKeeper) (moves : ℕ) : Type 0 where
+  pub loaded : Loaded
+  pub of : loaded.object ≡ object
   pub at : Arrival
-  pub opens : OpensSession job code
-  pub arrives : arrival_of job code ≡ Ok at
+  pub opens : OpensSession job loaded
+  pub arrives : arrival_of job loaded ≡ Ok at
   pub state : moment.state ≡ at.point.state
   pub held : StandsFor RingHolds moment.keeper moment.state at.point.history
   pub counted : moves ≡ at.moves
@@ -95,10 +97,12 @@ abbrev pub AreAskedParts : Job → State → List Part → Type 0
 AreAskedParts job x parts = (what : Option What) × Asks job.options.what x what × (parts ≡ parts_asked x what)
 
 -- It is asked there about these parts, and this stands behind its answer.
-pub record HasTail (job : Job) (moment : Moment RingKeeper) (moves : ℕ) (parts : List Part) (tail : Answer) : Type 0 where
-  pub arrived : HasArrived job moment moves
+pub record HasTail (job : Job) (object : Option LinkedObject) (moment : Moment RingKeeper) (moves : ℕ) (parts : List Part) (tail : Answer) : Type 0 where
+  pub arrived : HasArrived job object moment moves
   pub asked : AreAskedParts job moment.state parts
-  pub is : IsTail job.options.only_branches (branches_by job.places job.options arrived.at) parts arrived.at.point tail
+  pub known : Known
+  pub is_known : IsKnown job object known
+  pub is : IsTail job.options.only_branches (branches_by known.places job.options arrived.at) parts arrived.at.point tail
 
 -- What is written where the machine stands: the answer about these parts, and a text behind it.
 abbrev pub asked_text : Question → List Part → List Record → State → List ℕ → List ℕ

@@ -17,6 +17,8 @@ use Rattle.bpf_origin.specs.declared.question.Question.{Question}
 use Rattle.bpf_origin.specs.declared.what.What.{What}
 use Rattle.bpf_link.specs.Names.{fault_names}
 use Rattle.bpf_link.specs.declared.fault.LinkFault.{LinkFault}
+use Rattle.bpf_load.specs.Targets.{object_of}
+use Rattle.bpf_load.specs.declared.loading.LinkedObject.{LinkedObject}
 use Rattle.bpf_lines.specs.NamedMaps.{AreNames, IsNamesRefusal}
 use Rattle.bpf_lines.specs.NamedTexts.{named_text}
 use Rattle.bpf_lines.specs.declared.place_names.Names.{Names}
@@ -30,7 +32,6 @@ use Rattle.bpfdb_script.specs.Commands.{command_of}
 use Rattle.bpfdb_script.specs.Commands as commands
 use Rattle.bpfdb_script.specs.declared.command.Command.{Command}
 use Rattle.bpfdb_script.specs.declared.refusal.Refusal.{Refusal}
-use Rattle.bpfdb_jobs.specs.declared.job.LinkedObject.{LinkedObject}
 use Rattle.bpfdb_options.specs.declared.options.Options.{Options}
 use Rattle.bpfdb_script.specs.Texts.{place}
 use Rattle.counted_io.specs.Lines.{lines}
@@ -124,9 +125,9 @@ found_text end answer = place end ++ codes "\n" ++ answer.text
 -- The names in the maps of a program that was linked; they stand in it where they are known.
 abbrev pub AreNamesOf : Option LinkedObject → List ℕ → Option Names → Type 0
 AreNamesOf None section names = names ≡ None
-AreNamesOf (Some object) section None = ⊥
-AreNamesOf (Some object) section (Some names) =
-    AreNames object.bytes.now section object.program.now.maps object.program.now.shapes.items object.program.now.names.items names
+AreNamesOf (Some linked) section None = ⊥
+AreNamesOf (Some linked) section (Some names) =
+    AreNames (object_of linked.sources) section linked.program.maps linked.program.shapes.items linked.program.names.items names
 
 abbrev pub named_by : Option Names → List ℕ → List ℕ
 named_by None text = text
@@ -135,11 +136,11 @@ named_by (Some names) text = named_text names text
 -- Why nothing is known of them, with the names that are told then.
 abbrev pub LacksNames : Option LinkedObject → List ℕ → LinkFault → Type 0
 LacksNames None section fault = ⊥
-LacksNames (Some object) section fault = IsNamesRefusal object.bytes.now section fault
+LacksNames (Some linked) section fault = IsNamesRefusal (object_of linked.sources) section fault
 
 abbrev pub bytes_of : Option LinkedObject → List ℕ
 bytes_of None = []
-bytes_of (Some object) = object.bytes.now
+bytes_of (Some linked) = object_of linked.sources
 
 abbrev pub RefusesNames : Option LinkedObject → List ℕ → LinkFault → List ℕ → Type 0
 RefusesNames object section fault name = (name ≡ fault_names (bytes_of object) section fault) × LacksNames object section fault

@@ -9,11 +9,11 @@ use Rattle.bpfdb_jobs.specs.declared.job.Job.{Job}
 
 -- All of it was written, and the lines behind `quit` are left to the reader.
 abbrev pub Replies : Job → Checked → Exchange → Type 0
-Replies job code x = Wrote x (whole_walk (start_of job code) x.script).out × Leaves x (whole_walk (start_of job code) x.script).unread
+Replies job program x = Wrote x (whole_walk (start_of job program) x.script).out × Leaves x (whole_walk (start_of job program) x.script).unread
 
 -- A read or a write failed: the first lines were obeyed, and what they print was written, or a beginning. No move was refused.
 abbrev pub RepliesUntil : Job → Checked → RunFault → Exchange → Type 0
-RepliesUntil job code why x = (to : Standing) × (to.refusals ≡ 0) × BreaksOff why (start_of job code) to x
+RepliesUntil job program why x = (to : Standing) × (to.refusals ≡ 0) × BreaksOff why (start_of job program) to x
 
 -- Over a reader and a writer that tell their bytes.
 abbrev pub Exchanges : {R W : Type 0} → Stream R → Stream W → (Exchange → Type 0) → Type 0

@@ -7,9 +7,10 @@ use Rattle.bpf_whynot.specs.declared.fault.GoalFault.{GoalFault}
 use Rattle.bpf_whynot.specs.declared.fault.GoalFault.TheVariants.{NoSlot}
 use Rattle.bpfdb_faults.specs.declared.refusal.JobRefusal.{JobRefusal}
 use Rattle.bpfdb_faults.specs.declared.refusal.JobRefusal.TheVariants.{Goal, Journal, Listing, NoPlace}
-use Rattle.bpfdb_jobs.specs.Jobs.{AsksGoals, asked_of}
+use Rattle.bpfdb_jobs.specs.Jobs.{AsksGoals, asked_of, is_listing}
 use Rattle.bpfdb_jobs.specs.Refusals.{lacks_place}
 use Rattle.bpfdb_jobs.specs.declared.job.Job.{Job}
+use Rattle.bpfdb_jobs.specs.declared.known.Known.{Known}
 
 -- The refusal of a fault: of a place that has no slot it has the name of that.
 abbrev pub IsRefusalOf : Job → GoalFault → JobRefusal → Type 0
@@ -18,9 +19,9 @@ IsRefusalOf job fault (NoPlace name) = (name.now ≡ asked_of job) × (fault ≡
 IsRefusalOf job fault refusal = ⊥
 
 -- Memory ran out, or the listing has no table, or the text names no slots.
-abbrev pub RefusesGoals : Job → Checked → JobRefusal → Type 0
-RefusesGoals job program (Journal fault) = fault ≡ OutOfMemory
-RefusesGoals job program (Listing fault) = (job.options.is_listing ≡ true) × IsFaultOf job.file.now fault
-RefusesGoals job program (Goal told) = AsksGoals job program (Err told) × (lacks_place told (asked_of job) ≡ false)
-RefusesGoals job program (NoPlace name) = (name.now ≡ asked_of job) × AsksGoals job program (Err NoSlot) × (lacks_place NoSlot (asked_of job) ≡ true)
-RefusesGoals job program refusal = ⊥
+abbrev pub RefusesGoals : Job → Known → Checked → JobRefusal → Type 0
+RefusesGoals job known program (Journal fault) = fault ≡ OutOfMemory
+RefusesGoals job known program (Listing fault) = (is_listing job.target.kind ≡ true) × IsFaultOf job.file.now fault
+RefusesGoals job known program (Goal told) = AsksGoals job known program (Err told) × (lacks_place told (asked_of job) ≡ false)
+RefusesGoals job known program (NoPlace name) = (name.now ≡ asked_of job) × AsksGoals job known program (Err NoSlot) × (lacks_place NoSlot (asked_of job) ≡ true)
+RefusesGoals job known program refusal = ⊥

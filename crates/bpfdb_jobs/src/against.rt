@@ -1,14 +1,15 @@
 //! What a job of `diff` does whose other side is the trace of another machine.
 ghost use Rattle.std.specs.Prelude.{◌≡◌, ◌≤◌, true};
+ghost use Rattle.bpf_load.specs.Targets.{Loads};
 ghost use Rattle.bpfdb_faults.specs.Streams.{stream};
 ghost use Rattle.bpfdb_jobs.specs.Endings.{EndsPrinted};
 ghost use Rattle.bpfdb_options.specs.declared.subcommand.Subcommand.TheVariants.{Diff};
 
 use crate::diff::{bytes_of, end_of};
 use crate::job::Job;
-use crate::opening::machine_of;
 use bpf_diff::put_against;
-use bpfdb_faults::{JobFault, JobRefusal, flush_after, give_up};
+use bpf_load::Loaded;
+use bpfdb_faults::{JobFault, JobRefusal, flush_after, give_up, open_machine};
 use counted_io::Counted;
 use input_texts::form_of_trace;
 use std::alloc::Global;
@@ -18,15 +19,17 @@ use std::io::Write;
 pub fn against_job<W: Write, E: Write>(
     alloc: Global,
     job: &Job<'_>,
+    loaded: Loaded,
     writer: &mut Counted<W>,
     errors: &mut Counted<E>,
 ) -> u8
-    requires { job.now.options.other_is_trace ≡ true }
+    requires trace { job.now.options.other_is_trace ≡ true }
+    requires loaded { Loads job.now.target job.now.file.now loaded }
     ensures does { EndsPrinted Diff job.now (stream W.contents writer.old writer.new)
         (stream E.contents errors.old errors.new) result }
     ensures status { result ≤ 2 }
 {
-    let mut cpu = match machine_of(alloc, job) {
+    let mut cpu = match open_machine(alloc, loaded.program, job.context) {
         Ok(cpu) => cpu,
         Err(refusal) => return give_up(errors, &JobFault::Refused(refusal)),
     };

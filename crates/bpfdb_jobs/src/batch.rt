@@ -4,8 +4,8 @@ ghost use Rattle.bpfdb_faults.specs.Streams.{Told, stream};
 ghost use Rattle.bpfdb_jobs.specs.Cases.{EndsBatch, batch_line};
 
 use crate::job::Job;
-use crate::opening::map_table;
 use bpf_batch::{Batch, BatchFault, run_batch};
+use bpf_load::named_maps;
 use bpfdb_faults::{JobFault, JobRefusal, give_up};
 use counted_io::Counted;
 use std::alloc::Global;
@@ -25,7 +25,7 @@ pub fn batch_job<R: Read, W: Write, E: Write>(
         (stream W.contents writer.old writer.new) (stream E.contents errors.old errors.new) result }
     ensures status { result ≤ 2 }
 {
-    let maps = match map_table(job) {
+    let maps = match named_maps(&job.target) {
         Ok(maps) => maps,
         Err(fault) => return give_up(errors, &JobFault::Refused(JobRefusal::Maps(fault))),
     };

@@ -1,5 +1,6 @@
 //! What a job of `check` does.
 ghost use Rattle.std.specs.Prelude.{◌≡◌, ◌≤◌, count_by, is_some};
+ghost use Rattle.bpf_load.specs.Targets.{Loads};
 ghost use Rattle.counted_io.specs.Writing.{Writes};
 ghost use Rattle.bpfdb_jobs.specs.Endings.{EndsPrinted};
 ghost use Rattle.bpfdb_jobs.specs.Jobs.{check_line};
@@ -7,31 +8,26 @@ ghost use Rattle.bpfdb_options.specs.declared.subcommand.Subcommand.TheVariants.
 ghost use Rattle.bpfdb_faults.specs.Streams.{stream};
 
 use crate::job::Job;
-use crate::opening::program_of;
 use bpf_isa::Program;
-use bpfdb_faults::{JobFault, ended, flush_after, give_up};
+use bpf_load::Loaded;
+use bpfdb_faults::{ended, flush_after};
 use counted_io::{Counted, Piece, WriteFault, put_all};
-use std::alloc::Global;
 use std::io::Write;
 
-/// Checks the program, and writes how many instructions and slots it has.
+/// Writes how many instructions and slots a program has that the checker accepted.
 pub fn check_job<W: Write, E: Write>(
-    alloc: Global,
     job: &Job<'_>,
+    loaded: &Loaded,
     writer: &mut Counted<W>,
     errors: &mut Counted<E>,
 ) -> u8
+    requires loaded { Loads job.now.target job.now.file.now loaded.now }
     ensures does { EndsPrinted Check job.now (stream W.contents writer.old writer.new)
         (stream E.contents errors.old errors.new) result }
     ensures status { result ≤ 2 }
 {
-    match program_of(alloc, job) {
-        Ok(program) => {
-            let written = write_size(&program, writer);
-            ended(written, errors)
-        }
-        Err(refusal) => give_up(errors, &JobFault::Refused(refusal)),
-    }
+    let written = write_size(&loaded.program, writer);
+    ended(written, errors)
 }
 
 /// Writes how many instructions and slots a program has, and flushes.

@@ -1,30 +1,45 @@
 //! What a job of `diff` does.
-ghost use Rattle.std.specs.Prelude.{◌≡◌, ◌≤◌, IfErr, IfOk, OnErr, OnOk, false};
+ghost use Rattle.std.specs.Prelude.{◌≡◌, ◌≤◌, IfErr, IfOk, OnErr, OnOk, Option, false};
+ghost use Rattle.bpf_load.specs.Faults.{IsTargetFault};
+ghost use Rattle.bpf_load.specs.Targets.{IsObjectOf, Loads, lent, loaded_of};
+ghost use Rattle.bpf_load.specs.declared.loading.LinkedObject.{LinkedObject as Linked};
 ghost use Rattle.bpfdb_jobs.specs.Endings.{EndsPrinted};
 ghost use Rattle.bpfdb_jobs.specs.Jobs.{AreNamesFor, IsOtherRun, Prints, diff_status, other_bytes, runs_told, section_of};
 ghost use Rattle.bpfdb_jobs.specs.Openings.{OpensAs, WereCompared};
 ghost use Rattle.bpfdb_jobs.specs.Origins.{LacksNames};
-ghost use Rattle.bpfdb_jobs.specs.Refusals.{RefusesMachine, RefusesOther};
-ghost use Rattle.bpfdb_faults.specs.Faults.{output_line};
+ghost use Rattle.bpfdb_jobs.specs.Refusals.{IsOtherFault, TellsOther};
+ghost use Rattle.bpfdb_faults.specs.declared.fault.JobFault.TheVariants.{Refused};
+ghost use Rattle.bpfdb_faults.specs.declared.refusal.JobRefusal.{JobRefusal as WhyRefused};
+ghost use Rattle.bpfdb_faults.specs.Faults.{line_of, output_line};
 ghost use Rattle.bpfdb_faults.specs.Streams.{Told, stream};
 ghost use Rattle.bpfdb_options.specs.declared.subcommand.Subcommand.TheVariants.{Diff};
 
 use crate::against::against_job;
 use crate::job::Job;
-use crate::object::refuse;
-use crate::opening::machine_of;
+use crate::object::{refuse, refuse_object};
 use crate::origin::{bytes_of as object_bytes, names_of};
 use crate::runs::{ComparedRuns, compare};
 use crate::source::{AskedRun, Sources, sources_of};
 use bpf_diff::put_marked;
+use bpf_isa::Program;
 use bpf_lines::Names;
 use bpf_link::LinkFault;
+use bpf_load::{LinkedObject, Loaded, ObjectFault, TargetFault, load, load_again};
 use bpf_machine::Cpu;
 use bpf_suite::Refusal;
-use bpfdb_faults::{JobFault, JobRefusal, flush_after, give_up};
+use bpfdb_faults::{JobFault, JobRefusal, flush_after, give_up, open_machine};
 use counted_io::{Counted, WriteFault, put};
 use std::alloc::{AllocError, Global};
 use std::io::Write;
+
+/// Why the machine of the other run isn't opened.
+#[derive(Drop)]
+pub enum OtherFault<'a> {
+    /// By its maps, its listing, its words or its context.
+    Program(Refusal),
+    /// By its object.
+    Object(ObjectFault<'a>),
+}
 
 /// Runs two programs, or one on two contexts, step by step, and tells where they part and how they
 /// end; or runs one along the trace of another machine, and tells the first step that it tells
@@ -32,17 +47,19 @@ use std::io::Write;
 pub fn diff_job<W: Write, E: Write>(
     alloc: Global,
     job: &Job<'_>,
+    loaded: Loaded,
     writer: &mut Counted<W>,
     errors: &mut Counted<E>,
 ) -> u8
+    requires loaded { Loads job.now.target job.now.file.now loaded }
     ensures does { EndsPrinted Diff job.now (stream W.contents writer.old writer.new)
         (stream E.contents errors.old errors.new) result }
     ensures status { result ≤ 2 }
 {
     if job.options.other_is_trace {
-        against_job(alloc, job, writer, errors)
+        against_job(alloc, job, loaded, writer, errors)
     } else {
-        runs_job(alloc, job, writer, errors)
+        runs_job(alloc, job, loaded, writer, errors)
     }
 }
 
@@ -50,28 +67,29 @@ pub fn diff_job<W: Write, E: Write>(
 fn runs_job<W: Write, E: Write>(
     alloc: Global,
     job: &Job<'_>,
+    loaded: Loaded,
     writer: &mut Counted<W>,
     errors: &mut Counted<E>,
 ) -> u8
-    requires { job.now.options.other_is_trace ≡ false }
+    requires runs { job.now.options.other_is_trace ≡ false }
+    requires loaded { Loads job.now.target job.now.file.now loaded }
     ensures does { EndsPrinted Diff job.now (stream W.contents writer.old writer.new)
         (stream E.contents errors.old errors.new) result }
     ensures status { result ≤ 2 }
 {
-    let first = match machine_of(alloc, job) {
+    let Loaded { program, object } = loaded;
+    let first = match open_machine(alloc, program, job.context) {
         Ok(cpu) => cpu,
         Err(refusal) => return give_up(errors, &JobFault::Refused(refusal)),
     };
     let other = other_run(job);
-    let second = match other_machine(alloc, &other) {
+    let second = match other_machine(alloc, job, &other, object.as_ref()) {
         Ok(cpu) => cpu,
-        Err(refusal) => {
-            return give_up(errors, &JobFault::Refused(JobRefusal::OtherRun(refusal)));
-        }
+        Err(fault) => return refuse_other(&fault, errors),
     };
-    let names = match names_for(alloc, job) {
+    let names = match names_for(alloc, job, object.as_ref()) {
         Ok(names) => names,
-        Err(why) => return refuse(job, object_bytes(job), errors, why),
+        Err(why) => return refuse(job, object_bytes(object.as_ref()), errors, why),
     };
     match compare(alloc, job, &other, first, second) {
         Ok(runs) => tell_runs(alloc, job, &other, names.as_ref(), runs, writer, errors),
@@ -79,16 +97,21 @@ fn runs_job<W: Write, E: Write>(
     }
 }
 
-/// The names in the maps of the job's object, unless no values are asked about.
-fn names_for<'a>(alloc: Global, job: &Job<'a>) -> Result<Option<Names<'a>>, LinkFault>
-    ensures ok { IfOk result (AreNamesFor job.now.options.alone job.now) }
+/// The names in the maps of the object that FILE's program comes from, unless no values are asked
+/// about.
+fn names_for<'a>(
+    alloc: Global,
+    job: &Job<'_>,
+    object: Option<&'a LinkedObject>,
+) -> Result<Option<Names<'a>>, LinkFault>
+    ensures ok { IfOk result (AreNamesFor job.now.options.alone job.now (lent object.entry)) }
     ensures err { IfErr result (λ fault. (job.now.options.alone ≡ false)
-        × LacksNames job.now.object (section_of job.now) fault) }
+        × LacksNames (lent object.entry) (section_of job.now) fault) }
 {
     if job.options.alone {
         Ok(None)
     } else {
-        names_of(alloc, job)
+        names_of(alloc, job, object)
     }
 }
 
@@ -182,13 +205,74 @@ fn status_of(is_same: bool) -> u8
 }
 
 /// The machine of the other run, which is this job's, before its first step.
-fn other_machine(alloc: Global, other: &Job<'_>) -> Result<Cpu, Refusal>
+fn other_machine<'a>(
+    alloc: Global,
+    job: &Job<'_>,
+    other: &Job<'a>,
+    object: Option<&LinkedObject>,
+) -> Result<Cpu, OtherFault<'a>>
+    requires other { IsOtherRun job.now other.now }
+    requires object { IsObjectOf job.now.target.kind job.now.target job.now.file.now (lent object) }
     ensures ok { IfOk result (OpensAs other.now) }
-    ensures err { IfErr result (RefusesOther other.now) }
+    ensures err { IfErr result (IsOtherFault other.now) }
 {
-    match machine_of(alloc, other) {
+    let program = match other_program(alloc, job, other, object) {
+        Ok(program) => program,
+        Err(fault) => return Err(unloaded(other, fault)),
+    };
+    match Cpu::open(alloc, program, other.context) {
         Ok(cpu) => Ok(cpu),
-        Err(refusal) => Err(of_machine(other, refusal)),
+        Err(fault) => Err(OtherFault::Program(Refusal::Open(fault))),
+    }
+}
+
+/// Its program: that of FILE once more, or that of the other file.
+fn other_program<'a>(
+    alloc: Global,
+    job: &Job<'_>,
+    other: &Job<'a>,
+    object: Option<&LinkedObject>,
+) -> Result<Program, TargetFault<'a>>
+    requires other { IsOtherRun job.now other.now }
+    requires object { IsObjectOf job.now.target.kind job.now.target job.now.file.now (lent object) }
+    ensures ok { IfOk result (λ program. (of : Option Linked)
+        × Loads other.now.target other.now.file.now (loaded_of program of)) }
+    ensures err { IfErr result (IsTargetFault other.now.target other.now.file.now) }
+{
+    if job.options.other_is_context {
+        return load_again(alloc, other.file, &other.target, object);
+    }
+    match load(alloc, other.file, &other.target) {
+        Ok(loaded) => Ok(loaded.program),
+        Err(fault) => Err(fault),
+    }
+}
+
+/// Why it isn't opened whose program isn't loaded.
+fn unloaded<'a>(other: &Job<'_>, fault: TargetFault<'a>) -> OtherFault<'a>
+    requires { IsTargetFault other.now.target other.now.file.now fault }
+    ensures { IsOtherFault other.now result }
+{
+    match fault {
+        TargetFault::Maps(fault) => OtherFault::Program(Refusal::Maps(fault)),
+        TargetFault::Listing(fault) => OtherFault::Program(Refusal::Listing(fault)),
+        TargetFault::Program(fault) => OtherFault::Program(Refusal::Load(fault)),
+        TargetFault::Object(fault) => OtherFault::Object(fault),
+    }
+}
+
+/// Tells why the other run's machine isn't opened, and answers the exit status, 2.
+#[inline(never)]
+fn refuse_other<E: Write>(fault: &OtherFault<'_>, errors: &mut Counted<E>) -> u8
+    ensures value { result ≡ 2 }
+    ensures told { (refusal : WhyRefused) × TellsOther fault.now refusal
+        × Told (stream E.contents errors.old errors.new) (line_of (Refused refusal)) }
+{
+    match fault {
+        OtherFault::Program(why) => {
+            give_up(errors, &JobFault::Refused(JobRefusal::OtherRun(*why)))
+        }
+        OtherFault::Object(fault) => refuse_object(fault, errors),
     }
 }
 
@@ -217,19 +301,5 @@ pub fn bytes_of<'a>(job: &Job<'a>) -> &'a [u8]
     match job.other {
         Some(bytes) => bytes,
         None => &[],
-    }
-}
-
-/// A refusal of a machine, as one of its program.
-fn of_machine(other: &Job<'_>, refusal: JobRefusal<'static>) -> Refusal
-    requires { RefusesMachine other.now refusal }
-    ensures { RefusesOther other.now result }
-{
-    match refusal {
-        JobRefusal::Maps(fault) => Refusal::Maps(fault),
-        JobRefusal::Listing(fault) => Refusal::Listing(fault),
-        JobRefusal::Load(fault) => Refusal::Load(fault),
-        JobRefusal::Open(fault) => Refusal::Open(fault),
-        _ => unreachable!(),
     }
 }

@@ -1,5 +1,6 @@
 //! What a job of `gdb` does.
 ghost use Rattle.std.specs.Prelude.{◌≡◌, ◌≤◌};
+ghost use Rattle.bpf_load.specs.Targets.{lent, loaded_of};
 ghost use Rattle.bpfdb_jobs.specs.Connections.{KnowsNames, layout_of};
 ghost use Rattle.bpfdb_jobs.specs.Done.{ServesGdb};
 ghost use Rattle.bpfdb_limits.specs.Limits.{IsLimit};
@@ -9,7 +10,9 @@ use crate::ending::session_ended;
 use crate::job::Job;
 use crate::opening::{session_of, wanted_of};
 use crate::origin::names_of;
+use bpf_isa::Program;
 use bpf_lines::Names;
+use bpf_load::{LinkedObject, Loaded};
 use bpf_remote::{Layout, Target, serve};
 use bpfdb_faults::{JobFault, give_up};
 use bpfdb_options::Registers;
@@ -24,16 +27,36 @@ use std::io::{Read, Write};
 pub fn gdb_job<R: Read, W: Write, E: Write>(
     alloc: Global,
     job: &Job<'_>,
+    loaded: Loaded,
     reader: &mut Counted<R>,
     writer: &mut Counted<W>,
     errors: &mut Counted<E>,
 ) -> u8
     requires limit { IsLimit job.now.options.limit }
-    ensures does { ServesGdb job.now (stream R.remaining reader.old reader.new)
+    ensures does { ServesGdb job.now loaded (stream R.remaining reader.old reader.new)
         (stream W.contents writer.old writer.new) (stream E.contents errors.old errors.new) result }
     ensures status { result ≤ 2 }
 {
-    let mut session = match session_of(alloc, job) {
+    let Loaded { program, object } = loaded;
+    serve_program(alloc, job, program, object.as_ref(), reader, writer, errors)
+}
+
+/// Serves gdb over a program, which comes from this object, if it comes from one.
+fn serve_program<R: Read, W: Write, E: Write>(
+    alloc: Global,
+    job: &Job<'_>,
+    program: Program,
+    object: Option<&LinkedObject>,
+    reader: &mut Counted<R>,
+    writer: &mut Counted<W>,
+    errors: &mut Counted<E>,
+) -> u8
+    requires limit { IsLimit job.now.options.limit }
+    ensures does { ServesGdb job.now (loaded_of program (lent object.entry)) (stream R.remaining reader.old reader.new)
+        (stream W.contents writer.old writer.new) (stream E.contents errors.old errors.new) result }
+    ensures status { result ≤ 2 }
+{
+    let mut session = match session_of(alloc, job, program) {
         Ok(session) => session,
         Err(refusal) => return give_up(errors, &JobFault::Refused(refusal)),
     };
@@ -41,7 +64,7 @@ pub fn gdb_job<R: Read, W: Write, E: Write>(
         Ok(wanted) => wanted,
         Err(refusal) => return give_up(errors, &JobFault::Refused(refusal)),
     };
-    let names = known_names(alloc, job);
+    let names = known_names(alloc, job, object);
     let gdb = Target {
         layout: layout_of(job.options.registers),
         names: names.as_ref(),
@@ -50,12 +73,16 @@ pub fn gdb_job<R: Read, W: Write, E: Write>(
     session_ended(served, errors)
 }
 
-/// The names in the maps of the object that the job's words come from, where they are known: gdb is
-/// served without them where there is no memory for them.
-fn known_names<'a>(alloc: Global, job: &Job<'a>) -> Option<Names<'a>>
-    ensures { KnowsNames job.now result }
+/// The names in the maps of the object that a program comes from, where they are known: gdb is served
+/// without them where there is no memory for them.
+fn known_names<'a>(
+    alloc: Global,
+    job: &Job<'_>,
+    object: Option<&'a LinkedObject>,
+) -> Option<Names<'a>>
+    ensures { KnowsNames job.now (lent object.entry) result }
 {
-    match names_of(alloc, job) {
+    match names_of(alloc, job, object) {
         Ok(names) => names,
         Err(_) => None,
     }

@@ -1,22 +1,25 @@
 //! A hint at a terminal behind a refusal: what FILE looks like where it isn't words, and the line of
 //! a slot where it is a listing.
-ghost use Rattle.std.specs.Prelude.{false, ◌≡◌, option_map, true};
+ghost use Rattle.std.specs.Prelude.{◌≡◌, IfNone, IfSome, option_map, true};
+ghost use Rattle.bpf_load.specs.Faults.{IsTargetFault};
+ghost use Rattle.bpf_load.specs.Targets.{Loads};
+ghost use Rattle.bpf_load.specs.declared.program.Loaded.{Loaded};
+ghost use Rattle.bpf_load.specs.declared.target.SourceKind.TheVariants as kind;
 ghost use Rattle.counted_io.specs.Lines.{lines};
 ghost use Rattle.counted_io.specs.Writing.{Writes};
 ghost use Rattle.bpfdb_faults.specs.Streams.{Told, stream};
 ghost use Rattle.bpfdb_jobs.specs.Hints.{AddsHint, AddsLine, IsHintOf, hint_line, is_of_file, line_at, look_after, look_of, place_after};
 ghost use Rattle.bpfdb_jobs.specs.Objects.{is_check};
-ghost use Rattle.bpfdb_jobs.specs.Refusals.{RefusesProgram};
 ghost use Rattle.bpfdb_jobs.specs.declared.hint.Hint.TheVariants as hint;
 
 use crate::job::Job;
-use crate::linked::is_check;
+use crate::known::is_check;
 use crate::look::{is_object, is_text};
-use crate::opening::program_of;
 use crate::row::line_at;
 use bpf_isa::{LoadFault, PieceFault, WordFault};
+use bpf_load::{SourceKind, TargetFault, load};
 use bpf_text::line_table;
-use bpfdb_faults::{JobRefusal, flush_after};
+use bpfdb_faults::flush_after;
 use bpfdb_script::put_shown;
 use counted_io::{Counted, Piece, WriteFault, put, put_all};
 use std::alloc::Global;
@@ -57,37 +60,60 @@ fn hint_of(alloc: Global, job: &Job<'_>) -> Option<Hint>
     if !is_check(job.subcommand) {
         return None;
     }
-    if job.options.is_object {
-        return None;
-    }
-    match program_of(alloc, job) {
-        Ok(_) => None,
-        Err(refusal) => hint_behind(alloc, job, &refusal),
+    match job.target.kind {
+        SourceKind::Words => hint_of_words(alloc, job),
+        SourceKind::Listing => hint_of_listing(alloc, job),
+        SourceKind::Object => None,
     }
 }
 
-/// The hint behind a refusal of a job's program.
-fn hint_behind(alloc: Global, job: &Job<'_>, refusal: &JobRefusal<'_>) -> Option<Hint>
+/// The hint of a job over words.
+fn hint_of_words(alloc: Global, job: &Job<'_>) -> Option<Hint>
     requires checks { is_check job.now.subcommand ≡ true }
-    requires words { job.now.options.is_object ≡ false }
-    requires refuses { RefusesProgram job.now refusal.now }
+    requires words { job.now.target.kind ≡ kind.Words }
     ensures { IsHintOf job.now result }
 {
-    if !job.options.is_listing {
-        return look_after(refusal, job.file);
+    match fault_of(alloc, job) {
+        Some(fault) => look_after(&fault, job.file),
+        None => None,
     }
+}
+
+/// The hint of a job over a listing.
+fn hint_of_listing(alloc: Global, job: &Job<'_>) -> Option<Hint>
+    requires checks { is_check job.now.subcommand ≡ true }
+    requires listing { job.now.target.kind ≡ kind.Listing }
+    ensures { IsHintOf job.now result }
+{
+    let Some(fault) = fault_of(alloc, job) else {
+        return None;
+    };
     match line_table(alloc, job.file) {
-        Ok(table) => place_after(refusal, table.as_slice()),
+        Ok(table) => place_after(&fault, table.as_slice()),
         Err(_) => None,
     }
 }
 
-/// The hint after a refusal of words.
-fn look_after(refusal: &JobRefusal<'_>, file: &[u8]) -> Option<Hint>
-    ensures { result ≡ look_after refusal.now file.now }
+/// Why FILE isn't loaded; None where it is.
+fn fault_of<'a>(alloc: Global, job: &Job<'a>) -> Option<TargetFault<'a>>
+    ensures some { IfSome result (IsTargetFault job.now.target job.now.file.now) }
+    ensures none { IfNone result ((loaded : Loaded) × Loads job.now.target job.now.file.now loaded) }
 {
-    match refusal {
-        JobRefusal::Load(fault) => {
+    match load(alloc, job.file, &job.target) {
+        Ok(loaded) => {
+            drop(loaded);
+            None
+        }
+        Err(fault) => Some(fault),
+    }
+}
+
+/// The hint after a refusal of words.
+fn look_after(why: &TargetFault<'_>, file: &[u8]) -> Option<Hint>
+    ensures { result ≡ look_after why.now file.now }
+{
+    match why {
+        TargetFault::Program(fault) => {
             if is_of_file(fault) {
                 look_of(file)
             } else {
@@ -130,11 +156,11 @@ fn look_of(file: &[u8]) -> Option<Hint>
 }
 
 /// The hint after a refusal of a listing's program, by its table.
-fn place_after(refusal: &JobRefusal<'_>, table: &[u8]) -> Option<Hint>
-    ensures { result ≡ place_after refusal.now table.now }
+fn place_after(why: &TargetFault<'_>, table: &[u8]) -> Option<Hint>
+    ensures { result ≡ place_after why.now table.now }
 {
-    match refusal {
-        JobRefusal::Load(LoadFault::At { slot, .. }) => place_of(*slot, table),
+    match why {
+        TargetFault::Program(LoadFault::At { slot, .. }) => place_of(*slot, table),
         _ => None,
     }
 }

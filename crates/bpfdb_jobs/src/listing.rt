@@ -1,12 +1,14 @@
 //! What the jobs of `asm`, `lines` and `disasm` do.
-ghost use Rattle.std.specs.Prelude.{◌≤◌};
+ghost use Rattle.std.specs.Prelude.{◌≡◌, ◌≤◌};
+ghost use Rattle.bpf_load.specs.Targets.{Loads};
 ghost use Rattle.bpfdb_jobs.specs.Endings.{EndsPrinted};
+ghost use Rattle.bpfdb_jobs.specs.Jobs.{links_first};
 ghost use Rattle.bpfdb_options.specs.declared.subcommand.Subcommand.TheVariants.{Asm, Disasm, Lines};
 ghost use Rattle.bpfdb_faults.specs.Streams.{stream};
 
 use crate::job::Job;
 use crate::object_lines::object_lines_job;
-use crate::opening::program_of;
+use bpf_load::{Loaded, SourceKind};
 use bpf_text::{assemble, disassemble, line_table};
 use bpfdb_faults::{JobFault, JobRefusal, ended, give_up, write_out};
 use counted_io::Counted;
@@ -44,7 +46,7 @@ pub fn lines_job<W: Write, E: Write>(
         (stream E.contents errors.old errors.new) result }
     ensures status { result ≤ 2 }
 {
-    if job.options.is_object {
+    if links_first(job.target.kind) {
         return object_lines_job(alloc, job, writer, errors);
     }
     match line_table(alloc, job.file) {
@@ -56,22 +58,30 @@ pub fn lines_job<W: Write, E: Write>(
     }
 }
 
+/// Whether FILE is an object, which is linked first.
+fn links_first(kind: SourceKind) -> bool
+    ensures { result ≡ links_first kind }
+{
+    match kind {
+        SourceKind::Object => true,
+        SourceKind::Words | SourceKind::Listing => false,
+    }
+}
+
 /// Writes the canonical listing of a program.
 pub fn disasm_job<W: Write, E: Write>(
     alloc: Global,
     job: &Job<'_>,
+    loaded: &Loaded,
     writer: &mut Counted<W>,
     errors: &mut Counted<E>,
 ) -> u8
+    requires loaded { Loads job.now.target job.now.file.now loaded.now }
     ensures does { EndsPrinted Disasm job.now (stream W.contents writer.old writer.new)
         (stream E.contents errors.old errors.new) result }
     ensures status { result ≤ 2 }
 {
-    let program = match program_of(alloc, job) {
-        Ok(program) => program,
-        Err(refusal) => return give_up(errors, &JobFault::Refused(refusal)),
-    };
-    match disassemble(alloc, &program) {
+    match disassemble(alloc, &loaded.program) {
         Ok(listing) => {
             let written = write_out(writer, listing.as_slice());
             ended(written, errors)

@@ -1,21 +1,20 @@
 //! What a job of `link` does.
-ghost use Rattle.std.specs.Prelude.{◌≡◌, ◌≤◌, ℕ, List, codes, false, true};
+ghost use Rattle.std.specs.Prelude.{◌≡◌, ◌≤◌, ℕ, List, false, true};
 ghost use Rattle.std.specs.Borrow.{Bor};
 ghost use Rattle.bpf_link.specs.Names.{fault_names};
-ghost use Rattle.bpf_load.specs.Targets.{Loads};
+ghost use Rattle.bpf_load.specs.Targets.{LinksTo};
 ghost use Rattle.bpfdb_faults.specs.Streams.{Told, stream};
 ghost use Rattle.bpfdb_jobs.specs.Endings.{EndsPrinted};
 ghost use Rattle.bpfdb_faults.specs.Faults.{line_of};
 ghost use Rattle.bpfdb_jobs.specs.Jobs.{answered_if, fields_if};
-ghost use Rattle.bpfdb_jobs.specs.Refusals.{TellsFault, TellsLines};
+ghost use Rattle.bpfdb_jobs.specs.Refusals.{TellsFault, TellsTarget};
 ghost use Rattle.bpfdb_faults.specs.declared.refusal.JobRefusal.{JobRefusal as WhyRefused};
 ghost use Rattle.bpfdb_options.specs.declared.subcommand.Subcommand.TheVariants.{Link};
 
 use crate::job::Job;
 use crate::maps::tell_linked;
-use bpf_lines::LinesFault;
 use bpf_link::{LinkFault, fault_names};
-use bpf_load::{Loaded, ObjectFault, gathered, load};
+use bpf_load::{LinkedObject, ObjectFault, TargetFault, gathered, link_object};
 use bpfdb_faults::{JobFault, JobRefusal, ended, give_up, told_as, write_out};
 use counted_io::{Counted, WriteFault};
 use std::alloc::Global;
@@ -37,8 +36,8 @@ pub fn link_job<W: Write, E: Write>(
     if job.options.is_joined {
         return put_object(alloc, job, writer, errors);
     }
-    match load(alloc, job.file, &job.target) {
-        Ok(loaded) => put_program(job, &loaded, writer, errors),
+    match link_object(alloc, job.file, &job.target) {
+        Ok(linked) => put_program(job, &linked, writer, errors),
         Err(fault) => refuse_object(&fault, errors),
     }
 }
@@ -67,24 +66,24 @@ fn put_object<W: Write, E: Write>(
 /// Writes the program to which the object is linked, and what is told of it.
 fn put_program<W: Write, E: Write>(
     job: &Job<'_>,
-    loaded: &Loaded,
+    object: &LinkedObject,
     writer: &mut Counted<W>,
     errors: &mut Counted<E>,
 ) -> u8
     requires words { job.now.options.is_joined ≡ false }
-    requires loaded { Loads job.now.target job.now.file.now loaded.now }
+    requires object { LinksTo job.now.target job.now.file.now object.now }
     ensures does { EndsPrinted Link job.now (stream W.contents writer.old writer.new)
         (stream E.contents errors.old errors.new) result }
     ensures status { result ≤ 2 }
 {
-    let linked = &loaded.program;
+    let linked = &object.program;
     let answered = answered_if(job, linked.answered);
-    let fields = fields_if(job, loaded.fields());
+    let fields = fields_if(job, object.fields());
     match write_out(writer, linked.words.as_slice()) {
         Ok(()) => told_as(
             tell_linked(
                 errors,
-                loaded.sources.object(),
+                object.sources.object(),
                 linked.shapes.as_slice(),
                 linked.names.as_slice(),
                 answered,
@@ -116,6 +115,25 @@ pub fn refuse_object<E: Write>(fault: &ObjectFault<'_>, errors: &mut Counted<E>)
     }
 }
 
+/// Tells why no program is made of FILE, and answers the exit status, 2.
+#[inline(never)]
+pub fn refuse_target<E: Write>(fault: &TargetFault<'_>, errors: &mut Counted<E>) -> u8
+    ensures value { result ≡ 2 }
+    ensures told { (refusal : WhyRefused) × TellsTarget fault.now refusal
+        × Told (stream E.contents errors.old errors.new) (line_of (JobFault.Refused refusal)) }
+{
+    match fault {
+        TargetFault::Object(fault) => refuse_object(fault, errors),
+        TargetFault::Maps(fault) => give_up(errors, &JobFault::Refused(JobRefusal::Maps(*fault))),
+        TargetFault::Listing(fault) => {
+            give_up(errors, &JobFault::Refused(JobRefusal::Listing(*fault)))
+        }
+        TargetFault::Program(fault) => {
+            give_up(errors, &JobFault::Refused(JobRefusal::Load(*fault)))
+        }
+    }
+}
+
 /// Tells why what is asked isn't known of an object, and answers the exit status, 2.
 #[inline(never)]
 pub fn refuse<E: Write>(
@@ -133,40 +151,6 @@ pub fn refuse<E: Write>(
     let names = fault_names(object, job.target.section, &fault);
     let name = names.as_slice();
     give_up(errors, &JobFault::Refused(JobRefusal::Object(fault, name)))
-}
-
-/// Tells why an object with functions, the one with this index, tells nothing of its lines, and
-/// answers the exit status, 2.
-fn refuse_functions<E: Write>(
-    functions: &[u8],
-    index: usize,
-    errors: &mut Counted<E>,
-    fault: LinkFault,
-) -> u8
-    ensures value { result ≡ 2 }
-    ensures told { (name : Bor (List ℕ))
-        × (name.now ≡ fault_names functions.now (codes ".text") fault)
-        × Told (stream E.contents errors.old errors.new)
-        (line_of (JobFault.Refused (JobRefusal.Functions fault index name))) }
-{
-    let names = fault_names(functions, b".text", &fault);
-    let name = names.as_slice();
-    give_up(
-        errors,
-        &JobFault::Refused(JobRefusal::Functions(fault, index, name)),
-    )
-}
-
-/// Tells why nothing is told of the lines of a program's objects, and answers the exit status, 2.
-pub fn refuse_lines<E: Write>(job: &Job<'_>, told: &LinesFault<'_>, errors: &mut Counted<E>) -> u8
-    ensures value { result ≡ 2 }
-    ensures told { (refusal : WhyRefused) × TellsLines told.now.index job.now told.now refusal
-        × Told (stream E.contents errors.old errors.new) (line_of (JobFault.Refused refusal)) }
-{
-    match told.index {
-        None => refuse(job, told.object.bytes, errors, told.fault),
-        Some(index) => refuse_functions(told.object.bytes, index, errors, told.fault),
-    }
 }
 
 /// How many calls are answered, if that is to be told.

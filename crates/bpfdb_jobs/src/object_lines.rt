@@ -1,14 +1,16 @@
 //! What the job of `lines` does over an object.
 ghost use Rattle.std.specs.Prelude.{◌≡◌, ◌≤◌, true};
-ghost use Rattle.bpf_load.specs.Targets.{Loads};
+ghost use Rattle.bpf_load.specs.Targets.{LinksTo};
 ghost use Rattle.bpfdb_faults.specs.Streams.{stream};
 ghost use Rattle.bpfdb_jobs.specs.Endings.{EndsPrinted};
+ghost use Rattle.bpfdb_jobs.specs.Jobs.{links_first};
 ghost use Rattle.bpfdb_options.specs.declared.subcommand.Subcommand.TheVariants.{Lines};
 
 use crate::job::Job;
-use crate::object::{refuse_lines, refuse_object};
+use crate::known::lines_fault;
+use crate::object::refuse_object;
 use bpf_lines::{program_lines, write_table};
-use bpf_load::{Loaded, load};
+use bpf_load::{LinkedObject, link_object};
 use bpfdb_faults::{ended, flush_after};
 use counted_io::Counted;
 use std::alloc::Global;
@@ -21,13 +23,13 @@ pub fn object_lines_job<W: Write, E: Write>(
     writer: &mut Counted<W>,
     errors: &mut Counted<E>,
 ) -> u8
-    requires { job.now.options.is_object ≡ true }
+    requires { links_first job.now.target.kind ≡ true }
     ensures does { EndsPrinted Lines job.now (stream W.contents writer.old writer.new)
         (stream E.contents errors.old errors.new) result }
     ensures status { result ≤ 2 }
 {
-    match load(alloc, job.file, &job.target) {
-        Ok(loaded) => put_lines(alloc, job, &loaded, writer, errors),
+    match link_object(alloc, job.file, &job.target) {
+        Ok(linked) => put_lines(alloc, job, &linked, writer, errors),
         Err(fault) => refuse_object(&fault, errors),
     }
 }
@@ -37,24 +39,24 @@ pub fn object_lines_job<W: Write, E: Write>(
 fn put_lines<W: Write, E: Write>(
     alloc: Global,
     job: &Job<'_>,
-    loaded: &Loaded,
+    linked: &LinkedObject,
     writer: &mut Counted<W>,
     errors: &mut Counted<E>,
 ) -> u8
-    requires object { job.now.options.is_object ≡ true }
-    requires loaded { Loads job.now.target job.now.file.now loaded.now }
+    requires object { links_first job.now.target.kind ≡ true }
+    requires linked { LinksTo job.now.target job.now.file.now linked.now }
     ensures does { EndsPrinted Lines job.now (stream W.contents writer.old writer.new)
         (stream E.contents errors.old errors.new) result }
     ensures status { result ≤ 2 }
 {
-    let own = loaded.sources.own.as_slice();
+    let own = linked.sources.own.as_slice();
     match program_lines(alloc, own, job.target.section, job.target.with) {
         Ok(all) => {
-            let words = loaded.program.words.as_slice();
+            let words = linked.program.words.as_slice();
             let written = write_table(writer, job.target.packet, words, all.as_slice());
             let flushed = flush_after(writer, written);
             ended(flushed, errors)
         }
-        Err(told) => refuse_lines(job, &told, errors),
+        Err(told) => refuse_object(&lines_fault(job, &told), errors),
     }
 }

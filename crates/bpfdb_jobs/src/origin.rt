@@ -2,10 +2,11 @@
 ghost use Rattle.std.specs.Prelude.{◌≡◌, ◌≤◌, ◌==◌, true, length, IfErr, IfOk, OnErr, List, None, Some};
 ghost use Rattle.bpf_journal.specs.Histories.{Record, StandsFor};
 ghost use Rattle.bpf_journal.specs.Tracks.{RingHolds};
+ghost use Rattle.bpf_load.specs.Targets.{Loads, lent};
 ghost use Rattle.bpf_origin.specs.Asked.{answer_about};
 ghost use Rattle.counted_io.specs.Writing.{Writes};
 ghost use Rattle.bpfdb_jobs.specs.Endings.{EndsPrinted};
-ghost use Rattle.bpfdb_jobs.specs.Jobs.{section_of};
+ghost use Rattle.bpfdb_jobs.specs.Jobs.{section_of, IsKnown};
 ghost use Rattle.bpfdb_jobs.specs.Openings.{AreAskedParts, HasArrived, HasTail, asked_text, told_text};
 ghost use Rattle.bpfdb_jobs.specs.Origins.{AreNamesOf, LacksNames, RefusesWhat, both_extents, bytes_of, status_of_extent};
 ghost use Rattle.bpfdb_jobs.specs.Refusals.{RefusesArrival};
@@ -14,12 +15,14 @@ ghost use Rattle.bpfdb_options.specs.declared.subcommand.Subcommand.TheVariants.
 ghost use Rattle.bpfdb_faults.specs.Streams.{stream};
 
 use crate::job::Job;
+use crate::known::Known;
 use crate::object::refuse;
 use crate::opening::{session_of, timeline_of, wanted_of};
 use crate::script::obey_script;
 use bpf_journal::{JournalFault, Keeper, RingKeeper, Timeline};
 use bpf_lines::{Names, map_names, put_named};
 use bpf_link::LinkFault;
+use bpf_load::{LinkedObject, Loaded};
 use bpf_machine::Cpu;
 use bpf_origin::{
     Extent, Part, Parts, Question, Told, Wanted, What, WhatFault, parts_asked, put_answer,
@@ -42,6 +45,13 @@ pub(crate) struct Arrived {
     pub(crate) wanted: Wanted,
 }
 
+/// That, and the object that its program comes from, if it comes from one.
+#[derive(Drop)]
+pub(crate) struct Reached {
+    pub(crate) arrived: Arrived,
+    pub(crate) object: Option<LinkedObject>,
+}
+
 /// What stands behind an answer, and how far it goes.
 #[derive(Clone, Copy)]
 struct Tail<'a> {
@@ -61,29 +71,37 @@ pub(crate) struct FoundText {
 pub fn origin_job<W: Write, E: Write>(
     alloc: Global,
     job: &Job<'_>,
+    loaded: Loaded,
+    known: Known<'_>,
     writer: &mut Counted<W>,
     errors: &mut Counted<E>,
 ) -> u8
     requires limit { IsLimit job.now.options.limit }
+    requires loaded { Loads job.now.target job.now.file.now loaded }
+    requires known { IsKnown job.now loaded.object known }
     ensures does { EndsPrinted Origin job.now (stream W.contents writer.old writer.new)
         (stream E.contents errors.old errors.new) result }
     ensures status { result ≤ 2 }
 {
-    match arrive(alloc, job) {
-        Ok(arrived) => ask(alloc, job, arrived, writer, errors),
-        Err(refusal) => give_up(errors, &JobFault::Refused(refusal)),
-    }
+    let Reached { arrived, object } = match arrive(alloc, job, loaded) {
+        Ok(reached) => reached,
+        Err(refusal) => return give_up(errors, &JobFault::Refused(refusal)),
+    };
+    ask(alloc, job, object.as_ref(), known, arrived, writer, errors)
 }
 
 /// Finds what is asked about, and asks.
 fn ask<W: Write, E: Write>(
     alloc: Global,
     job: &Job<'_>,
+    object: Option<&LinkedObject>,
+    known: Known<'_>,
     arrived: Arrived,
     writer: &mut Counted<W>,
     errors: &mut Counted<E>,
 ) -> u8
-    requires { HasArrived job.now arrived.timeline arrived.moves }
+    requires arrived { HasArrived job.now (lent object) arrived.timeline arrived.moves }
+    requires known { IsKnown job.now (lent object) known }
     ensures does { EndsPrinted Origin job.now (stream W.contents writer.old writer.new)
         (stream E.contents errors.old errors.new) result }
     ensures status { result ≤ 2 }
@@ -93,13 +111,31 @@ fn ask<W: Write, E: Write>(
         Err(fault) => return give_up(errors, &JobFault::Refused(JobRefusal::What(fault))),
     };
     if job.options.only_branches {
-        ask_branches(alloc, job, arrived, parts.as_slice(), writer, errors)
+        ask_branches(
+            alloc,
+            job,
+            object,
+            known,
+            arrived,
+            parts.as_slice(),
+            writer,
+            errors,
+        )
     } else {
         let tail = Tail {
             text: &[],
             extent: Extent::Whole,
         };
-        tell(alloc, job, arrived, parts.as_slice(), tail, writer, errors)
+        tell(
+            alloc,
+            job,
+            object,
+            arrived,
+            parts.as_slice(),
+            tail,
+            writer,
+            errors,
+        )
     }
 }
 
@@ -107,12 +143,15 @@ fn ask<W: Write, E: Write>(
 fn ask_branches<W: Write, E: Write>(
     alloc: Global,
     job: &Job<'_>,
+    object: Option<&LinkedObject>,
+    known: Known<'_>,
     arrived: Arrived,
     parts: &[Part],
     writer: &mut Counted<W>,
     errors: &mut Counted<E>,
 ) -> u8
-    requires arrived { HasArrived job.now arrived.timeline arrived.moves }
+    requires arrived { HasArrived job.now (lent object) arrived.timeline arrived.moves }
+    requires known { IsKnown job.now (lent object) known }
     requires parts { AreAskedParts job.now arrived.timeline.state parts.now }
     requires branches { job.now.options.only_branches ≡ true }
     ensures does { EndsPrinted Origin job.now (stream W.contents writer.old writer.new)
@@ -121,7 +160,7 @@ fn ask_branches<W: Write, E: Write>(
 {
     let query = Query {
         question: question_of(job, &arrived),
-        places: job.places,
+        places: known.places,
     };
     let Arrived {
         timeline,
@@ -144,7 +183,7 @@ fn ask_branches<W: Write, E: Write>(
                 text: text.as_slice(),
                 extent,
             };
-            tell(alloc, job, arrived, parts, tail, writer, errors)
+            tell(alloc, job, object, arrived, parts, tail, writer, errors)
         }
         Err(_) => give_up(
             errors,
@@ -171,25 +210,39 @@ pub(crate) fn question_of(job: &Job<'_>, arrived: &Arrived) -> Question
 }
 
 /// Goes where it is asked.
-pub(crate) fn arrive(alloc: Global, job: &Job<'_>) -> Result<Arrived, JobRefusal<'static>>
+pub(crate) fn arrive(
+    alloc: Global,
+    job: &Job<'_>,
+    loaded: Loaded,
+) -> Result<Reached, JobRefusal<'static>>
     requires limit { IsLimit job.now.options.limit }
-    ensures ok { IfOk result (λ arrived. HasArrived job.now arrived.timeline arrived.moves) }
+    requires loaded { Loads job.now.target job.now.file.now loaded }
+    ensures ok { IfOk result (λ reached. (reached.object ≡ loaded.object)
+        × HasArrived job.now reached.object reached.arrived.timeline reached.arrived.moves) }
     ensures err { IfErr result (RefusesArrival job.now) }
 {
     match job.other {
-        Some(script) => arrive_by(alloc, job, script),
-        None => arrive_at_end(alloc, job),
+        Some(script) => arrive_by(alloc, job, loaded, script),
+        None => arrive_at_end(alloc, job, loaded),
     }
 }
 
 /// Obeys the job's script.
-fn arrive_by(alloc: Global, job: &Job<'_>, script: &[u8]) -> Result<Arrived, JobRefusal<'static>>
+fn arrive_by(
+    alloc: Global,
+    job: &Job<'_>,
+    loaded: Loaded,
+    script: &[u8],
+) -> Result<Reached, JobRefusal<'static>>
     requires limit { IsLimit job.now.options.limit }
+    requires loaded { Loads job.now.target job.now.file.now loaded }
     requires script { job.now.other ≡ Some script }
-    ensures ok { IfOk result (λ arrived. HasArrived job.now arrived.timeline arrived.moves) }
+    ensures ok { IfOk result (λ reached. (reached.object ≡ loaded.object)
+        × HasArrived job.now reached.object reached.arrived.timeline reached.arrived.moves) }
     ensures err { IfErr result (RefusesArrival job.now) }
 {
-    let mut session = match session_of(alloc, job) {
+    let Loaded { program, object } = loaded;
+    let mut session = match session_of(alloc, job, program) {
         Ok(session) => session,
         Err(refusal) => return Err(refusal),
     };
@@ -202,21 +255,29 @@ fn arrive_by(alloc: Global, job: &Job<'_>, script: &[u8]) -> Result<Arrived, Job
         Err(refusal) => return Err(JobRefusal::Script(refusal)),
     };
     let (cpu, keeper) = session.close();
-    Ok(Arrived {
+    let arrived = Arrived {
         timeline: Timeline::open(cpu, keeper),
         moves,
         wanted,
-    })
+    };
+    Ok(Reached { arrived, object })
 }
 
 /// Runs the job's program to its end or to the limit.
-fn arrive_at_end(alloc: Global, job: &Job<'_>) -> Result<Arrived, JobRefusal<'static>>
+fn arrive_at_end(
+    alloc: Global,
+    job: &Job<'_>,
+    loaded: Loaded,
+) -> Result<Reached, JobRefusal<'static>>
     requires limit { IsLimit job.now.options.limit }
+    requires loaded { Loads job.now.target job.now.file.now loaded }
     requires script { job.now.other ≡ None }
-    ensures ok { IfOk result (λ arrived. HasArrived job.now arrived.timeline arrived.moves) }
+    ensures ok { IfOk result (λ reached. (reached.object ≡ loaded.object)
+        × HasArrived job.now reached.object reached.arrived.timeline reached.arrived.moves) }
     ensures err { IfErr result (RefusesArrival job.now) }
 {
-    let mut timeline = match timeline_of(alloc, job) {
+    let Loaded { program, object } = loaded;
+    let mut timeline = match timeline_of(alloc, job, program) {
         Ok(timeline) => timeline,
         Err(refusal) => return Err(refusal),
     };
@@ -225,11 +286,12 @@ fn arrive_at_end(alloc: Global, job: &Job<'_>) -> Result<Arrived, JobRefusal<'st
         Err(refusal) => return Err(refusal),
     };
     let moves = run_kept(&mut timeline, job.options.limit);
-    Ok(Arrived {
+    let arrived = Arrived {
         timeline,
         moves,
         wanted,
-    })
+    };
+    Ok(Reached { arrived, object })
 }
 
 /// Writes where the machine stands, where the values of these parts came from, and what else is
@@ -237,21 +299,22 @@ fn arrive_at_end(alloc: Global, job: &Job<'_>) -> Result<Arrived, JobRefusal<'st
 fn tell<W: Write, E: Write>(
     alloc: Global,
     job: &Job<'_>,
+    object: Option<&LinkedObject>,
     arrived: Arrived,
     parts: &[Part],
     tail: Tail<'_>,
     writer: &mut Counted<W>,
     errors: &mut Counted<E>,
 ) -> u8
-    requires { HasTail job.now arrived.timeline arrived.moves parts.now
+    requires { HasTail job.now (lent object) arrived.timeline arrived.moves parts.now
         (record { text = tail.text.now; extent = tail.extent }) }
     ensures does { EndsPrinted Origin job.now (stream W.contents writer.old writer.new)
         (stream E.contents errors.old errors.new) result }
     ensures status { result ≤ 2 }
 {
-    let names = match names_of(alloc, job) {
+    let names = match names_of(alloc, job, object) {
         Ok(names) => names,
-        Err(why) => return refuse(job, bytes_of(job), errors, why),
+        Err(why) => return refuse(job, bytes_of(object), errors, why),
     };
     let question = question_of(job, &arrived);
     let mut arrived = arrived;
@@ -275,19 +338,23 @@ fn tell<W: Write, E: Write>(
     }
 }
 
-/// The names in the maps of the object that the job's words come from, if they come from one. What
-/// that needs of the stack is given back before the answer is looked for.
+/// The names in the maps of the object that a program comes from, if it comes from one. What that
+/// needs of the stack is given back before the answer is looked for.
 #[inline(never)]
-pub(crate) fn names_of<'a>(alloc: Global, job: &Job<'a>) -> Result<Option<Names<'a>>, LinkFault>
-    ensures ok { IfOk result (AreNamesOf job.now.object (section_of job.now)) }
-    ensures err { IfErr result (LacksNames job.now.object (section_of job.now)) }
+pub(crate) fn names_of<'a>(
+    alloc: Global,
+    job: &Job<'_>,
+    object: Option<&'a LinkedObject>,
+) -> Result<Option<Names<'a>>, LinkFault>
+    ensures ok { IfOk result (AreNamesOf (lent object.entry) (section_of job.now)) }
+    ensures err { IfErr result (LacksNames (lent object.entry) (section_of job.now)) }
 {
-    let Some(object) = job.object else {
+    let Some(object) = object else {
         return Ok(None);
     };
     match map_names(
         alloc,
-        object.bytes,
+        object.sources.object(),
         job.target.section,
         object.program.maps,
         object.program.shapes.as_slice(),
@@ -299,11 +366,11 @@ pub(crate) fn names_of<'a>(alloc: Global, job: &Job<'a>) -> Result<Option<Names<
 }
 
 /// The bytes of that object: none where there isn't one.
-pub(crate) fn bytes_of<'a>(job: &Job<'a>) -> &'a [u8]
-    ensures { result.now ≡ bytes_of job.now.object }
+pub(crate) fn bytes_of(object: Option<&LinkedObject>) -> &[u8]
+    ensures { result.now ≡ bytes_of (lent object.entry) }
 {
-    match job.object {
-        Some(object) => object.bytes,
+    match object {
+        Some(object) => object.sources.object(),
         None => b"",
     }
 }

@@ -1,18 +1,17 @@
 //! Strict runs: a machine, and the first step of its run that would read the stack where nothing was
 //! written.
 ghost use Rattle.std.specs.Prelude.{◌≡◌, IfErr, IfOk};
-ghost use Rattle.bpf_isa.specs.Programs.{Checked};
-ghost use Rattle.bpf_steps.specs.State.{initial};
+ghost use Rattle.bpf_steps.specs.Opening.{Opened};
 ghost use Rattle.bpf_trace.specs.UnwrittenTexts.{unwritten_line};
 ghost use Rattle.counted_io.specs.Writing.{Writes};
-ghost use Rattle.bpfdb_jobs.specs.Jobs.{Opens, unwritten_in};
+ghost use Rattle.bpfdb_jobs.specs.Jobs.{unwritten_in};
 ghost use Rattle.bpfdb_jobs.specs.Refusals.{RefusesMachine};
 
 use crate::job::Job;
-use crate::opening::machine_of;
+use bpf_isa::Program;
 use bpf_machine::Cpu;
 use bpf_trace::{Unwritten, find_unwritten, put_unwritten};
-use bpfdb_faults::{JobRefusal, flush_after};
+use bpfdb_faults::{JobRefusal, flush_after, open_machine};
 use counted_io::{Counted, WriteFault};
 use std::alloc::Global;
 use std::io::Write;
@@ -24,15 +23,18 @@ pub struct Strict {
     pub unwritten: Option<Unwritten>,
 }
 
-/// The machine of a job before its first step. Of a strict run it is looked for the read that stops
-/// it, and then the machine is opened again.
-pub fn strict_machine(alloc: Global, job: &Job<'_>) -> Result<Strict, JobRefusal<'static>>
-    ensures ok { IfOk result (λ strict. (code : Checked) × Opens job.now code
-        × (strict.cpu ≡ initial code job.now.context.now)
+/// The machine of a program on the job's context before its first step. Of a strict run it is looked
+/// for the read that stops it, and then the machine is opened again.
+pub fn strict_machine(
+    alloc: Global,
+    job: &Job<'_>,
+    program: Program,
+) -> Result<Strict, JobRefusal<'static>>
+    ensures ok { IfOk result (λ strict. Opened program job.now.context.now strict.cpu
         × (strict.unwritten ≡ unwritten_in job.now strict.cpu)) }
     ensures err { IfErr result (RefusesMachine job.now) }
 {
-    let mut cpu = match machine_of(alloc, job) {
+    let mut cpu = match open_machine(alloc, program, job.context) {
         Ok(cpu) => cpu,
         Err(refusal) => return Err(refusal),
     };

@@ -1,19 +1,21 @@
 //! What a job of `trace` does.
 ghost use Rattle.std.specs.Prelude.{◌≡◌, ◌≤◌, IfErr, OnOk};
+ghost use Rattle.bpf_load.specs.Targets.{Loads};
 ghost use Rattle.bpf_session.specs.Plain.{plain_end};
 ghost use Rattle.bpf_trace.specs.UnwrittenTexts.{trace_until};
 ghost use Rattle.bpf_trace.specs.Profiles.{profile_text};
 ghost use Rattle.bpf_trace.specs.Tellings.{Tells};
-ghost use Rattle.bpf_trace.specs.Traces.{trace_text};
 ghost use Rattle.bpfdb_faults.specs.Streams.{Told, stream};
 ghost use Rattle.bpfdb_jobs.specs.Endings.{EndsPrinted};
 ghost use Rattle.bpfdb_faults.specs.Faults.{line_of};
-ghost use Rattle.bpfdb_jobs.specs.Jobs.{shown_of, status_of_end, trace_out};
+ghost use Rattle.bpfdb_jobs.specs.Jobs.{shown_of, status_of_end, trace_out, IsKnown};
 ghost use Rattle.bpfdb_jobs.specs.Tellings.{fault_of_told};
 ghost use Rattle.bpfdb_options.specs.declared.subcommand.Subcommand.TheVariants.{Trace};
 
 use crate::job::Job;
+use crate::known::Known;
 use crate::strict::strict_machine;
+use bpf_load::Loaded;
 use bpf_machine::{Cpu, Status};
 use bpf_trace::{
     Profile, Shown, TraceFault, Unwritten, put_profile, write_trace, write_trace_until,
@@ -28,24 +30,29 @@ use std::io::Write;
 pub fn trace_job<W: Write, E: Write>(
     alloc: Global,
     job: &Job<'_>,
+    loaded: Loaded,
+    known: Known<'_>,
     writer: &mut Counted<W>,
     errors: &mut Counted<E>,
 ) -> u8
+    requires loaded { Loads job.now.target job.now.file.now loaded }
+    requires known { IsKnown job.now loaded.object known }
     ensures does { EndsPrinted Trace job.now (stream W.contents writer.old writer.new)
         (stream E.contents errors.old errors.new) result }
     ensures status { result ≤ 2 }
 {
-    let mut strict = match strict_machine(alloc, job) {
+    let mut strict = match strict_machine(alloc, job, loaded.program) {
         Ok(strict) => strict,
         Err(refusal) => return give_up(errors, &JobFault::Refused(refusal)),
     };
+    let shown = shown_steps(job, known);
     match strict.unwritten {
         Some(read) => {
-            let before = tell_until(alloc, job, &mut strict.cpu, &read, writer);
+            let before = tell_until(alloc, shown, &mut strict.cpu, &read, writer);
             end_of(before, 1, errors)
         }
         None => {
-            let told = tell_run(alloc, job, &mut strict.cpu, writer);
+            let told = tell_run(alloc, job, shown, &mut strict.cpu, writer);
             end_of(told, status_of(strict.cpu.status()), errors)
         }
     }
@@ -81,15 +88,15 @@ fn status_of(status: Status) -> u8
 /// Writes the steps before a read that stops a strict run, and the read, and flushes.
 fn tell_until<W: Write>(
     alloc: Global,
-    job: &Job<'_>,
+    shown: Shown<'_>,
     cpu: &mut Cpu,
     read: &Unwritten,
     writer: &mut Counted<W>,
 ) -> Result<(), TraceFault>
     ensures { Tells W.contents writer.old writer.new result
-        (trace_until read.now (shown_of job.now) cpu.old) }
+        (trace_until read.now shown.entry cpu.old) }
 {
-    match write_trace_until(alloc, cpu, read, shown_steps(job), writer) {
+    match write_trace_until(alloc, cpu, read, shown, writer) {
         Ok(()) => {}
         Err(fault) => return Err(fault),
     }
@@ -100,14 +107,14 @@ fn tell_until<W: Write>(
 }
 
 /// The steps that are shown.
-fn shown_steps<'a>(job: &Job<'a>) -> Shown<'a>
-    ensures { result ≡ shown_of job.now }
+fn shown_steps<'a>(job: &Job<'_>, known: Known<'a>) -> Shown<'a>
+    ensures { result ≡ shown_of job.now known.entry }
 {
     Shown {
         from: job.options.from,
         count: job.options.count,
         only_branches: job.options.only_branches,
-        places: job.places,
+        places: known.places,
     }
 }
 
@@ -115,13 +122,14 @@ fn shown_steps<'a>(job: &Job<'a>) -> Shown<'a>
 fn tell_run<W: Write>(
     alloc: Global,
     job: &Job<'_>,
+    shown: Shown<'_>,
     cpu: &mut Cpu,
     writer: &mut Counted<W>,
 ) -> Result<(), TraceFault>
-    ensures told { Tells W.contents writer.old writer.new result (trace_out job.now cpu.old) }
+    ensures told { Tells W.contents writer.old writer.new result (trace_out job.now shown.entry cpu.old) }
     ensures next { OnOk result (cpu.new ≡ plain_end job.now.options.limit cpu.old) }
 {
-    match write_run(alloc, job, cpu, writer) {
+    match write_run(alloc, job, shown, cpu, writer) {
         Ok(()) => {}
         Err(fault) => return Err(fault),
     }
@@ -131,35 +139,22 @@ fn tell_run<W: Write>(
     }
 }
 
-/// Writes what is told of a run: its steps or its profile.
+/// Writes what is told of a run: its steps or its profile. All memory is taken before the first of them.
 fn write_run<W: Write>(
     alloc: Global,
     job: &Job<'_>,
+    shown: Shown<'_>,
     cpu: &mut Cpu,
     writer: &mut Counted<W>,
 ) -> Result<(), TraceFault>
-    ensures told { Tells W.contents writer.old writer.new result (trace_out job.now cpu.old) }
+    ensures told { Tells W.contents writer.old writer.new result (trace_out job.now shown.entry cpu.old) }
     ensures next { OnOk result (cpu.new ≡ plain_end job.now.options.limit cpu.old) }
 {
     if job.options.is_profile {
         write_profile(alloc, job.options.limit, cpu, writer)
     } else {
-        write_steps(alloc, job, cpu, writer)
+        write_trace(alloc, cpu, job.options.limit, shown, writer)
     }
-}
-
-/// Writes the steps that are shown. All memory is taken before the first of them.
-fn write_steps<W: Write>(
-    alloc: Global,
-    job: &Job<'_>,
-    cpu: &mut Cpu,
-    writer: &mut Counted<W>,
-) -> Result<(), TraceFault>
-    ensures told { Tells W.contents writer.old writer.new result
-        (trace_text job.now.options.limit (shown_of job.now) cpu.old) }
-    ensures next { OnOk result (cpu.new ≡ plain_end job.now.options.limit cpu.old) }
-{
-    write_trace(alloc, cpu, job.options.limit, shown_steps(job), writer)
 }
 
 /// Writes how often each instruction ran.

@@ -3,13 +3,14 @@ ghost use Rattle.std.specs.Prelude.{◌≡◌, ◌≤◌, ℕ, IfErr, IfOk, List
 ghost use Rattle.bpf_isa.specs.Programs.{Checked};
 ghost use Rattle.bpf_journal.specs.Histories.{Record, StandsFor};
 ghost use Rattle.bpf_journal.specs.Tracks.{RingHolds};
+ghost use Rattle.bpf_load.specs.Targets.{Loads, lent};
 ghost use Rattle.bpf_whynot.specs.Aims.{IsAim};
 ghost use Rattle.bpf_whynot.specs.Answers.{why_not};
 ghost use Rattle.bpf_whynot.specs.Asking.{query};
 ghost use Rattle.bpf_whynot.specs.Tables.{AreGoals, told_by};
 ghost use Rattle.counted_io.specs.Writing.{Writes};
 ghost use Rattle.bpfdb_jobs.specs.Endings.{EndsPrinted};
-ghost use Rattle.bpfdb_jobs.specs.Jobs.{AreAsked, asked_of};
+ghost use Rattle.bpfdb_jobs.specs.Jobs.{AreAsked, asked_of, names_place, IsKnown};
 ghost use Rattle.bpfdb_jobs.specs.Openings.{HasArrived, why_text};
 ghost use Rattle.bpfdb_jobs.specs.Origins.{found_text};
 ghost use Rattle.bpfdb_jobs.specs.Whynots.{IsRefusalOf, RefusesGoals};
@@ -18,11 +19,13 @@ ghost use Rattle.bpfdb_options.specs.declared.subcommand.Subcommand.TheVariants.
 ghost use Rattle.bpfdb_faults.specs.Streams.{stream};
 
 use crate::job::Job;
+use crate::known::Known;
 use crate::object::refuse;
-use crate::origin::{Arrived, FoundText, arrive, bytes_of, names_of, status_of};
+use crate::origin::{Arrived, FoundText, Reached, arrive, bytes_of, names_of, status_of};
 use bpf_isa::Program;
 use bpf_journal::{JournalFault, Keeper, Timeline};
 use bpf_lines::{Names, is_place, listing_slots, put_named};
+use bpf_load::{LinkedObject, Loaded, SourceKind};
 use bpf_origin::{Question, Told, Wanted};
 use bpf_whynot::{Aim, AimFault, GoalFault, Search, put_whynot};
 use bpfdb_faults::{JobFault, JobRefusal, flush_after, give_up};
@@ -36,40 +39,59 @@ use std::io::Write;
 pub fn whynot_job<W: Write, E: Write>(
     alloc: Global,
     job: &Job<'_>,
+    loaded: Loaded,
+    known: Known<'_>,
     writer: &mut Counted<W>,
     errors: &mut Counted<E>,
 ) -> u8
     requires limit { IsLimit job.now.options.limit }
+    requires loaded { Loads job.now.target job.now.file.now loaded }
+    requires known { IsKnown job.now loaded.object known }
     ensures does { EndsPrinted Whynot job.now (stream W.contents writer.old writer.new)
         (stream E.contents errors.old errors.new) result }
     ensures status { result ≤ 2 }
 {
-    match arrive(alloc, job) {
-        Ok(mut arrived) => ask_why(alloc, job, &mut arrived, writer, errors),
-        Err(refusal) => give_up(errors, &JobFault::Refused(refusal)),
-    }
+    let Reached {
+        mut arrived,
+        object,
+    } = match arrive(alloc, job, loaded) {
+        Ok(reached) => reached,
+        Err(refusal) => return give_up(errors, &JobFault::Refused(refusal)),
+    };
+    ask_why(
+        alloc,
+        job,
+        object.as_ref(),
+        known,
+        &mut arrived,
+        writer,
+        errors,
+    )
 }
 
 /// Writes where the machine stands, and why the program did not come to the slots.
 fn ask_why<W: Write, E: Write>(
     alloc: Global,
     job: &Job<'_>,
+    object: Option<&LinkedObject>,
+    known: Known<'_>,
     arrived: &mut Arrived,
     writer: &mut Counted<W>,
     errors: &mut Counted<E>,
 ) -> u8
-    requires { HasArrived job.now arrived.old.timeline arrived.old.moves }
+    requires arrived { HasArrived job.now (lent object) arrived.old.timeline arrived.old.moves }
+    requires known { IsKnown job.now (lent object) known }
     ensures does { EndsPrinted Whynot job.now (stream W.contents writer.old writer.new)
         (stream E.contents errors.old errors.new) result }
     ensures status { result ≤ 2 }
 {
-    let aim = match aim_of(alloc, job, arrived.timeline.cpu().program()) {
+    let aim = match aim_of(alloc, job, known, arrived.timeline.cpu().program()) {
         Ok(aim) => aim,
         Err(refusal) => return give_up(errors, &JobFault::Refused(refusal)),
     };
-    let names = match names_of(alloc, job) {
+    let names = match names_of(alloc, job, object) {
         Ok(names) => names,
-        Err(why) => return refuse(job, bytes_of(job), errors, why),
+        Err(why) => return refuse(job, bytes_of(object), errors, why),
     };
     let question = Question {
         addresses: job.options.addresses,
@@ -81,7 +103,7 @@ fn ask_why<W: Write, E: Write>(
         goals: aim.goals.as_slice(),
         question,
         alone: job.options.alone,
-        places: job.places,
+        places: known.places,
     };
     match put_told(alloc, names.as_ref(), arrived, &search, writer) {
         Ok(told) => match told.written {
@@ -96,21 +118,36 @@ fn ask_why<W: Write, E: Write>(
 }
 
 /// The slots of a program that are asked about, and from where they can be come to.
-fn aim_of<'a>(alloc: Global, job: &Job<'a>, program: &Program) -> Result<Aim, JobRefusal<'a>>
-    ensures ok { IfOk result (λ aim. (slots : List ℕ) × AreAsked job.now slots
+fn aim_of<'a>(
+    alloc: Global,
+    job: &Job<'a>,
+    known: Known<'_>,
+    program: &Program,
+) -> Result<Aim, JobRefusal<'a>>
+    ensures ok { IfOk result (λ aim. (slots : List ℕ) × AreAsked job.now known.entry slots
         × IsAim program.now slots aim) }
-    ensures err { IfErr result (RefusesGoals job.now program.now) }
+    ensures err { IfErr result (RefusesGoals job.now known.entry program.now) }
 {
     let what = asked(job).as_bytes();
-    if let Some(goals) = job.goals {
-        return aim_at(alloc, job, program, goals);
+    if let Some(goals) = known.goals {
+        return aim_at(alloc, job, known, program, goals);
     }
-    if !(job.options.is_listing && is_place(what)) {
-        return aim_at(alloc, job, program, what);
+    if !names_place(job) {
+        return aim_at(alloc, job, known, program, what);
     }
     match listing_slots(alloc, job.file, what) {
-        Ok(slots) => aim_at(alloc, job, program, slots.as_slice()),
+        Ok(slots) => aim_at(alloc, job, known, program, slots.as_slice()),
         Err(fault) => Err(JobRefusal::Listing(fault)),
+    }
+}
+
+/// Whether it is asked about a place of a listing.
+fn names_place(job: &Job<'_>) -> bool
+    ensures { result ≡ names_place job.now }
+{
+    match job.target.kind {
+        SourceKind::Listing => is_place(asked(job).as_bytes()),
+        SourceKind::Words | SourceKind::Object => false,
     }
 }
 
@@ -118,13 +155,14 @@ fn aim_of<'a>(alloc: Global, job: &Job<'a>, program: &Program) -> Result<Aim, Jo
 fn aim_at<'a>(
     alloc: Global,
     job: &Job<'a>,
+    known: Known<'_>,
     program: &Program,
     slots: &[u8],
 ) -> Result<Aim, JobRefusal<'a>>
-    requires { AreAsked job.now slots.now }
-    ensures ok { IfOk result (λ aim. (slots : List ℕ) × AreAsked job.now slots
+    requires { AreAsked job.now known slots.now }
+    ensures ok { IfOk result (λ aim. (slots : List ℕ) × AreAsked job.now known.entry slots
         × IsAim program.now slots aim) }
-    ensures err { IfErr result (RefusesGoals job.now program.now) }
+    ensures err { IfErr result (RefusesGoals job.now known.entry program.now) }
 {
     match Aim::find(alloc, program, slots) {
         Ok(aim) => Ok(aim),

@@ -1,7 +1,6 @@
 //! The options that say how a job is done.
 use crate::registers::Registers;
 use crate::test_part::TestPart;
-use bpf_packet::Packet;
 use bpfdb_limits::{DEFAULT_JOURNAL, DEFAULT_LIMIT, GREATEST_COUNT};
 
 /// The most lines of an answer where no number is given.
@@ -10,8 +9,6 @@ pub const DEFAULT_LINES: u64 = 1_000;
 /// Options. One that a subcommand doesn't have stands as when it is absent.
 #[derive(Clone, Copy)]
 pub struct Options<'a> {
-    /// The map table's text, as `8x2,4x256`; without one there are no maps.
-    pub maps: Option<&'a str>,
     /// The journal's size in bytes; one that can be opened has 1,024 to 16,777,216.
     pub journal: u64,
     /// The most steps of a run or of a command, 1 to 1,000,000,000.
@@ -26,21 +23,6 @@ pub struct Options<'a> {
     pub is_profile: bool,
     /// The run stops at the first read of the stack where nothing was written since the call.
     pub is_strict: bool,
-    /// FILE is a listing, assembled first.
-    pub is_listing: bool,
-    /// FILE is an object; it is linked first.
-    pub is_object: bool,
-    /// The name of the code section that is linked; without one it is the only one.
-    pub section: Option<&'a str>,
-    /// The name of the function of that section at which the program begins; without one it is the
-    /// only one that is known outside the object, or else the section's first slot.
-    pub entry: Option<&'a str>,
-    /// The helpers whose calls are answered by a constant, as `5=0,14=-1`; without it none is.
-    pub stubs: Option<&'a str>,
-    /// Relocations of fields are left undone: fields stay where they were when it was compiled.
-    pub as_compiled: bool,
-    /// The kernel's struct that the entry of an object takes; without it its context is the machine's.
-    pub packet: Option<Packet>,
     /// The object that is linked is written, and not its program.
     pub is_joined: bool,
     /// The machine that gdb takes this one for.
@@ -75,7 +57,6 @@ pub struct Options<'a> {
 
 /// The options where each is absent.
 pub const NO_OPTIONS: Options<'static> = Options {
-    maps: None,
     journal: DEFAULT_JOURNAL,
     limit: DEFAULT_LIMIT,
     from: 1,
@@ -83,13 +64,6 @@ pub const NO_OPTIONS: Options<'static> = Options {
     only_branches: false,
     is_profile: false,
     is_strict: false,
-    is_listing: false,
-    is_object: false,
-    section: None,
-    entry: None,
-    stubs: None,
-    as_compiled: false,
-    packet: None,
     is_joined: false,
     registers: Registers::X86,
     what: None,

@@ -5,7 +5,7 @@ use Rattle.bpf_lines.specs.declared.objects.LinesFault.{LinesFault}
 use Rattle.bpf_lines.specs.declared.objects.ObjectLines.{ObjectLines}
 use Rattle.bpf_link.specs.Names.{fault_names}
 use Rattle.bpf_load.specs.Targets.{contents, texts}
-use Rattle.bpf_load.specs.declared.loading.Loaded.{Loaded}
+use Rattle.bpf_load.specs.declared.loading.LinkedObject.{LinkedObject}
 use Rattle.bpf_load.specs.declared.target.Target.{Target}
 use Rattle.suite_files.specs.Asks.{entry_in, turns_in}
 use Rattle.suite_files.specs.declared.asked.Asked.{Asked}
@@ -26,11 +26,11 @@ pub record IsTargetOf (asked : Asked) (others : List (List ℕ)) (target : Targe
   pub packet : target.packet ≡ asked.packet
 
 -- What is told of a program's slots: where they stand in the source of what it was linked of.
-abbrev pub AreLines : Target → Loaded → List ObjectLines → Type 0
+abbrev pub AreLines : Target → LinkedObject → List ObjectLines → Type 0
 AreLines target loaded all = AreProgramLines loaded.sources.own.items target.section.now (contents target.with.now) all
 
 -- A table of them, where one is wanted: the one that `lines` writes of the same objects, behind what gives the program the packet that is asked for.
-abbrev pub IsTableOf : Bool → Target → Loaded → List ℕ → Type 0
+abbrev pub IsTableOf : Bool → Target → LinkedObject → List ℕ → Type 0
 IsTableOf false target loaded table = table ≡ []
 IsTableOf true target loaded table =
     (all : List ObjectLines) × AreLines target loaded all × (table ≡ program_table target.packet loaded.program.words.items all)

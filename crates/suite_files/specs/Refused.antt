@@ -3,10 +3,10 @@ use Rattle.std.specs.Prelude.{ℕ, ◌≡◌, ◌⊎◌, ◌<◌, Bool, true, fa
 use Rattle.bpf_lines.specs.Objects.{IsProgramLinesFault}
 use Rattle.bpf_lines.specs.declared.objects.LinesFault.{LinesFault}
 use Rattle.bpf_link.specs.declared.fault.LinkFault.{LinkFault}
-use Rattle.bpf_load.specs.Faults.{IsLoadFault, name_of}
-use Rattle.bpf_load.specs.Targets.{Loads, contents}
+use Rattle.bpf_load.specs.Faults.{IsObjectFault, name_of}
+use Rattle.bpf_load.specs.Targets.{LinksTo, contents}
 use Rattle.bpf_load.specs.declared.fault.ObjectFault.{ObjectFault}
-use Rattle.bpf_load.specs.declared.loading.Loaded.{Loaded}
+use Rattle.bpf_load.specs.declared.loading.LinkedObject.{LinkedObject}
 use Rattle.bpf_load.specs.declared.target.Target.{Target}
 use Rattle.suite_files.specs.Asks.{Asks, AsksNothing}
 use Rattle.suite_files.specs.Links.{IsTargetOf, names_told}
@@ -85,18 +85,18 @@ IsKept fault index name (Link kept) = Keeps fault index name kept
 IsKept fault index name Memory = ⊤
 
 -- Nothing is told of a program's slots: the list of lines of an object is malformed, or that of one with functions.
-pub record IsUntold (target : Target) (loaded : Loaded) (fault : PutFault) : Type 0 where
+pub record IsUntold (target : Target) (loaded : LinkedObject) (fault : PutFault) : Type 0 where
   pub refused : LinesFault
   pub why : IsProgramLinesFault loaded.sources.own.items target.section.now (contents target.with.now) refused
   pub kept : IsKept refused.fault refused.index (names_told target.section.now refused) fault
 
-abbrev pub HasNoTable : Bool → Target → Loaded → PutFault → Type 0
+abbrev pub HasNoTable : Bool → Target → LinkedObject → PutFault → Type 0
 HasNoTable wanted target loaded fault = (fault ≡ Memory) ⊎ ((wanted ≡ true) × IsUntold target loaded fault)
 
 -- No program is made of an object; or one is, and there is no table of its lines, which is wanted.
 pub data IsUnmade (wanted : Bool) (target : Target) (object : List ℕ) (fault : PutFault) : Type 0 where
-  Unloaded : (why : ObjectFault) → IsLoadFault target object why → IsKept why.fault why.index (name_of why) fault → IsUnmade wanted target object fault
-  Untabled : (loaded : Loaded) → Loads target object loaded → HasNoTable wanted target loaded fault → IsUnmade wanted target object fault
+  Unloaded : (why : ObjectFault) → IsObjectFault target object why → IsKept why.fault why.index (name_of why) fault → IsUnmade wanted target object fault
+  Untabled : (loaded : LinkedObject) → LinksTo target object loaded → HasNoTable wanted target loaded fault → IsUnmade wanted target object fault
 
 pub record HasNoProgram (bytes_at : List ℕ → Option (List ℕ)) (place : Place) (asked : Asked) (fault : PutFault) : Type 0 where
   pub object : List ℕ

@@ -4,7 +4,7 @@ use Rattle.std.specs.List.{position_or_len}
 use Rattle.std.specs.Option.{option_and_then}
 use Rattle.counted_io.specs.Lines.{is_blank, trim_start}
 use Rattle.counted_io.specs.Numerals.{as_u64, natural}
-use Rattle.bpf_load.specs.Targets.{Loads}
+use Rattle.bpf_load.specs.Targets.{LinksTo}
 use Rattle.bpf_load.specs.declared.target.Target.{Target}
 use Rattle.suite_files.specs.Asks.{Asks}
 use Rattle.suite_files.specs.Links.{IsTableOf, IsTargetOf}
@@ -65,7 +65,7 @@ pub record IsAskedProgram (bytes_at : List ℕ → Option (List ℕ)) (place : P
   pub others : ReadFirst bytes_at place asked.with.items (length asked.with.items) with
   pub target : Target
   pub is_target : IsTargetOf asked with target
-  pub loads : Loads target object made.loaded
+  pub loads : LinksTo target object made.loaded
   pub is_table : IsTableOf place.lines target made.loaded made.table.items
 
 pub record IsProgramPut (bytes_at : List ℕ → Option (List ℕ)) (place : Place) (piece put : List ℕ) : Type 0 where

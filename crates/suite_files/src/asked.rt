@@ -158,10 +158,7 @@ fn entries_fit(entries: &[&str]) -> bool
 }
 
 /// The programs that are named. None where they don't fit, or one isn't UTF-8.
-fn entries_in<'a>(
-    alloc: Global,
-    options: &[Head<'a>],
-) -> Result<Option<Vec<&'a str>>, AllocError>
+fn entries_in<'a>(alloc: Global, options: &[Head<'a>]) -> Result<Option<Vec<&'a str>>, AllocError>
     ensures { IfOk result (AreFit entries_fit (values_of word.Entry options.now)) }
 {
     match strs_behind(alloc, options, Word::Entry) {

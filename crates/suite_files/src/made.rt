@@ -3,7 +3,7 @@ ghost use Rattle.std.specs.Prelude.{◌≡◌, ◌&&◌, All, IfErr, IfOk, lengt
 ghost use Rattle.std.specs.List.{list_all};
 ghost use Rattle.bpf_lines.specs.Objects.{HasPartLines, program_table};
 ghost use Rattle.bpf_load.specs.Faults.{name_of as fault_name};
-ghost use Rattle.bpf_load.specs.Targets.{Loads, contents, texts};
+ghost use Rattle.bpf_load.specs.Targets.{LinksTo, contents, texts};
 ghost use Rattle.input_texts.specs.Turns.{has_place};
 ghost use Rattle.suite_files.specs.Asks.{entry_in, names_one, turns_in};
 ghost use Rattle.suite_files.specs.Links.{AreLines, IsTableOf, IsTargetOf, name_of, names_told, section_told};
@@ -13,7 +13,7 @@ use crate::asked::Asked;
 use crate::fault::{KeptFault, PutFault};
 use bpf_lines::{LinesFault, ObjectLines, program_lines, write_table};
 use bpf_link::{LinkFault, fault_names};
-use bpf_load::{Loaded, ObjectFault, Target, load};
+use bpf_load::{LinkedObject, ObjectFault, SourceKind, Target, link_object};
 use bpf_packet::Packet;
 use counted_io::{Counted, WriteFault};
 use input_texts::{Text, has_place};
@@ -23,7 +23,7 @@ use std::alloc::{AllocError, Global};
 /// that, if it is wanted.
 #[derive(Drop)]
 pub struct Made {
-    pub loaded: Loaded,
+    pub loaded: LinkedObject,
     pub table: Vec<u8>,
 }
 
@@ -85,6 +85,8 @@ pub fn target_of<'a>(asked: &'a Asked<'a>, with: &'a [Vec<u8>]) -> Target<'a>
 {
     let entries = asked.entries.as_slice();
     Target {
+        kind: SourceKind::Object,
+        maps: None,
         section: name_of(&asked.section),
         entry: entry_in(entries),
         counts: &[],
@@ -138,7 +140,7 @@ fn kept_lines(alloc: Global, section: &[u8], refused: &LinesFault<'_>) -> PutFau
 fn lines_of<'a>(
     alloc: Global,
     target: &Target<'a>,
-    loaded: &'a Loaded,
+    loaded: &'a LinkedObject,
 ) -> Result<Vec<ObjectLines<'a>>, PutFault>
     ensures ok { IfOk result (λ all. AreLines target.now loaded.now all.items) }
     ensures told { IfOk result (λ all. All HasPartLines all.items) }
@@ -174,7 +176,7 @@ fn table_of(
     alloc: Global,
     wanted: bool,
     target: &Target<'_>,
-    loaded: &Loaded,
+    loaded: &LinkedObject,
 ) -> Result<Vec<u8>, PutFault>
     ensures ok { IfOk result (λ table. IsTableOf wanted target.now loaded.now table.items) }
     ensures err { IfErr result (HasNoTable wanted target.now loaded.now) }
@@ -201,11 +203,11 @@ pub fn made_of(
     target: &Target<'_>,
     object: &[u8],
 ) -> Result<Made, PutFault>
-    ensures program { IfOk result (λ made. Loads target.now object.now made.loaded) }
+    ensures program { IfOk result (λ made. LinksTo target.now object.now made.loaded) }
     ensures table { IfOk result (λ made. IsTableOf wanted target.now made.loaded made.table.items) }
     ensures err { IfErr result (IsUnmade wanted target.now object.now) }
 {
-    let loaded = match load(alloc, object, target) {
+    let loaded = match link_object(alloc, object, target) {
         Ok(loaded) => loaded,
         Err(fault) => return Err(kept_object(alloc, &fault)),
     };

@@ -12,8 +12,8 @@ returns-in-Err-clause-does g c = Refused c.in-Err.refusal c.in-Err.ensures.err r
 pub returns-clause-does : goal.returns-clause-does
 returns-clause-does g c =
     let o = c.in-Ok.ensures.ok in
-    let from = start_of c.args.job.now o.code in
-    session-ends c.args.job.now _ _ o.code c.run-served.result c.session_ended.result o.opens
+    let from = start_of c.args.job.now c.args.program in
+    session-ends c.args.job.now _ _ c.run-served.result c.session_ended.result o.room
     (both-ok c.run-served.result c.run-served.ensures.value c.run-served.ensures.ok (λ value spared. (
       λ script told left held.
           let r = value from script told o.begins left held in

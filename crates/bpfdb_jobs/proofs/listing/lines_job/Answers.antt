@@ -1,4 +1,4 @@
-use Rattle.std.proofs.Common.{refl, subst, sym}
+use Rattle.std.proofs.Common.{◌∙◌, refl, subst, sym}
 use Rattle.bpfdb_jobs.specs.Endings.{Refused}
 use Rattle.bpfdb_jobs.specs.Jobs.{IsTable}
 use Rattle.bpfdb_jobs.specs.Refusals.{RefusesLines}
@@ -10,11 +10,11 @@ use Rattle.bpfdb_jobs.proofs.listing.lines_job.Goals as goal
 pub returns-in-Ok-clause-does : goal.returns-in-Ok-clause-does
 returns-in-Ok-clause-does g c =
     out-printed Lines c.args.job.now c.in-Ok.table.items c.write_out-written.result c.ended.result
-    (c.in-Ok.table.items, subst (λ b. IsTable b c.args.job.now c.in-Ok.table.items) (sym c.if-job.false) c.in-Ok.ensures.ok, refl)
+    (c.in-Ok.table.items, subst (λ b. IsTable b c.args.job.now c.in-Ok.table.items) (sym (sym c.links_first.ensures ∙ c.if-links_first.false)) c.in-Ok.ensures.ok, refl)
     (rw c.as_slice.ensures.value at c.write_out-written.ensures)
     c.ended.ensures.ok c.ended.ensures.err
 
 pub returns-in-Err-clause-does : goal.returns-in-Err-clause-does
 returns-in-Err-clause-does g c =
-    Refused (Listing c.in-Err.fault) (subst (λ b. RefusesLines b c.args.job.now (Listing c.in-Err.fault)) (sym c.if-job.false) c.in-Err.ensures.err) refl
+    Refused (Listing c.in-Err.fault) (subst (λ b. RefusesLines b c.args.job.now (Listing c.in-Err.fault)) (sym (sym c.links_first.ensures ∙ c.if-links_first.false)) c.in-Err.ensures.err) refl
     c.give_up.ensures.told c.give_up.ensures.value

@@ -1,5 +1,5 @@
 use Rattle.std.proofs.Common.{refl, subst, sym}
-use Rattle.std.specs.Prelude.{None, Option, Some, ℕ}
+use Rattle.std.specs.Prelude.{Option, ℕ}
 use Rattle.bpfdb_faults.specs.declared.refusal.JobRefusal.TheVariants.{Functions, Object}
 use Rattle.bpfdb_jobs.specs.Refusals.{TellsFault}
 use Rattle.bpfdb_jobs.proofs.object.refuse_object.Goals as goal

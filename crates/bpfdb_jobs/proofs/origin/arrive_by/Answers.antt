@@ -1,4 +1,4 @@
-use Rattle.std.proofs.Common.{◌∙◌, ap}
+use Rattle.std.proofs.Common.{◌∙◌, ap, refl}
 use Rattle.bpf_ring.specs.declared.keeper.RingKeeper.{RingKeeper}
 use Rattle.bpf_steps.specs.State.{State}
 use Rattle.bpfdb_jobs.proofs.Originating.{script-arrives, script-refuses}
@@ -11,17 +11,19 @@ returns-in-Err-clause-err c = session-arrival c.args.job.now c.in-Err.refusal c.
 pub returns-in-Err-wanted_of-clause-err : goal.returns-in-Err-wanted_of-clause-err
 returns-in-Err-wanted_of-clause-err c =
     let o = c.in-Ok.ensures.ok in
-    session-arrival c.args.job.now c.in-Err-wanted_of.refusal (no-places c.args.job.now o.code c.in-Err-wanted_of.refusal o.opens c.in-Err-wanted_of.ensures)
+    session-arrival c.args.job.now c.in-Err-wanted_of.refusal (no-places c.args.job.now c.in-Err-wanted_of.refusal o.room.short o.room.sized c.in-Err-wanted_of.ensures)
 
 pub returns-in-Err-obey_script-clause-err : goal.returns-in-Err-obey_script-clause-err
 returns-in-Err-obey_script-clause-err c =
-    script-refuses c.args.job.now c.args.script c.requires.script c.in-Ok.session c.obey_script.new.session c.in-Ok.ensures.ok
+    script-refuses c.args.job.now c.args.loaded c.requires.loaded c.args.script c.requires.script c.in-Ok.session c.obey_script.new.session c.in-Ok.ensures.ok
     c.in-Err-obey_script.refusal c.in-Err-obey_script.ensures
 
 pub returns-clause-ok : goal.returns-clause-ok
-returns-clause-ok c =
-    script-arrives c.args.job.now c.args.script c.requires.script c.in-Ok.session c.obey_script.new.session c.in-Ok.ensures.ok
-    c.in-Ok-obey_script.moves c.open.result
-    (c.open.ensures.state ∙ ap (λ (pair : State × RingKeeper). pair.0) c.close-cpu.ensures.same)
-    (c.open.ensures.keeper ∙ ap (λ (pair : State × RingKeeper). pair.1) c.close-cpu.ensures.same)
-    c.in-Ok-obey_script.ensures
+returns-clause-ok c = (
+  refl,
+  script-arrives c.args.job.now c.args.loaded c.requires.loaded c.args.script c.requires.script c.in-Ok.session c.obey_script.new.session c.in-Ok.ensures.ok
+      c.in-Ok-obey_script.moves c.open.result
+      (c.open.ensures.state ∙ ap (λ (pair : State × RingKeeper). pair.0) c.close-cpu.ensures.same)
+      (c.open.ensures.keeper ∙ ap (λ (pair : State × RingKeeper). pair.1) c.close-cpu.ensures.same)
+      c.in-Ok-obey_script.ensures,
+)

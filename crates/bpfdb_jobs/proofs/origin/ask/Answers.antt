@@ -9,7 +9,7 @@ pub returns-in-Err-clause-does : goal.returns-in-Err-clause-does
 returns-in-Err-clause-does g c =
     let at = c.args.arrived in
     Refused (What c.in-Err.fault)
-    (origin-refuses c.args.job.now at.timeline at.moves c.requires c.in-Err.fault (rw c.cpu.ensures at c.in-Err.ensures.err))
+    (origin-refuses c.args.job.now _ at.timeline at.moves c.requires.arrived c.in-Err.fault (rw c.cpu.ensures at c.in-Err.ensures.err))
     refl c.give_up.ensures.told c.give_up.ensures.value
 
 pub ask_branches-requires-clause-parts : goal.ask_branches-requires-clause-parts
@@ -19,4 +19,4 @@ pub tell-requires : goal.tell-requires
 tell-requires g c =
     let at = c.args.arrived in
     rw c.as_slice-else-job.ensures.value
-    (nothing-behind c.args.job.now at.timeline at.moves c.requires c.in-Ok.parts.items (rw c.cpu.ensures at c.in-Ok.ensures.ok) c.if-job.false)
+    (nothing-behind c.args.job.now _ at.timeline at.moves c.requires.arrived c.args.known c.requires.known c.in-Ok.parts.items (rw c.cpu.ensures at c.in-Ok.ensures.ok) c.if-job.false)

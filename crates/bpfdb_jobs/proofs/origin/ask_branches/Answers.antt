@@ -12,12 +12,12 @@ tell-requires g c =
     let a = c.requires.arrived in
     let h = a.at.point.history in
     rw c.as_slice.ensures.value
-    (branches-behind job c.args.arrived.timeline c.args.arrived.moves a c.question_of.result c.args.parts.now c.in-Ok.found c.requires.parts c.requires.branches
+    (branches-behind job _ c.args.arrived.timeline c.args.arrived.moves a c.args.known c.requires.known c.question_of.result c.args.parts.now c.in-Ok.found c.requires.parts c.requires.branches
     (c.question_of.ensures h a.held) (c.in-Ok.ensures h a.held))
 
 pub returns-in-Err-clause-does : goal.returns-in-Err-clause-does
 returns-in-Err-clause-does g c =
     let job = c.args.job.now in
     let a = c.requires.arrived in
-    Refused (Journal OutOfMemory) (arrival-origin job (Journal OutOfMemory) (session-arrival job (Journal OutOfMemory) (no-places job a.code (Journal OutOfMemory) a.opens refl)))
+    Refused (Journal OutOfMemory) (arrival-origin job (Journal OutOfMemory) (session-arrival job (Journal OutOfMemory) (no-places job (Journal OutOfMemory) a.opens.opens.short a.opens.sized refl)))
     refl c.give_up.ensures.told c.give_up.ensures.value

@@ -17,7 +17,7 @@ returns-in-Err-clause-does g c =
     let at = c.args.arrived in
     let told = c.refuse.ensures.told in
     Refused (Object c.in-Err.why told.0)
-    (names-refuse c.args.job.now at.timeline at.moves c.requires.arrived c.args.parts.now c.requires.asked c.in-Err.why told.0
+    (names-refuse c.args.job.now _ at.timeline at.moves c.requires.arrived c.args.parts.now c.requires.asked c.in-Err.why told.0
     (rw c.bytes_of.ensures at told.1, c.in-Err.ensures.err))
     refl told.2 c.refuse.ensures.value
 
@@ -34,7 +34,8 @@ returns-in-Ok-written-clause-does g c =
     let w = rw (c.in-Ok-written.is, c.as_ref.ensures.value) at c.in-Ok-put_told.ensures.text h a.held in
     let extent = c.in-Ok-put_told.ensures.extent h a.held in
     Printed (named_print c.in-Ok.names x (followed_by (answer_about q c.args.parts.now h x) tail))
-    (origin-prints job at.timeline at.moves a q asked.0 c.args.parts.now (c.question_of-question.ensures h a.held) asked.1 asked.2 tail c.requires.is
+    (origin-prints job _ at.timeline at.moves a q asked.0 c.args.parts.now (c.question_of-question.ensures h a.held) asked.1 asked.2
+    c.requires.known c.requires.is_known tail c.requires.is
     c.in-Ok.names c.in-Ok.ensures.ok)
     (w.ok, w.same) refl (c.status_of.ensures ∙ ap status_of_extent (c.both_of.ensures ∙ ap (λ (e : Extent). both_extents e c.args.tail.extent) extent))
 
@@ -50,7 +51,8 @@ returns-in-Ok-put_told-clause-does g c =
     let asked = c.requires.asked in
     let w = rw (c.in-Err-written.is, c.as_ref.ensures.value) at c.in-Ok-put_told.ensures.text h a.held in
     OutLost (named_print c.in-Ok.names x (followed_by (answer_about q c.args.parts.now h x) tail))
-    (origin-prints job at.timeline at.moves a q asked.0 c.args.parts.now (c.question_of-question.ensures h a.held) asked.1 asked.2 tail c.requires.is
+    (origin-prints job _ at.timeline at.moves a q asked.0 c.args.parts.now (c.question_of-question.ensures h a.held) asked.1 asked.2
+    c.requires.known c.requires.is_known tail c.requires.is
     c.in-Ok.names c.in-Ok.ensures.ok)
     (w.err, w.fault) c.give_up.ensures.told c.give_up.ensures.value
 
@@ -58,5 +60,5 @@ pub returns-clause-does : goal.returns-clause-does
 returns-clause-does g c =
     let job = c.args.job.now in
     let a = c.requires.arrived in
-    Refused (Journal OutOfMemory) (arrival-origin job (Journal OutOfMemory) (session-arrival job (Journal OutOfMemory) (no-places job a.code (Journal OutOfMemory) a.opens refl)))
+    Refused (Journal OutOfMemory) (arrival-origin job (Journal OutOfMemory) (session-arrival job (Journal OutOfMemory) (no-places job (Journal OutOfMemory) a.opens.opens.short a.opens.sized refl)))
     c.in-Err-put_told.ensures.same c.give_up-in-Err-put_told.ensures.told c.give_up-in-Err-put_told.ensures.value

@@ -6,6 +6,7 @@ use Rattle.bpf_trace.specs.Written.{unwritten_of}
 use Rattle.bpf_trace.specs.declared.strict_run.Unwritten.{Unwritten}
 use Rattle.bpfdb_jobs.specs.Jobs.{unwritten_in}
 use Rattle.bpfdb_jobs.specs.declared.job.Job.{Job}
+use Rattle.bpfdb_jobs.proofs.Refusing.{opening-machine}
 use Rattle.bpfdb_jobs.proofs.strict.strict_machine.Goals as goal
 
 not-strict : (job : Job) (x : State) → job.options.is_strict ≡ false → None ≡ unwritten_in job x
@@ -17,18 +18,17 @@ is-strict job x y read is e found =
     found ∙ ap (unwritten_of job.options.limit) (sym e) ∙ ap (λ (b : Bool). if b then unwritten_of job.options.limit y else None) (sym is)
 
 pub returns-then-not-job-clause-ok : goal.returns-then-not-job-clause-ok
-returns-then-not-job-clause-ok c =
-    let o = c.in-Ok.ensures.ok in
-    (o.0, o.1, o.2, not-strict c.args.job.now c.in-Ok.cpu c.if-not-job.true)
+returns-then-not-job-clause-ok c = (c.in-Ok.ensures.ok, not-strict c.args.job.now c.in-Ok.cpu c.if-not-job.true)
 
 pub returns-in-Ok-reopen-clause-ok : goal.returns-in-Ok-reopen-clause-ok
 returns-in-Ok-reopen-clause-ok c =
     let o = c.in-Ok.ensures.ok in
-    let program = c.find_unwritten-unwritten.ensures.program ∙ ap (λ (s : State). s.program) o.2 in
+    let program = c.find_unwritten-unwritten.ensures.program ∙ ap (λ (s : State). s.program) o.1 in
     let again = c.in-Ok-reopen.ensures.ok.1 ∙ ap (λ (p : Checked). initial p c.args.job.now.context.now) program in
-    (o.0, o.1, again, is-strict c.args.job.now c.in-Ok.cpu _ _ c.if-not-job.false (again ∙ sym o.2) c.find_unwritten-unwritten.ensures.found)
+    ((o.0, again), is-strict c.args.job.now c.in-Ok.cpu _ _ c.if-not-job.false (again ∙ sym o.1) c.find_unwritten-unwritten.ensures.found)
+
+pub returns-in-Err-clause-err : goal.returns-in-Err-clause-err
+returns-in-Err-clause-err c = opening-machine c.args.job.now c.in-Err.refusal c.in-Err.ensures.err
 
 pub returns-clause-err : goal.returns-clause-err
-returns-clause-err c =
-    let o = c.in-Ok.ensures.ok in
-    (o.0, o.1.program, c.in-Err-reopen.ensures.err)
+returns-clause-err c = c.in-Err-reopen.ensures.err
