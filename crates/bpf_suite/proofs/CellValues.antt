@@ -1,5 +1,6 @@
 -- Cells get their values one after another, up to the first that isn't there.
-use Rattle.std.proofs.Common.{ℕ, ◌≡◌, ◌≤◌, ◌<◌, ◌+◌, List, [], ◌∷◌, ◌++◌, drop, length, get_or, Option, Some, None, Ok, Err, refl, sym, ap, subst, ◌∙◌}
+use Rattle.std.proofs.Common.{ℕ, ◌≡◌, ◌≤◌, ◌<◌, ◌+◌, List, [], ◌∷◌, ◌++◌, drop, length, get_or, Option, Some, None, refl, sym, ap, subst, ◌∙◌}
+use Rattle.std.specs.Prelude.{IfSome, IsSome}
 use Rattle.std.specs.List.{filter_map}
 use Rattle.std.proofs.lemmas.List.{drop_more}
 use Rattle.std.proofs.lemmas.List.Elements.{filter_map-append}
@@ -12,7 +13,8 @@ use Rattle.bpf_machine.specs.declared.edit.Edit.TheVariants as edit
 use Rattle.bpf_steps.specs.declared.fault.OpenFault.TheVariants as unopened
 use Rattle.bpf_session.specs.Plain.{plain_end}
 use Rattle.bpf_suite.specs.Cells.{cell_of}
-use Rattle.bpf_suite.specs.Images.{IsImageOf, Makes, with_runs}
+use Rattle.bpf_suite.specs.Asks.{IsMissing}
+use Rattle.bpf_suite.specs.Images.{IsImageFor, Lead, with_runs}
 use Rattle.bpf_suite.specs.Outcomes.{Ends, IsProgramOf, Refuses, RefusesCells, edit_of, is_there, missing, with_cells}
 use Rattle.bpf_suite.specs.Regs.{with_regs}
 use Rattle.bpf_suite.specs.declared.cells.Cell.{Cell}
@@ -84,18 +86,16 @@ ends-opened t code x y z is short opened none given ran =
     (code, record { program = is; short = short }, none, ran ∙ ap (λ s. plain_end t.limit (with_regs t.regs s)) (given ∙ ap (with_cells t.cells) opened))
 
 -- the same by an image
-module _ (t : Setting) (code : Checked) (image : Image) (is : IsProgramOf t code) (short : length t.context ≤ context_limit) (of : IsImageOf t.cells image)
-    (maps : image.maps ≡ t.maps) where
-  makes : Makes t.cells code.maps image.runs
-  makes = of code.maps (subst (λ (m : Option (List ℕ)). Rattle.bpf_suite.specs.Tables.HasMaps m code.maps) (sym maps) is.maps)
+module _ (t : Setting) (code : Checked) (image : Image) (is : IsImageFor t code image) (short : length t.context ≤ context_limit) where
+  pub ends-by-image : (x y z : State) (runs : List Run) → image.runs ≡ Some runs → missing code.maps t.cells ≡ None → x ≡ initial code t.context → y ≡ with_runs runs x
+      → z ≡ plain_end t.limit (with_regs t.regs y) → Ends t z
+  ends-by-image x y z runs here none opened given ran =
+      let leads : Lead t.cells runs = subst (λ (rs : Option (List Run)). IfSome rs (Lead t.cells)) here is.made.runs in
+      ends-opened t code x y z is.program short opened none
+      (given ∙ ap (with_runs runs) opened ∙ leads code t.context is.program.accepted.tables none short ∙ ap (with_cells t.cells) (sym opened)) ran
 
-  pub ends-by-image : (x y z : State) (runs : List Run) → image.runs ≡ Ok runs → x ≡ initial code t.context → y ≡ with_runs runs x → z ≡ plain_end t.limit (with_regs t.regs y) → Ends t z
-  ends-by-image x y z runs here opened given ran =
-      let made = subst (Makes t.cells code.maps) here makes in
-      ends-opened t code x y z is short opened made.0
-      (given ∙ ap (with_runs runs) opened ∙ made.1 code t.context refl short ∙ ap (with_cells t.cells) (sym opened)) ran
+  pub refuses-by-image : (refusal : Refusal) → IsMissing code.maps t.cells (Some refusal) → Refuses t refusal
+  refuses-by-image refusal m = subst (Refuses t) (sym m.2) (code, record { program = is.program; short = short }, m.0, m.1, refl, refl)
 
-  pub refuses-by-image : (refusal : Refusal) → image.runs ≡ Err refusal → Refuses t refusal
-  refuses-by-image refusal here =
-      let made = subst (Makes t.cells code.maps) here makes in
-      subst (Refuses t) (sym made.2) (code, record { program = is; short = short }, made.0, made.1, refl, refl)
+  pub never-unknown : image.runs ≡ None → missing code.maps t.cells ≡ None → ⊥
+  never-unknown unknown none = let no = subst IsSome unknown (is.known none) in cc

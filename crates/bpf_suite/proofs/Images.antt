@@ -17,23 +17,20 @@ use Rattle.bpf_steps.specs.Regions.{Image, index_in, index_of, is_from_frame, ma
 use Rattle.bpf_steps.specs.State.{IsState, State, initial}
 use Rattle.bpf_machine.specs.declared.edit.Edit.TheVariants as edit
 use Rattle.bpf_machine.specs.declared.edit.EditFault.{EditFault}
-use Rattle.bpf_steps.specs.declared.fault.OpenFault.TheVariants as unopened
 use Rattle.bpf_machine.specs.declared.edit.EditFault.TheVariants.{AddressNotPresent}
 use Rattle.bpf_steps.proofs.Indices.{in_maps_below, index_above, index_here}
 use Rattle.bpf_steps.proofs.Spans.{first_shape, later_shapes}
 use Rattle.bpf_suite.specs.Cells.{cell_of, is_value_len, sized, value_of}
 use Rattle.bpf_suite.specs.Bodies.{bytes_of}
-use Rattle.bpf_suite.specs.Images.{AreAll, AreIn, Holds, Makes, map_bytes, pasted, run_of, with_runs}
-use Rattle.bpf_suite.specs.Outcomes.{RefusesCells, edit_of, is_memory, missing, with_cells}
-use Rattle.bpf_suite.specs.Tables.{HasMaps}
+use Rattle.bpf_suite.specs.Images.{AreAll, AreIn, ArePresent, Holds, Shows, map_bytes, pasted, run_of, with_runs}
+use Rattle.bpf_suite.specs.Outcomes.{edit_of, with_cells}
 use Rattle.bpf_suite.specs.declared.cells.Cell.{Cell}
 use Rattle.bpf_suite.specs.declared.cells.CellLine.{CellLine}
 use Rattle.bpf_suite.specs.declared.image.Run.{Run}
-use Rattle.bpf_suite.specs.declared.refusal.Refusal.{Refusal}
-use Rattle.bpf_suite.specs.declared.refusal.Refusal.TheVariants.{Maps, Listing, Load, Open, NoCell}
 
 -- where a run of a map stands among the bytes of all maps
-pub map_place : (i q r n : ℕ) (shapes : List MapShape) (shape : MapShape) → All IsShape shapes → slice_get shapes q ≡ Some shape → 1 ≤ n → r + n ≤ map_len shape
+pub map_place : (i q r n : ℕ) (shapes : List MapShape) (shape : MapShape) → ((k : ℕ) (s : MapShape) → slice_get shapes k ≡ Some s → map_len s ≤ 65536)
+    → slice_get shapes q ≡ Some shape → 1 ≤ n → r + n ≤ map_len shape
     → index_in (maps_from i shapes) (map_address (i + q) + r) n ≡ Some (maps_len (take q shapes) + r)
 unfolding maps_from
 map_place i q r n [] shape h here some fits = cc
@@ -43,9 +40,9 @@ map_place i zero r n (s ∷ shapes) shape h here some fits =
     index_here (record { base = map_address i; len = map_len s }) (maps_from (suc i) shapes) (map_address (i + 0) + r) n (omega arith) (omega (arith, long, fits))
     ∙ ap Some (omega arith)
 map_place i (suc q) r n (s ∷ shapes) shape h here some fits =
-    let short = (first_shape s shapes h).total in
+    let short = h 0 s refl in
     let up : suc i + q ≡ i + suc q = omega arith in
-    let rest = map_place (suc i) q r n shapes shape (later_shapes s shapes h) here some fits in
+    let rest = map_place (suc i) q r n shapes shape (λ k t there. h (suc k) t there) here some fits in
     let whole = sum_by-cons map_len s (take q shapes) in
     index_above (record { base = map_address i; len = map_len s }) (maps_from (suc i) shapes) (map_address (i + suc q) + r) n (omega (arith, short))
     ∙ ap (λ k. option_map (λ at. map_len s + at) (index_in (maps_from (suc i) shapes) (map_address k + r) n)) (sym up)
@@ -128,7 +125,7 @@ put-behind m front bytes new a here long short low some =
         ∙ ap (λ (bs : List ℕ). record m { bytes = bs }) (paste-behind front bytes new at)
 
 -- a machine with other bytes in its maps, behind the same ones
-abbrev with_maps_of : State → List ℕ → List ℕ → State
+abbrev pub with_maps_of : State → List ℕ → List ℕ → State
 with_maps_of x front bytes = record x { memory = record x.memory { bytes = front ++ bytes } }
 
 runs-behind : (maps : List MapShape) (runs : List Run) (x : State) (front bytes : List ℕ) → AreIn runs → x.memory.maps ≡ maps → x.memory.bytes ≡ front ++ bytes
@@ -145,10 +142,10 @@ runs-behind maps (run ∷ runs) x front bytes in' same here long short =
     ap (with_runs runs) first ∙ runs-behind maps runs y front next in'.2 same refl long short
 
 -- cells are runs
-abbrev as_run : Cell → Run
+abbrev pub as_run : Cell → Run
 as_run cell = record { address = cell_address cell.map cell.index (length cell.value); bytes = cell.value }
 
-cells-runs : (cells : List Cell) (x : State) → with_cells cells x ≡ with_runs (map as_run cells) x
+pub cells-runs : (cells : List Cell) (x : State) → with_cells cells x ≡ with_runs (map as_run cells) x
 unfolding edited
 cells-runs [] x = refl
 cells-runs (cell ∷ cells) x = cells-runs cells (edited x (edit_of cell))
@@ -160,13 +157,13 @@ sized-some bytes value e = go (is_value_len (length bytes)) refl e where
   go true long same = let is : bytes ≡ value = cc in subst (λ (v : List ℕ). 1 ≤ length v) is (grind (arith, nat_tests))
   go false long same = cc
 
-value-some : (line : CellLine) (value : List ℕ) → value_of line ≡ Some value → 1 ≤ length value
+pub value-some : (line : CellLine) (value : List ℕ) → value_of line ≡ Some value → 1 ≤ length value
 value-some line value e = from (bytes_of line.digits) e where
   from : (bytes : Option (List ℕ)) → option_and_then sized bytes ≡ Some value → 1 ≤ length value
   from None e = cc
   from (Some bytes) e = sized-some bytes value e
 
-cells-in : (lines : List CellLine) → AreIn (map as_run (filter_map cell_of lines))
+pub cells-in : (lines : List CellLine) → AreIn (map as_run (filter_map cell_of lines))
 cells-in [] = tt
 cells-in (line ∷ lines) = go (value_of line) refl (cells-in lines) where
   go : (value : Option (List ℕ)) → value_of line ≡ value → AreIn (map as_run (filter_map cell_of lines)) → AreIn (map as_run (filter_map cell_of (line ∷ lines)))
@@ -183,7 +180,7 @@ opening-bytes code context =
 opening-front : (context : List ℕ) → length (context ++ replicate (frame_len * frame_count) 0) ≡ behind (length context)
 opening-front context = length-append context (replicate (frame_len * frame_count) 0) ∙ ap (λ n. length context + n) (length-replicate {A = ℕ} (frame_len * frame_count) 0)
 
-opened-runs : (maps : List MapShape) (code : Checked) (context : List ℕ) (runs : List Run) → code.maps ≡ maps → length context ≤ context_limit → AreIn runs
+pub opened-runs : (maps : List MapShape) (code : Checked) (context : List ℕ) (runs : List Run) → code.maps ≡ maps → length context ≤ context_limit → AreIn runs
     → with_runs runs (initial code context)
     ≡ with_maps_of (initial code context) (context ++ replicate (frame_len * frame_count) 0) (pasted maps runs (replicate (maps_len maps) 0))
 opened-runs maps code context runs same short in' =
@@ -192,7 +189,7 @@ opened-runs maps code context runs same short in' =
     (opening-front context) short
 
 -- what stands in the maps of a machine that was opened on no context and got cells
-map_bytes-cells : (code : Checked) (runs : List Run) → AreIn runs
+pub map_bytes-cells : (code : Checked) (runs : List Run) → AreIn runs
     → map_bytes (with_runs runs (initial code [])) ≡ pasted code.maps runs (replicate (maps_len code.maps) 0)
 map_bytes-cells code runs in' =
     let front : List ℕ = replicate (frame_len * frame_count) 0 in
@@ -200,22 +197,6 @@ map_bytes-cells code runs in' =
     ap map_bytes (opened-runs code.maps code [] runs refl (omega arith) in')
     ∙ ap (λ n. drop n (front ++ P)) (sym (length-replicate {A = ℕ} (frame_len * frame_count) 0))
     ∙ drop-append_seam front P
-
-pub makes-runs : (lines : List CellLine) (code : Checked) (x : State) (runs : List Run) → x ≡ with_cells (filter_map cell_of lines) (initial code [])
-    → missing code.maps (filter_map cell_of lines) ≡ None → x.program ≡ code → AreAll x runs → Makes (filter_map cell_of lines) code.maps (Ok runs)
-makes-runs lines code x runs e none program all =
-    let cells = filter_map cell_of lines in
-    let mine = map as_run cells in
-    let held : pasted code.maps runs (replicate (maps_len code.maps) 0) ≡ pasted code.maps mine (replicate (maps_len code.maps) 0) =
-    subst (λ (p : Checked). pasted p.maps runs (replicate (maps_len p.maps) 0) ≡ map_bytes x) program all.held
-    ∙ ap map_bytes (e ∙ cells-runs cells (initial code [])) ∙ map_bytes-cells code mine (cells-in lines) in (
-      none,
-      (λ other context same short.
-          opened-runs code.maps other context runs same short all.placed
-          ∙ ap (λ (bs : List ℕ). with_maps_of (initial other context) (context ++ replicate (frame_len * frame_count) 0) bs) held
-          ∙ sym (opened-runs code.maps other context mine same short (cells-in lines))
-          ∙ sym (cells-runs cells (initial other context))),
-    )
 
 -- one run more
 pasted-append : (maps : List MapShape) (runs more : List Run) (bytes : List ℕ) → pasted maps (runs ++ more) bytes ≡ pasted maps more (pasted maps runs bytes)
@@ -275,13 +256,19 @@ held-more maps runs zeros front bytes a j n left before long size found false e 
     ∙ paste-behind front (replicate (n + left) 0) bytes 0
     ∙ ap (λ s. front ++ s) (paste-first n left bytes size)
 
-holds-more : (x : State) (runs : List Run) (a j n : ℕ) (bytes : List ℕ) → length (map_bytes x) ≡ maps_len x.program.maps → Holds x runs j → map_base ≤ a → 1 ≤ n
-    → length bytes ≡ n → index_in (maps_from 0 x.program.maps) a n ≡ Some j → j + n ≤ maps_len x.program.maps → bytes ≡ slice_range (map_bytes x) j (j + n)
-    → Holds x (runs ++ run_of a bytes) (j + n)
-holds-more x runs a j n bytes long h low some size found fits same =
-    let maps = x.program.maps in
+present-more : (maps : List MapShape) (runs : List Run) (a j : ℕ) (bytes : List ℕ) → ArePresent maps runs → index_in (maps_from 0 maps) a (length bytes) ≡ Some j
+    → ArePresent maps (runs ++ run_of a bytes)
+present-more maps [] a j bytes h found = go (list_all (λ b. b == 0) bytes) refl where
+  go : (b : Bool) → list_all (λ b. b == 0) bytes ≡ b → ArePresent maps (run_of a bytes)
+  go true e = rw e tt
+  go false e = rw e ((j, found), tt)
+present-more maps (run ∷ runs) a j bytes h found = (h.0, present-more maps runs a j bytes h.1 found)
+
+holds-more : (maps : List MapShape) (M : List ℕ) (runs : List Run) (a j n : ℕ) (bytes : List ℕ) → length M ≡ maps_len maps → Holds maps M runs j → map_base ≤ a → 1 ≤ n
+    → length bytes ≡ n → index_in (maps_from 0 maps) a n ≡ Some j → j + n ≤ maps_len maps → bytes ≡ slice_range M j (j + n)
+    → Holds maps M (runs ++ run_of a bytes) (j + n)
+holds-more maps M runs a j n bytes long h low some size found fits same =
     let L = maps_len maps in
-    let M = map_bytes x in
     let left = L - (j + n) in
     let wide : (j + n) - j ≡ n = omega arith in
     let apart : L - j ≡ n + left = omega (arith, fits) in
@@ -292,6 +279,7 @@ holds-more x runs a j n bytes long h low some size found fits same =
     let front : length (take j M) ≡ j = length-take-le j M (omega (arith, long, fits)) in
     record {
       placed = in-more runs a bytes h.placed low (omega (arith, some, size));
+      present = present-more maps runs a j bytes h.present (ap (index_in (maps_from 0 maps) a) size ∙ found);
       held = held-more maps runs (replicate L 0) (take j M) bytes a j n left before front size found (list_all (λ b. b == 0) bytes) refl ∙ sym whole;
     }
 
@@ -313,42 +301,49 @@ run-read x a n j is low some found =
     ∙ ap (λ s. Some (take ((j + n) - j) s)) (sym (drop-drop j B x.memory.bytes))
 
 -- no run holds the first 0 bytes
-pub holds-none : (x : State) → Holds x [] 0
-holds-none x = record {
+pub holds-none : (maps : List MapShape) (bytes : List ℕ) → Holds maps bytes [] 0
+holds-none maps bytes = record {
   placed = tt;
-  held = ap (λ k. replicate k 0) (same (maps_len x.program.maps));
+  present = tt;
+  held = ap (λ k. replicate k 0) (same (maps_len maps));
 } where
   same : (n : ℕ) → n ≡ n - 0
   same n = omega arith
 
-pub holds-all : (x : State) (runs : List Run) (n : ℕ) → IsState x → Holds x runs n → n ≡ maps_len x.program.maps → AreAll x runs
-holds-all x runs n is h all =
-    let M = map_bytes x in
-    let L = maps_len x.program.maps in
-    let none : L - n ≡ 0 = omega (arith, all) in
-    let enough : length M ≤ n = omega (arith, all, map_bytes-long x is) in
+pub holds-all : (maps : List MapShape) (bytes : List ℕ) (runs : List Run) (n : ℕ) → length bytes ≡ maps_len maps → Holds maps bytes runs n → n ≡ maps_len maps
+    → AreAll maps bytes runs
+holds-all maps bytes runs n long h all =
+    let none : maps_len maps - n ≡ 0 = omega (arith, all) in
+    let enough : length bytes ≤ n = omega (arith, all, long) in
     record {
       placed = h.placed;
-      held = h.held ∙ ap (λ k. take n M ++ replicate k 0) none ∙ append-nil (take n M) ∙ take_all n M enough;
+      present = h.present;
+      held = h.held ∙ ap (λ k. take n bytes ++ replicate k 0) none ∙ append-nil (take n bytes) ∙ take_all n bytes enough;
     }
 
 -- bytes that are read of a machine's maps, behind those that its runs hold
-pub holds-read : (x : State) (old new : List Run) (a n j : ℕ) (bytes : List ℕ) → IsState x → map_base ≤ a → 1 ≤ n → length bytes ≡ n
-    → Some bytes ≡ run_at x.memory a n → new ≡ old ++ run_of a bytes → Holds x old j → index_in (maps_from 0 x.program.maps) a n ≡ Some j
-    → j + n ≤ maps_len x.program.maps → Holds x new (j + n)
-holds-read x old new a n j bytes is low some size read more h found fits =
-    let same : Some bytes ≡ Some (slice_range (map_bytes x) j (j + n)) = read ∙ run-read x a n j is low some found in
-    let mine : bytes ≡ slice_range (map_bytes x) j (j + n) = cc in
-    subst (λ (rs : List Run). Holds x rs (j + n)) (sym more) (holds-more x old a j n bytes (map_bytes-long x is) h low some size found fits mine)
+holds-read : (x : State) (maps : List MapShape) (M : List ℕ) (old new : List Run) (a n j : ℕ) (bytes : List ℕ) → Shows x maps M → map_base ≤ a → 1 ≤ n → length bytes ≡ n
+    → Some bytes ≡ run_at x.memory a n → new ≡ old ++ run_of a bytes → Holds maps M old j → index_in (maps_from 0 maps) a n ≡ Some j
+    → j + n ≤ maps_len maps → Holds maps M new (j + n)
+holds-read x maps M old new a n j bytes shows low some size read more h found fits =
+    let same : Some bytes ≡ Some (slice_range M j (j + n)) = read ∙ shows.read a n j low some found in
+    let mine : bytes ≡ slice_range M j (j + n) = cc in
+    subst (λ (rs : List Run). Holds maps M rs (j + n)) (sym more) (holds-more maps M old a j n bytes shows.long h low some size found fits mine)
 
 pub nothing-read : (x : State) (a n j : ℕ) → IsState x → map_base ≤ a → 1 ≤ n → run_at x.memory a n ≡ None → index_in (maps_from 0 x.program.maps) a n ≡ Some j → ⊥
 nothing-read x a n j is low some none found = let there = sym none ∙ run-read x a n j is low some found in cc
 
-pub holds-pushed : {E : Type 0} (x : State) (old new : List Run) (a n : ℕ) (bytes : List ℕ) (result : Result (Unit {0}) E) → IsState x → map_base ≤ a → 1 ≤ n
+pub holds-pushed : {E : Type 0} (x : State) (old new : List Run) (a n : ℕ) (bytes : List ℕ) (result : Result (Unit {0}) E) → map_base ≤ a → 1 ≤ n
     → length bytes ≡ n → Some bytes ≡ run_at x.memory a n → OnOk result (new ≡ old ++ run_of a bytes)
-    → OnOk result ((j : ℕ) → Holds x old j → index_in (maps_from 0 x.program.maps) a n ≡ Some j → j + n ≤ maps_len x.program.maps → Holds x new (j + n))
-holds-pushed x old new a n bytes (Ok done) is low some size read more = λ j h found fits. holds-read x old new a n j bytes is low some size read more h found fits
-holds-pushed x old new a n bytes (Err fault) is low some size read more = tt
+    → OnOk result ((maps : List MapShape) (M : List ℕ) (j : ℕ) → Shows x maps M → index_in (maps_from 0 maps) a n ≡ Some j → j + n ≤ maps_len maps
+    → Holds maps M old j → Holds maps M new (j + n))
+holds-pushed x old new a n bytes (Ok done) low some size read more =
+    λ maps M j shows found fits h. holds-read x maps M old new a n j bytes shows low some size read more h found fits
+holds-pushed x old new a n bytes (Err fault) low some size read more = tt
+
+pub not-shown : (x : State) (maps : List MapShape) (M : List ℕ) (a n j : ℕ) → Shows x maps M → map_base ≤ a → 1 ≤ n → run_at x.memory a n ≡ None
+    → index_in (maps_from 0 maps) a n ≡ Some j → ⊥
+not-shown x maps M a n j shows low some none found = let there = sym none ∙ shows.read a n j low some found in cc
 
 -- zeros are no run
 pub run_of-none : (runs : List Run) (a : ℕ) (bytes : List ℕ) → list_all (λ b. b == 0) bytes ≡ true → runs ≡ runs ++ run_of a bytes
@@ -372,7 +367,7 @@ edit-run x y a bytes same (Ok entry) is next why = next ∙ ap (λ (bs : List �
 edit-run x y a bytes same (Err fault) is next why = why.same ∙ unmoved x a bytes fault why.why ∙ ap (λ (bs : List ℕ). edited x (edit.Bytes a bs)) is
 
 -- a run of a map
-shape-total : (maps : List MapShape) (map : ℕ) (shape : MapShape) → All IsShape maps → slice_get maps map ≡ Some shape → map_len shape ≤ 65536
+pub shape-total : (maps : List MapShape) (map : ℕ) (shape : MapShape) → All IsShape maps → slice_get maps map ≡ Some shape → map_len shape ≤ 65536
 shape-total [] map shape h here = cc
 shape-total (s ∷ maps) zero shape h here =
     let same : s ≡ shape = cc in
@@ -381,40 +376,22 @@ shape-total (s ∷ maps) zero shape h here =
     omega (arith, short, long)
 shape-total (s ∷ maps) (suc map) shape h here = shape-total maps map shape (later_shapes s maps h) here
 
-pub shape-short : (x : State) (map : ℕ) (shape : MapShape) → IsState x → slice_get x.program.maps map ≡ Some shape → map_len shape ≤ 65536
-shape-short x map shape is here = shape-total x.program.maps map shape is.checked.tables.shapes here
+pub short-run : (maps : List MapShape) (map r n a before : ℕ) (shape : MapShape) → ((k : ℕ) (s : MapShape) → slice_get maps k ≡ Some s → map_len s ≤ 65536)
+    → slice_get maps map ≡ Some shape → before ≡ maps_len (take map maps) → 1 ≤ n → r + n ≤ map_len shape → a ≡ map_base + map_stride * map + r
+    → (index_in (maps_from 0 maps) a n ≡ Some (before + r)) × (before + r + n ≤ maps_len maps)
+short-run maps map r n a before shape short here e some fits at =
+    let place = map_place 0 map r n maps shape short here some fits in
+    let same : a ≡ map_address (0 + map) + r = omega (arith, at) in
+    let within = maps_len-within map maps shape here in
+    (ap (λ k. index_in (maps_from 0 maps) k n) same ∙ place ∙ ap (λ k. Some (k + r)) (sym e), omega (arith, within, e, fits))
 
 pub shape-run : (x : State) (map r n a before : ℕ) (shape : MapShape) → IsState x → slice_get x.program.maps map ≡ Some shape
     → before ≡ maps_len (take map x.program.maps) → 1 ≤ n → r + n ≤ map_len shape → a ≡ map_base + map_stride * map + r
     → (index_in (maps_from 0 x.program.maps) a n ≡ Some (before + r)) × (before + r + n ≤ maps_len x.program.maps)
 shape-run x map r n a before shape is here e some fits at =
-    let place = map_place 0 map r n x.program.maps shape is.checked.tables.shapes here some fits in
-    let same : a ≡ map_address (0 + map) + r = omega (arith, at) in
-    let within = maps_len-within map x.program.maps shape here in
-    (ap (λ k. index_in (maps_from 0 x.program.maps) k n) same ∙ place ∙ ap (λ k. Some (k + r)) (sym e), omega (arith, within, e, fits))
-
--- all runs of a map
-pub map-pushed : {E : Type 0} (x : State) (old new : List Run) (map : ℕ) (shape : MapShape) (result : Result (Unit {0}) E) → slice_get x.program.maps map ≡ Some shape
-    → OnOk result ((before : ℕ) → before ≡ maps_len (take map x.program.maps) → Holds x old before → Holds x new (before + map_len shape))
-    → OnOk result (Holds x old (maps_len (take map x.program.maps)) → Holds x new (maps_len (take (map + 1) x.program.maps)))
-map-pushed x old new map shape (Ok done) here all = λ h. subst (λ (n : ℕ). Holds x new n) (sym (maps_len-next map x.program.maps shape here)) (all _ refl h)
-map-pushed x old new map shape (Err fault) here all = tt
+    short-run x.program.maps map r n a before shape (λ k s there. shape-total x.program.maps k s is.checked.tables.shapes there) here e some fits at
 
 pub no-map : (maps : List MapShape) (map : ℕ) → map < length maps → slice_get maps map ≡ None → ⊥
 no-map [] map low none = omega (arith, low)
 no-map (s ∷ maps) zero low none = cc
 no-map (s ∷ maps) (suc map) low none = no-map maps map (omega (arith, low)) none
-
--- cells that don't get their values
-pub makes-refusal : (maps : List MapShape) (cells : List Cell) (refusal : Refusal) → RefusesCells maps cells refusal → is_memory refusal ≡ false → Makes cells maps (Err refusal)
-makes-refusal maps cells (Maps fault) r other = absurd r
-makes-refusal maps cells (Listing fault) r other = absurd r
-makes-refusal maps cells (Load fault) r other = absurd r
-makes-refusal maps cells (Open unopened.ContextTooLong) r other = absurd r
-makes-refusal maps cells (Open unopened.OutOfMemory) r other = cc
-makes-refusal maps cells (NoCell map index) r other = (r.0, r.1, ap (λ (m : ℕ). NoCell m index) r.2 ∙ ap (NoCell r.0.map) r.3)
-
--- a text has one table of maps
-pub maps-same : (text : Option (List ℕ)) (maps others : List MapShape) → HasMaps text maps → HasMaps text others → maps ≡ others
-maps-same None maps others h g = h ∙ sym g
-maps-same (Some text) maps others h g = h.1 ∙ sym g.1

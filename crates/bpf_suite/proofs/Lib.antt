@@ -1,7 +1,10 @@
+pub mod Asking
 pub mod CellValues
 pub mod Cuts
 pub mod Endings
+pub mod Grown
 pub mod Images
+pub mod Leading
 pub mod Lists
 pub mod Patterns
 pub mod Programs

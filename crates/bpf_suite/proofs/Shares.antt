@@ -7,7 +7,7 @@ use Rattle.bpf_suite.specs.Benches.{IsBench, Loads, shares_program, with_maps}
 use Rattle.bpf_suite.specs.Bodies.{trimmed}
 use Rattle.bpf_suite.specs.Cells.{cell_lines, cells_of}
 use Rattle.bpf_suite.specs.Faults.{has_part}
-use Rattle.bpf_suite.specs.Images.{HaveImages}
+use Rattle.bpf_suite.specs.Images.{IsImage}
 use Rattle.bpf_suite.specs.Kinds.{is_part}
 use Rattle.bpf_suite.specs.Outcomes.{Outcome, Reads}
 use Rattle.bpf_suite.specs.Tests.{body_for, cells, has_listing, is_listing, limited, maps, program, section_for, setting, text_or_bytes}
@@ -118,31 +118,31 @@ cells-shared own shared t none same =
     ap cells_of (sym (body_for-shared part.Cells own shared none)) ∙ ap (λ (u : Setting). u.cells) (sym same)
 
 -- a bench behind a test that was run on it
-pub bench-after : {n : ℕ} (own shared : List Section) (words words' : Result (List ℕ) AsmFault) (after : List CellLine) (kept kept' : List Image)
+pub bench-after : {n : ℕ} (own shared : List Section) (words words' : Result (List ℕ) AsmFault) (after : List CellLine) (kept kept' : Image)
     (before mine : Option (List ℕ)) (old new : Outcome) (t : Setting)
-    → shares_program own ≡ true → IsBench shared words after kept before old → HaveImages (cells shared) kept' → mine ≡ maps own → t ≡ limited n (setting (own ++ shared))
+    → shares_program own ≡ true → IsBench shared words after kept before old → IsImage (cells shared) kept' → mine ≡ maps own → t ≡ limited n (setting (own ++ shared))
     → Loads t new → words' ≡ words → IsBench shared words' after kept' mine new
-bench-after {n = n} own shared words words' after kept kept' before mine old new t e bench images is same loads alike = record {
+bench-after {n = n} own shared words words' after kept kept' before mine old new t e bench image is same loads alike = record {
   reads = subst (Reads (has_listing shared) (program shared)) (sym alike) bench.reads;
   wanted = bench.wanted;
-  images = images;
+  image = image;
   loads = subst (λ (m : Option (List ℕ)). Loads (with_maps m (setting shared)) new) (sym is)
       (loads-shared own shared new e (Loads-limited n (setting (own ++ shared)) new (subst (λ (u : Setting). Loads u new) same loads)));
 }
 
 -- or behind one with a program of its own
-pub bench-alone : (shared : List Section) (words : Result (List ℕ) AsmFault) (after : List CellLine) (kept kept' : List Image)
-    (before : Option (List ℕ)) (machine : Outcome) → IsBench shared words after kept before machine → HaveImages (cells shared) kept'
+pub bench-alone : (shared : List Section) (words : Result (List ℕ) AsmFault) (after : List CellLine) (kept kept' : Image)
+    (before : Option (List ℕ)) (machine : Outcome) → IsBench shared words after kept before machine → IsImage (cells shared) kept'
     → IsBench shared words after kept' before machine
-bench-alone shared words after kept kept' before machine bench images = record {
+bench-alone shared words after kept kept' before machine bench image = record {
   reads = bench.reads;
   wanted = bench.wanted;
-  images = images;
+  image = image;
   loads = bench.loads;
 }
 
 -- the machine of the test before is that of a test, where both have the same maps of their own
-pub loads-again : {n : ℕ} (own shared : List Section) (words : Result (List ℕ) AsmFault) (after : List CellLine) (kept : List Image)
+pub loads-again : {n : ℕ} (own shared : List Section) (words : Result (List ℕ) AsmFault) (after : List CellLine) (kept : Image)
     (before mine : Option (List ℕ)) (machine : Outcome) (t : Setting)
     → shares_program own ≡ true → IsBench shared words after kept before machine → before ≡ mine → mine ≡ maps own
     → t ≡ limited n (setting (own ++ shared)) → Loads t machine
@@ -151,19 +151,19 @@ loads-again {n = n} own shared words after kept before mine machine t e bench al
     (limited-Loads n (setting (own ++ shared)) machine (loads-own own shared machine e (subst (λ (m : Option (List ℕ)). Loads (with_maps m (setting shared)) machine) (alike ∙ is) bench.loads)))
 
 -- the words of its program
-pub words-again : {n : ℕ} (own shared : List Section) (words : Result (List ℕ) AsmFault) (after : List CellLine) (kept : List Image)
+pub words-again : {n : ℕ} (own shared : List Section) (words : Result (List ℕ) AsmFault) (after : List CellLine) (kept : Image)
     (before : Option (List ℕ)) (machine : Outcome) (t : Setting)
     → shares_program own ≡ true → IsBench shared words after kept before machine → t ≡ limited n (setting (own ++ shared)) → Reads t.is_listing t.program words
 words-again own shared words after kept before machine t e bench same =
     subst (λ (u : Setting). Reads u.is_listing u.program words) (sym same) (reads-own own shared words e bench.reads)
 
 -- a bench whose machine went on
-pub bench-gone-on : (shared : List Section) (words : Result (List ℕ) AsmFault) (after : List CellLine) (kept : List Image)
+pub bench-gone-on : (shared : List Section) (words : Result (List ℕ) AsmFault) (after : List CellLine) (kept : Image)
     (before : Option (List ℕ)) (old new : Outcome) → IsBench shared words after kept before old → ((t : Setting) → Loads t old → Loads t new)
     → IsBench shared words after kept before new
 bench-gone-on shared words after kept before old new bench on = record {
   reads = bench.reads;
   wanted = bench.wanted;
-  images = bench.images;
+  image = bench.image;
   loads = on (with_maps before (setting shared)) bench.loads;
 }

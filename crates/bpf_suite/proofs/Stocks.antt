@@ -16,7 +16,7 @@ same-words false program a b one other = one ∙ sym other
 same-words true program a b one other = one-assembly.bytes program a b one other
 
 -- the machine of a bench stands on its words
-pub stands-on : (shared : List Section) (words : Result (List ℕ) AsmFault) (after : List CellLine) (kept : List Image)
+pub stands-on : (shared : List Section) (words : Result (List ℕ) AsmFault) (after : List CellLine) (kept : Image)
     (before : Option (List ℕ)) (machine : Outcome) → IsBench shared words after kept before machine → StandsOn words machine
 stands-on shared (Ok those) after kept before (Ok x) bench = same-words (has_listing shared) (program shared) _ _ bench.loads.words bench.reads
 stands-on shared (Err fault) after kept before (Ok x) bench = tt

@@ -4,7 +4,7 @@ use Rattle.std.specs.Option.{option_or}
 use Rattle.bpf_text.specs.declared.fault.AsmFault.{AsmFault}
 use Rattle.bpf_suite.specs.Cells.{cell_lines}
 use Rattle.bpf_suite.specs.Faults.{has_part}
-use Rattle.bpf_suite.specs.Images.{HaveImages}
+use Rattle.bpf_suite.specs.Images.{IsImage}
 use Rattle.bpf_suite.specs.Outcomes.{IsProgramOf, Outcome, Reads, Refuses, is_memory}
 use Rattle.bpf_suite.specs.Tests.{body_for, cells, has_listing, program, setting}
 use Rattle.bpf_suite.specs.declared.cells.CellLine.{CellLine}
@@ -37,9 +37,9 @@ Loads t (Ok x) = IsProgramOf t x.program
 Loads t (Err refusal) = RefusesProgram t refusal × (is_memory refusal ≡ false)
 
 -- A program may run on what it loads as, by an image of its cells where these are shared.
-pub record IsReady (t : Setting) (shares : Bool) (machine : Outcome) (kept : List Image) : Type 0 where
+pub record IsReady (t : Setting) (shares : Bool) (machine : Outcome) (kept : Image) : Type 0 where
   pub loads : Loads t machine
-  pub images : shares ≡ true → HaveImages t.cells kept
+  pub image : shares ≡ true → IsImage t.cells kept
 
 -- The sections that tests share, and the machine of their program, or why there is none.
 pub record Shared : Type 0 where
@@ -47,11 +47,11 @@ pub record Shared : Type 0 where
   pub machine : Outcome
 
 -- The machine is that of a test with the shared program and these maps of its own, if it has some.
-pub record IsBench (sections : List Section) (words : Result (List ℕ) AsmFault) (after : List CellLine) (kept : List Image) (own : Option (List ℕ))
+pub record IsBench (sections : List Section) (words : Result (List ℕ) AsmFault) (after : List CellLine) (kept : Image) (own : Option (List ℕ))
     (machine : Outcome) : Type 0 where
   pub reads : Reads (has_listing sections) (program sections) words
   pub wanted : after ≡ cell_lines (body_for part.CellsAfter sections)
-  pub images : HaveImages (cells sections) kept
+  pub image : IsImage (cells sections) kept
   pub loads : Loads (with_maps own (setting sections)) machine
 
 -- Why a program is refused, if it is. Want of memory is no reason.

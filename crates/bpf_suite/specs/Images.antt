@@ -1,21 +1,21 @@
 -- What cells make of maps, as runs of bytes: a machine that is opened and gets these is as one that gets the cells.
-use Rattle.std.specs.Prelude.{ℕ, ◌≡◌, ◌≤◌, ◌-◌, ◌+◌, ◌*◌, ◌==◌, ⊤, if◌then◌else◌, List, [], ◌∷◌, ◌++◌, drop, length, replicate, take, Option, Some, None, Result, Ok, Err}
-use Rattle.std.specs.List.{All, list_all}
+use Rattle.std.specs.Prelude.{ℕ, ◌≡◌, ◌≤◌, ◌-◌, ◌+◌, ◌*◌, ◌==◌, if◌then◌else◌, List, [], ◌∷◌, ◌++◌, drop, length, replicate, slice_get, slice_range, take, Option, Some, None, IfSome, IsSome}
+use Rattle.std.specs.List.{list_all}
 use Rattle.std.specs.Option.{option_map_or}
+use Rattle.bpf_isa.specs.Maps.{AreMaps}
 use Rattle.bpf_isa.specs.Programs.{Checked}
 use Rattle.bpf_isa.specs.declared.maps.MapShape.{MapShape}
 use Rattle.bpf_machine.specs.Edits.{edited}
 use Rattle.bpf_steps.specs.Platform.{context_limit, frame_count, frame_len, map_base}
-use Rattle.bpf_steps.specs.Regions.{index_in, maps_from, maps_len, paste}
+use Rattle.bpf_steps.specs.Regions.{index_in, map_len, maps_from, maps_len, paste, run_at}
 use Rattle.bpf_steps.specs.State.{State, initial}
 use Rattle.bpf_machine.specs.declared.edit.Edit.TheVariants as edit
+use Rattle.bpf_suite.specs.Asks.{AreAskedOf, least_of}
 use Rattle.bpf_suite.specs.Outcomes.{IsProgramOf, missing, with_cells}
-use Rattle.bpf_suite.specs.Tables.{HasMaps}
+use Rattle.bpf_suite.specs.declared.asks.Ask.{Ask}
 use Rattle.bpf_suite.specs.declared.cells.Cell.{Cell}
 use Rattle.bpf_suite.specs.declared.image.Image.{Image}
 use Rattle.bpf_suite.specs.declared.image.Run.{Run}
-use Rattle.bpf_suite.specs.declared.refusal.Refusal.{Refusal}
-use Rattle.bpf_suite.specs.declared.refusal.Refusal.TheVariants.{NoCell}
 use Rattle.bpf_suite.specs.declared.setting.Setting.{Setting}
 
 -- A machine with runs of bytes, put in one after another.
@@ -23,30 +23,25 @@ abbrev pub with_runs : List Run → State → State
 with_runs [] x = x
 with_runs (run ∷ runs) x = with_runs runs (edited x (edit.Bytes run.address run.bytes))
 
--- What cells make of maps of these shapes, whatever program has them: runs that lead where they lead, or the first that isn't there.
-abbrev pub Makes : List Cell → List MapShape → Result (List Run) Refusal → Type 0
-Makes cells maps (Ok runs) = (missing maps cells ≡ None)
-    × ((code : Checked) (context : List ℕ) → code.maps ≡ maps → length context ≤ context_limit
-    → with_runs runs (initial code context) ≡ with_cells cells (initial code context))
-Makes cells maps (Err refusal) = (cell : Cell) × (missing maps cells ≡ Some cell) × (refusal ≡ NoCell cell.map cell.index)
+-- Runs lead where cells lead, on each machine whose maps have all of these.
+abbrev pub Lead : List Cell → List Run → Type 0
+Lead cells runs = (code : Checked) (context : List ℕ) → AreMaps code.maps → missing code.maps cells ≡ None
+    → length context ≤ context_limit → with_runs runs (initial code context) ≡ with_cells cells (initial code context)
 
--- An image is what cells make of the maps of its text.
-abbrev pub IsImageOf : List Cell → Image → Type 0
-IsImageOf cells image = (maps : List MapShape) → HasMaps image.maps maps → Makes cells maps image.runs
+-- An image of cells: what they ask of maps, and runs that lead where they lead, if these are known.
+pub record IsImage (cells : List Cell) (image : Image) : Type 0 where
+  pub asked : AreAskedOf cells image.asks.items
+  pub runs : IfSome image.runs (Lead cells)
 
-abbrev pub HasImage : List Cell → Option Image → Type 0
-HasImage cells None = ⊤
-HasImage cells (Some image) = IsImageOf cells image
+-- They are known where maps have all cells.
+abbrev pub IsKnown : List Cell → List MapShape → Option (List Run) → Type 0
+IsKnown cells maps runs = missing maps cells ≡ None → IsSome runs
 
--- Images of the same cells, each for the maps of its text.
-abbrev pub HaveImages : List Cell → List Image → Type 0
-HaveImages cells images = All (IsImageOf cells) images
-
--- An image for a program of a test: it is what the test's cells make of its maps.
+-- An image for a program of a test, by which it runs.
 pub record IsImageFor (t : Setting) (code : Checked) (image : Image) : Type 0 where
   pub program : IsProgramOf t code
-  pub maps : image.maps ≡ t.maps
-  pub made : IsImageOf t.cells image
+  pub made : IsImage t.cells image
+  pub known : IsKnown t.cells code.maps image.runs
 
 -- The bytes of all maps of a machine, side by side, and such bytes with runs put in.
 abbrev pub map_bytes : State → List ℕ
@@ -62,16 +57,34 @@ abbrev pub AreIn : List Run → Type 0
 AreIn [] = Unit {0}
 AreIn (run ∷ runs) = (map_base ≤ run.address) × (1 ≤ length run.bytes) × AreIn runs
 
--- Runs hold the first bytes of a machine's maps, and nothing else that isn't zero.
-pub record Holds (x : State) (runs : List Run) (n : ℕ) : Type 0 where
-  pub placed : AreIn runs
-  pub held : pasted x.program.maps runs (replicate (maps_len x.program.maps) 0)
-      ≡ take n (map_bytes x) ++ replicate (maps_len x.program.maps - n) 0
+abbrev pub ArePresent : List MapShape → List Run → Type 0
+ArePresent maps [] = Unit {0}
+ArePresent maps (run ∷ runs) =
+    ((j : ℕ) × (index_in (maps_from 0 maps) run.address (length run.bytes) ≡ Some j)) × ArePresent maps runs
 
--- Runs hold all bytes of a machine's maps that aren't zero.
-pub record AreAll (x : State) (runs : List Run) : Type 0 where
+-- What is asked of maps, none of which has more bytes than a map may have.
+pub record AreShort (asks : List Ask) : Type 0 where
+  pub few : length asks ≤ 17
+  pub short : (map : ℕ) (ask : Ask) → slice_get asks map ≡ Some ask → map_len (least_of ask) ≤ 65536
+
+-- A machine shows these bytes at the addresses of maps, which may be less than its own.
+pub record Shows (x : State) (maps : List MapShape) (bytes : List ℕ) : Type 0 where
+  pub long : length bytes ≡ maps_len maps
+  pub short : (map : ℕ) (shape : MapShape) → slice_get maps map ≡ Some shape → map_len shape ≤ 65536
+  pub read : (a n j : ℕ) → map_base ≤ a → 1 ≤ n → index_in (maps_from 0 maps) a n ≡ Some j
+      → run_at x.memory a n ≡ Some (slice_range bytes j (j + n))
+
+-- Runs hold the first n bytes of maps, and nothing else that isn't zero.
+pub record Holds (maps : List MapShape) (bytes : List ℕ) (runs : List Run) (n : ℕ) : Type 0 where
   pub placed : AreIn runs
-  pub held : pasted x.program.maps runs (replicate (maps_len x.program.maps) 0) ≡ map_bytes x
+  pub present : ArePresent maps runs
+  pub held : pasted maps runs (replicate (maps_len maps) 0) ≡ take n bytes ++ replicate (maps_len maps - n) 0
+
+-- Runs hold all bytes of maps that aren't zero.
+pub record AreAll (maps : List MapShape) (bytes : List ℕ) (runs : List Run) : Type 0 where
+  pub placed : AreIn runs
+  pub present : ArePresent maps runs
+  pub held : pasted maps runs (replicate (maps_len maps) 0) ≡ bytes
 
 -- Bytes at an address as a run, unless all of them are zero.
 abbrev pub run_of : ℕ → List ℕ → List Run

@@ -1,3 +1,4 @@
+pub mod Asks
 pub mod Benches
 pub mod Bodies
 pub mod Cells

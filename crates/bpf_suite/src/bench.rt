@@ -7,7 +7,7 @@ ghost use Rattle.bpf_suite.specs.Benches.{IsReady, Loads, ReasonOf, outcome_by, 
 ghost use Rattle.bpf_suite.specs.Cells.{cell_lines};
 ghost use Rattle.bpf_suite.specs.Covers.{Finds, IsFound, Notes};
 ghost use Rattle.bpf_suite.specs.Faults.{has_part};
-ghost use Rattle.bpf_suite.specs.Images.{HaveImages};
+ghost use Rattle.bpf_suite.specs.Images.{IsImage};
 ghost use Rattle.bpf_suite.specs.Outcomes.{Comes, Reads};
 ghost use Rattle.bpf_suite.specs.Reports.{AreTold};
 ghost use Rattle.bpf_suite.specs.Stocks.{Brings, IsToBring};
@@ -19,7 +19,7 @@ ghost use Rattle.bpf_suite.specs.declared.section.Section.{Section};
 ghost use Rattle.bpf_suite.specs.declared.setting.Setting.{Setting};
 
 use crate::ending::Wanted;
-use crate::image::{Image, image_for, keep, taken};
+use crate::image::{Image, complete};
 use crate::kind::Part;
 use crate::outcome::{loaded, outcome_by_image, outcome_on};
 use crate::reading::{ReadTest, Reading, place_of};
@@ -46,8 +46,8 @@ pub struct Bench<'b, 'a> {
     stock: Stock,
     /// What is wanted of cells.
     wanted: Wanted<'a>,
-    /// What these cells made of the maps of tests without cells of their own.
-    images: Vec<Image<'a>>,
+    /// What their cells ask of maps, and make of them.
+    image: Image,
     /// The maps of the test that was run last, where it has some of its own: those of the machine.
     maps: Option<Text<'a>>,
     machine: Result<Cpu, Refusal>,
@@ -63,7 +63,7 @@ impl<'b, 'a> Model for Bench<'b, 'a> {
 
     ghost view = { λ b. record { sections = b.shared; machine = b.machine } };
 
-    ghost invariant = { λ b. IsBench b.shared b.stock b.wanted b.images.items b.maps b.machine };
+    ghost invariant = { λ b. IsBench b.shared b.stock b.wanted b.image b.maps b.machine };
 }
 
 impl<'b, 'a> Bench<'b, 'a> {
@@ -77,11 +77,12 @@ impl<'b, 'a> Bench<'b, 'a> {
         let words = words_of(alloc, setting.is_listing, setting.program.bytes)?;
         let wanted = lines_in(alloc, shared, Part::CellsAfter)?;
         let machine = loaded(alloc, &setting, &words)?;
+        let image = Image::of(alloc, read.cells())?;
         Ok(Bench {
             shared: read,
             stock: Stock::of(words),
             wanted: Wanted::of(wanted),
-            images: Vec::new(alloc),
+            image,
             maps: None,
             machine,
         })
@@ -231,7 +232,7 @@ impl<'b, 'a> Bench<'b, 'a> {
         bring(alloc, &mut self.machine, stands, &setting, &mut self.stock)?;
         self.maps = maps;
         let shares = gets_shared(own, &self.shared);
-        run_on(alloc, &mut self.machine, &setting, shares, &mut self.images)
+        run_on(alloc, &mut self.machine, &setting, shares, &mut self.image)
     }
 
     /// What a test with a program of its own comes to in at most so many steps.
@@ -248,7 +249,7 @@ impl<'b, 'a> Bench<'b, 'a> {
         let setting = setting_of(own, &self.shared, limit);
         let words = words_of(alloc, setting.is_listing, setting.program.bytes)?;
         let shares = gets_shared(own, &self.shared);
-        outcome_of(alloc, &setting, &words, shares, &mut self.images)
+        outcome_of(alloc, &setting, &words, shares, &mut self.image)
     }
 }
 
@@ -353,21 +354,21 @@ fn bring(
 }
 
 /// What a program comes to on a machine of its own.
-fn outcome_of<'a>(
+fn outcome_of(
     alloc: Global,
-    setting: &Setting<'a, '_>,
+    setting: &Setting<'_, '_>,
     words: &Result<Words, AsmFault>,
     shares: bool,
-    images: &mut Vec<Image<'a>>,
+    image: &mut Image,
 ) -> Result<Result<Cpu, Refusal>, AllocError>
     requires words { Reads setting.now.is_listing setting.now.program words.now }
-    requires images { shares ≡ true → HaveImages setting.now.cells images.old.items }
+    requires image { shares ≡ true → IsImage setting.now.cells image.old }
     ensures comes { IfOk result (Comes setting.now) }
-    ensures images { (cells : List Cell) → (shares ≡ true → cells ≡ setting.now.cells)
-        → HaveImages cells images.old.items → HaveImages cells images.new.items }
+    ensures image { (cells : List Cell) → (shares ≡ true → cells ≡ setting.now.cells)
+        → IsImage cells image.old → IsImage cells image.new }
 {
     let mut machine = loaded(alloc, setting, words)?;
-    match run_on(alloc, &mut machine, setting, shares, images)? {
+    match run_on(alloc, &mut machine, setting, shares, image)? {
         Some(refusal) => Ok(Err(refusal)),
         None => Ok(machine),
     }
@@ -375,24 +376,24 @@ fn outcome_of<'a>(
 
 /// Runs a program on its machine, if it has one: with cells that tests share, by their image.
 /// Answers why it is refused, if it is here and not on every context.
-fn run_on<'a>(
+fn run_on(
     alloc: Global,
     machine: &mut Result<Cpu, Refusal>,
-    setting: &Setting<'a, '_>,
+    setting: &Setting<'_, '_>,
     shares: bool,
-    images: &mut Vec<Image<'a>>,
+    image: &mut Image,
 ) -> Result<Option<Refusal>, AllocError>
-    requires { IsReady setting.now shares machine.old images.old.items }
+    requires { IsReady setting.now shares machine.old image.old }
     ensures loads { Loads setting.now machine.new }
     ensures comes { IfOk result (λ refusal.
         Comes setting.now (outcome_by machine.new refusal)) }
-    ensures images { (cells : List Cell) → (shares ≡ true → cells ≡ setting.now.cells)
-        → HaveImages cells images.old.items → HaveImages cells images.new.items }
+    ensures image { (cells : List Cell) → (shares ≡ true → cells ≡ setting.now.cells)
+        → IsImage cells image.old → IsImage cells image.new }
 {
     match machine {
         Ok(cpu) => {
             if shares {
-                run_by(alloc, cpu, setting, images)
+                run_by(alloc, cpu, setting, image)
             } else {
                 refusal_of(outcome_on(alloc, cpu, setting))
             }
@@ -401,25 +402,21 @@ fn run_on<'a>(
     }
 }
 
-/// Runs a program on its machine by an image of its cells, which is kept. Answers why it is
-/// refused, if it is.
-fn run_by<'a>(
+/// Runs a program on its machine by an image of its cells. Answers why it is refused, if it is.
+fn run_by(
     alloc: Global,
     cpu: &mut Cpu,
-    setting: &Setting<'a, '_>,
-    kept: &mut Vec<Image<'a>>,
+    setting: &Setting<'_, '_>,
+    image: &mut Image,
 ) -> Result<Option<Refusal>, AllocError>
-    requires { IsReady setting.now true (Ok cpu.old) kept.old.items }
+    requires { IsReady setting.now true (Ok cpu.old) image.old }
     ensures comes { IfOk result (λ refusal.
         Comes setting.now (outcome_by (Ok cpu.new) refusal)) }
     ensures program { cpu.new.program ≡ cpu.old.program }
-    ensures images { HaveImages setting.now.cells kept.new.items }
+    ensures image { IsImage setting.now.cells image.new }
 {
-    let found = taken(kept, &setting.maps.text());
-    let image = image_for(alloc, cpu, setting, found)?;
-    let done = outcome_by_image(alloc, cpu, setting, &image);
-    keep(kept, image)?;
-    refusal_of(done)
+    complete(alloc, cpu, setting, image)?;
+    refusal_of(outcome_by_image(alloc, cpu, setting, image))
 }
 
 /// Why a program is refused, if it is, unless memory ran out.

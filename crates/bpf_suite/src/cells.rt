@@ -82,7 +82,7 @@ pub fn cell_of(alloc: Global, line: &CellLine<'_>) -> Result<Option<Cell>, Alloc
 }
 
 /// The value that a line's digits are, None where they are none.
-fn value_of(alloc: Global, line: &CellLine<'_>) -> Result<Option<ByteString>, AllocError>
+pub fn value_of(alloc: Global, line: &CellLine<'_>) -> Result<Option<ByteString>, AllocError>
     ensures { IfOk result (λ value. value ≡ value_of line.now) }
 {
     match bytes_of(alloc, line.digits.bytes)? {

@@ -1,21 +1,20 @@
-//! What cells make of maps: the bytes that aren't zero, so that the next test begins with them.
-ghost use Rattle.std.specs.Prelude.{◌≡◌, ◌≤◌, ◌<◌, ◌+◌, ◌*◌, ◌==◌, ◌++◌, ℕ, List, IfOk, IfSome, OnOk, Some, filter_map, length, slice_get, take};
+//! What cells make of maps: the bytes that aren't zero, so that each further test begins with them.
+ghost use Rattle.std.specs.Prelude.{◌≡◌, ◌≤◌, ◌<◌, ◌+◌, ◌*◌, ◌==◌, ◌++◌, ℕ, List, IfOk, IfSome, OnOk, None, Some, filter_map, length, slice_get, take};
 ghost use Rattle.std.specs.List.{list_all};
 ghost use Rattle.bpf_machine.specs.Edits.{edited};
+ghost use Rattle.bpf_isa.specs.declared.maps.MapShape.{MapShape};
 ghost use Rattle.bpf_steps.specs.Platform.{map_base};
 ghost use Rattle.bpf_steps.specs.Regions.{index_in, map_len, maps_from, maps_len};
 ghost use Rattle.bpf_machine.specs.declared.edit.Edit.TheVariants as edit;
+ghost use Rattle.bpf_suite.specs.Asks.{AreAskedOf, least_maps, least_of};
 ghost use Rattle.bpf_suite.specs.Cells.{cell_of};
-ghost use Rattle.bpf_suite.specs.Images.{AreAll, HasImage, HaveImages, Holds, IsImageFor, IsImageOf, Makes, run_of, with_runs};
-ghost use Rattle.bpf_suite.specs.Outcomes.{IsProgramOf};
-ghost use Rattle.bpf_suite.specs.declared.cells.Cell.{Cell};
+ghost use Rattle.bpf_suite.specs.Images.{AreAll, AreShort, Holds, IsImage, IsKnown, Lead, Shows, run_of, with_runs};
+ghost use Rattle.bpf_suite.specs.Outcomes.{missing};
 
+use crate::asks::{Ask, asks_of, missing};
 use crate::cells::CellLine;
 use crate::outcome::set_cells;
-use crate::refusal::Refusal;
-use crate::section::{Text, are_same};
 use crate::setting::Setting;
-use bpf_isa::MapShape;
 use bpf_machine::{ByteString, Cpu, Edit};
 use std::alloc::{AllocError, Global};
 use std::marker::Model;
@@ -27,9 +26,6 @@ pub const MAP_STRIDE: u64 = 0x10_0000;
 
 /// The most bytes of a run.
 const LONGEST_RUN: u64 = 256;
-
-/// The most images that are kept.
-const MOST_KEPT: usize = 16;
 
 /// Bytes at an address.
 #[derive(Drop)]
@@ -53,101 +49,63 @@ impl Model for Runs {
     ghost view = { λ r. r.items.items };
 }
 
-/// What cells make of maps.
+/// What cells ask of maps, and what they make of those that have them.
 #[derive(Drop)]
-pub struct Image<'a> {
-    /// The text of the maps, if there is one.
-    pub maps: Option<Text<'a>>,
-    /// Their bytes that aren't zero, or why the cells don't get their values.
-    pub runs: Result<Runs, Refusal>,
+pub struct Image {
+    pub asks: Vec<Ask>,
+    /// The bytes that aren't zero, from the first test on whose maps have all cells.
+    pub runs: Option<Runs>,
 }
 
-/// Takes the image of maps out of those that are kept, if it is among them.
-pub fn taken<'a>(kept: &mut Vec<Image<'a>>, maps: &Option<Text<'_>>) -> Option<Image<'a>>
-    ensures image { (cells : List Cell) → HaveImages cells kept.old.items → HasImage cells result }
-    ensures others { (cells : List Cell) → HaveImages cells kept.old.items
-        → HaveImages cells kept.new.items }
-{
-    match find_image(kept.as_slice(), maps) {
-        Some(at) => Some(kept.remove(at)),
-        None => None,
+impl Image {
+    /// What the cells of these lines ask.
+    pub fn of(alloc: Global, lines: &[CellLine<'_>]) -> Result<Image, AllocError>
+        ensures { IfOk result (IsImage (filter_map cell_of lines.now)) }
+    {
+        Ok(Image {
+            asks: asks_of(alloc, lines)?,
+            runs: None,
+        })
     }
 }
 
-/// Where the image of maps is among those that are kept.
-fn find_image(kept: &[Image<'_>], maps: &Option<Text<'_>>) -> Option<usize>
-    ensures { IfSome result (λ at. at < length kept.now) }
-{
-    for at in 0..kept.len() {
-        if are_same(&kept[at].maps, maps) {
-            return Some(at);
-        }
-    }
-    None
-}
-
-/// Keeps an image behind the others; where these are too many, the one that was used last goes.
-pub fn keep<'a>(kept: &mut Vec<Image<'a>>, image: Image<'a>) -> Result<(), AllocError>
-    ensures { (cells : List Cell) → HaveImages cells kept.old.items → IsImageOf cells image.entry
-        → HaveImages cells kept.new.items }
-{
-    if kept.len() >= MOST_KEPT {
-        let _last = kept.pop();
-    }
-    match kept.push(image) {
-        Ok(()) => Ok(()),
-        Err(_) => Err(AllocError),
-    }
-}
-
-/// What the cells of a test make of its maps: what is kept of a test that had the same maps, or else
-/// found on a machine of its program.
-pub fn image_for<'a>(
+/// Finds what the cells of a test make of maps on a machine of its program, if that isn't known yet
+/// and it has them all.
+pub fn complete(
     alloc: Global,
     cpu: &mut Cpu,
-    setting: &Setting<'a, '_>,
-    kept: Option<Image<'a>>,
-) -> Result<Image<'a>, AllocError>
-    requires program { IsProgramOf setting.now cpu.old.program }
-    requires kept { HasImage setting.now.cells kept }
-    ensures image { IfOk result (IsImageFor setting.now cpu.old.program) }
+    setting: &Setting<'_, '_>,
+    image: &mut Image,
+) -> Result<(), AllocError>
+    requires { IsImage setting.now.cells image.old }
+    ensures image { IsImage setting.now.cells image.new }
+    ensures known { OnOk result
+        (IsKnown setting.now.cells cpu.old.program.maps image.new.runs) }
     ensures program { cpu.new.program ≡ cpu.old.program }
 {
-    match kept {
-        Some(image) => {
-            if are_same(&image.maps, &setting.maps.text()) {
-                return Ok(image);
-            }
-        }
-        None => {}
+    if image.runs.is_some() {
+        return Ok(());
     }
-    image_of(alloc, cpu, setting)
+    match missing(image.asks.as_slice(), cpu.program().maps()) {
+        Some(_) => Ok(()),
+        None => {
+            let runs = made(alloc, cpu, setting.cells.lines, image.asks.as_slice())?;
+            image.runs = Some(runs);
+            Ok(())
+        }
+    }
 }
 
-/// What the cells of a test make of its maps, on a machine of its program.
-fn image_of<'a>(
-    alloc: Global,
-    cpu: &mut Cpu,
-    setting: &Setting<'a, '_>,
-) -> Result<Image<'a>, AllocError>
-    requires { IsProgramOf setting.now cpu.old.program }
-    ensures image { IfOk result (IsImageFor setting.now cpu.old.program) }
-    ensures program { cpu.new.program ≡ cpu.old.program }
-{
-    let runs = made(alloc, cpu, setting.cells.lines)?;
-    Ok(Image {
-        maps: setting.maps.text(),
-        runs,
-    })
-}
-
-/// What the cells of these lines make of the maps of a machine.
+/// What the cells of these lines make of maps, on a machine that has them all.
 fn made(
     alloc: Global,
     cpu: &mut Cpu,
     lines: &[CellLine<'_>],
-) -> Result<Result<Runs, Refusal>, AllocError>
-    ensures made { IfOk result (Makes (filter_map cell_of lines.now) cpu.old.program.maps) }
+    asks: &[Ask],
+) -> Result<Runs, AllocError>
+    requires asked { AreAskedOf (filter_map cell_of lines.now) asks.now }
+    requires there { missing cpu.old.program.maps (filter_map cell_of lines.now) ≡ None }
+    ensures lead { IfOk result (Lead (filter_map cell_of lines.now)) }
     ensures program { cpu.new.program ≡ cpu.old.program }
 {
     match cpu.reopen(alloc, &[]) {
@@ -155,53 +113,44 @@ fn made(
         Err(_) => return Err(AllocError),
     }
     match set_cells(alloc, cpu, lines) {
-        Ok(()) => Ok(Ok(runs_of(alloc, cpu)?)),
-        Err(refusal) => {
-            if refusal.is_memory() {
-                Err(AllocError)
-            } else {
-                Ok(Err(refusal))
-            }
-        }
+        Ok(()) => {}
+        Err(_) => return Err(AllocError),
     }
+    cpu.invariant();
+    runs_of(alloc, cpu, asks)
 }
 
-/// The bytes of a machine's maps that aren't zero.
-fn runs_of(alloc: Global, cpu: &Cpu) -> Result<Runs, AllocError>
-    ensures { IfOk result (AreAll cpu.now) }
+/// The bytes that aren't zero in the least maps of which this is asked.
+fn runs_of(alloc: Global, cpu: &Cpu, asks: &[Ask]) -> Result<Runs, AllocError>
+    requires { AreShort asks.now }
+    ensures { IfOk result (λ runs. (bytes : List ℕ) → Shows cpu.now (least_maps asks.now) bytes
+        → AreAll (least_maps asks.now) bytes runs) }
 {
-    cpu.invariant();
     let mut items = Vec::new(alloc);
-    let count = cpu.program().maps().len();
-    for map in 0..count {
-        push_map(&mut items, cpu, map)?;
+    for map in 0..asks.len() {
+        let len = least_len(&asks[map]);
+        push_map(&mut items, cpu, map as u64, len)?;
     }
     Ok(Runs { items })
 }
 
-/// Adds the bytes of a map that aren't zero.
-fn push_map(runs: &mut Vec<Run>, cpu: &Cpu, map: usize) -> Result<(), AllocError>
-    requires { map < length cpu.now.program.maps }
-    ensures { OnOk result (Holds cpu.now runs.old.items (maps_len (take map cpu.now.program.maps))
-        → Holds cpu.now runs.new.items (maps_len (take (map + 1) cpu.now.program.maps))) }
+/// How many bytes the least map has of which this is asked.
+fn least_len(ask: &Ask) -> u64
+    requires { map_len (least_of ask.now) ≤ 65536 }
+    ensures { result ≡ map_len (least_of ask.now) }
 {
-    cpu.invariant();
-    match cpu.program().maps().shape(map) {
-        Some(shape) => push_shaped(runs, cpu, map as u64, &shape),
-        None => Ok(()),
-    }
+    ask.size as u64 * ask.firsts.len() as u64
 }
 
-/// Adds the bytes of a map of a shape that aren't zero, in runs that are as long as may be.
-fn push_shaped(runs: &mut Vec<Run>, cpu: &Cpu, map: u64, shape: &MapShape) -> Result<(), AllocError>
-    requires { (map < 16) × (slice_get cpu.now.program.maps map ≡ Some shape.now) }
-    ensures { OnOk result ((before : ℕ) → before ≡ maps_len (take map cpu.now.program.maps)
-        → Holds cpu.now runs.old.items before
-        → Holds cpu.now runs.new.items (before + map_len shape.now)) }
+/// Adds the first bytes of a map that aren't zero, in runs that are as long as may be.
+fn push_map(runs: &mut Vec<Run>, cpu: &Cpu, map: u64, len: u64) -> Result<(), AllocError>
+    requires { (map < 17) × (len ≤ 65536) }
+    ensures { OnOk result ((maps : List MapShape) (bytes : List ℕ) (shape : MapShape)
+        → Shows cpu.now maps bytes → slice_get maps map ≡ Some shape → map_len shape ≡ len
+        → Holds maps bytes runs.old.items (maps_len (take map maps))
+        → Holds maps bytes runs.new.items (maps_len (take map maps) + len)) }
 {
-    cpu.invariant();
     let base = MAP_BASE + MAP_STRIDE * map;
-    let len = u64::from(shape.value_size) * u64::from(shape.entries);
     for run in 0..len / LONGEST_RUN {
         push_run(runs, cpu, base + LONGEST_RUN * run, LONGEST_RUN)?;
     }
@@ -215,12 +164,11 @@ fn push_shaped(runs: &mut Vec<Run>, cpu: &Cpu, map: u64, shape: &MapShape) -> Re
 /// Adds a run of a machine's bytes, unless all of them are zero.
 fn push_run(runs: &mut Vec<Run>, cpu: &Cpu, address: u64, n: u64) -> Result<(), AllocError>
     requires { (map_base ≤ address) × (1 ≤ n) × (n ≤ 256) }
-    ensures { OnOk result ((j : ℕ) → Holds cpu.now runs.old.items j
-        → index_in (maps_from 0 cpu.now.program.maps) address n ≡ Some j
-        → j + n ≤ maps_len cpu.now.program.maps
-        → Holds cpu.now runs.new.items (j + n)) }
+    ensures { OnOk result ((maps : List MapShape) (bytes : List ℕ) (j : ℕ)
+        → Shows cpu.now maps bytes → index_in (maps_from 0 maps) address n ≡ Some j
+        → j + n ≤ maps_len maps → Holds maps bytes runs.old.items j
+        → Holds maps bytes runs.new.items (j + n)) }
 {
-    cpu.invariant();
     match cpu.peek(address, n as usize) {
         Some(bytes) => push_bytes(runs, address, bytes),
         None => Ok(()),

@@ -1,6 +1,7 @@
 //! Files of tests: what programs come to, held against what is expected.
 #![tactic(auto)]
 
+mod asks;
 mod bench;
 mod body;
 mod cells;

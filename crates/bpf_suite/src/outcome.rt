@@ -11,6 +11,7 @@ ghost use Rattle.bpf_suite.specs.Regs.{with_regs};
 ghost use Rattle.bpf_suite.specs.Tables.{HasMaps};
 ghost use Rattle.bpf_suite.specs.Outcomes.{Ends, GivesCell, GivesCells, HasWords, IsProgramOf, Reads, Refuses, limit_word, outcome_text};
 
+use crate::asks::missing;
 use crate::cells::{Cell, CellLine, cell_of};
 use crate::image::{Image, put_runs};
 use crate::refusal::{Refusal, put_refusal};
@@ -186,12 +187,12 @@ pub fn outcome_on(alloc: Global, cpu: &mut Cpu, setting: &Setting<'_, '_>) -> Re
     Ok(())
 }
 
-/// The same, where it is known what its cells make of its maps.
+/// The same, where it is known what its cells make of its maps, if these have them all.
 pub fn outcome_by_image(
     alloc: Global,
     cpu: &mut Cpu,
     setting: &Setting<'_, '_>,
-    image: &Image<'_>,
+    image: &Image,
 ) -> Result<(), Refusal>
     requires { IsImageFor setting.now cpu.old.program image.now }
     ensures ok { OnOk result (Ends setting.now cpu.new) }
@@ -202,9 +203,13 @@ pub fn outcome_by_image(
         Ok(()) => {}
         Err(refusal) => return Err(refusal),
     }
+    match missing(image.asks.as_slice(), cpu.program().maps()) {
+        Some(refusal) => return Err(refusal),
+        None => {}
+    }
     match &image.runs {
-        Ok(runs) => put_runs(cpu, runs),
-        Err(refusal) => return Err(*refusal),
+        Some(runs) => put_runs(cpu, runs),
+        None => {}
     }
     run(cpu, setting);
     Ok(())

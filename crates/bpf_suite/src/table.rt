@@ -37,13 +37,6 @@ impl<'x, 'a> NamedMaps<'x, 'a> {
         }
     }
 
-    /// The text.
-    pub fn text(&self) -> Option<Text<'a>>
-        ensures { result ≡ self.now }
-    {
-        copied(&self.text)
-    }
-
     /// The table.
     pub fn table(&self) -> &'x Result<MapTable, MapFault>
         ensures { IsTable self.now result.now }

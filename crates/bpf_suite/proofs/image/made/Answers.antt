@@ -1,15 +1,24 @@
-use Rattle.std.proofs.Common.{◌≡◌, None, ap, subst, ◌∙◌}
+use Rattle.std.proofs.Common.{ap, subst, ◌∙◌}
 use Rattle.std.specs.List.{filter_map}
+use Rattle.bpf_isa.specs.Maps.{AreMaps}
+use Rattle.bpf_isa.specs.Programs.{Checked}
 use Rattle.bpf_steps.specs.State.{State}
 use Rattle.bpf_suite.specs.Cells.{cell_of}
-use Rattle.bpf_suite.specs.Outcomes.{missing, with_cells}
-use Rattle.bpf_suite.proofs.Images.{makes-runs}
+use Rattle.bpf_suite.specs.Outcomes.{with_cells}
+use Rattle.bpf_suite.proofs.Leading.{made-lead, made-short}
 use Rattle.bpf_suite.proofs.image.made.Goals as goal
 
-pub returns-in_ok-runs_of-in-Ok-set_cells-clause-made : goal.returns-in_ok-runs_of-in-Ok-set_cells-clause-made
-returns-in_ok-runs_of-in-Ok-set_cells-clause-made c =
+pub runs_of-requires : goal.runs_of-requires
+runs_of-requires c =
     let opened = c.in-Ok.ensures.ok.1 in
-    makes-runs c.args.lines.now c.args.cpu.now.program c.set_cells.new.cpu c.in_ok-runs_of-in-Ok-set_cells.field-0
-    (c.in-Ok-set_cells.ensures.next ∙ ap (with_cells (filter_map cell_of c.args.lines.now)) opened)
-    (subst (λ (y : State). missing y.program.maps (filter_map cell_of c.args.lines.now) ≡ None) opened c.in-Ok-set_cells.ensures.there)
-    (c.set_cells.ensures.program ∙ ap (λ (y : State). y.program) opened) c.in_ok-runs_of-in-Ok-set_cells.ensures
+    let program = c.set_cells.ensures.program ∙ ap (λ (y : State). y.program) opened in
+    made-short (filter_map cell_of c.args.lines.now) c.args.asks.now c.args.cpu.now.program.maps
+    (subst (λ (p : Checked). AreMaps p.maps) program c.invariant.ensures.checked.tables) c.requires.asked c.requires.there
+
+pub returns-clause-lead : goal.returns-clause-lead
+returns-clause-lead c =
+    let opened = c.in-Ok.ensures.ok.1 in
+    let program = c.set_cells.ensures.program ∙ ap (λ (y : State). y.program) opened in
+    made-lead c.args.lines.now c.args.asks.now c.args.cpu.now.program c.set_cells.new.cpu c.runs_of.result c.requires.asked
+    (subst (λ (p : Checked). AreMaps p.maps) program c.invariant.ensures.checked.tables) c.requires.there c.invariant.ensures
+    (c.in-Ok-set_cells.ensures.next ∙ ap (with_cells (filter_map cell_of c.args.lines.now)) opened) program c.runs_of.ensures

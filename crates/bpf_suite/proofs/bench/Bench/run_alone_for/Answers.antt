@@ -1,24 +1,24 @@
 use Rattle.std.proofs.Common.{◌≡◌, ◌++◌, ap, subst, ◌∙◌}
 use Rattle.std.specs.Prelude.{IfOk}
 use Rattle.bpf_suite.specs.Benches.{Shared}
-use Rattle.bpf_suite.specs.Images.{HaveImages}
+use Rattle.bpf_suite.specs.Images.{IsImage}
 use Rattle.bpf_suite.specs.Outcomes.{Comes}
 use Rattle.bpf_suite.specs.Tests.{cells, limited, setting}
 use Rattle.bpf_suite.proofs.Shares.{bench-alone, cells-shared}
 use Rattle.bpf_suite.proofs.bench.Bench.run_alone_for.Goals as goal
 
-pub outcome_of-requires-clause-images : goal.outcome_of-requires-clause-images
-outcome_of-requires-clause-images c =
-    λ yes. subst (λ cs. HaveImages cs c.self.inside.images.items)
-    (cells-shared c.args.own.now c.self.inside.shared _ (c.gets_shared-shares.ensures yes) c.setting_of-setting.ensures) c.self.invariant.images
+pub outcome_of-requires-clause-image : goal.outcome_of-requires-clause-image
+outcome_of-requires-clause-image c =
+    λ yes. subst (λ cs. IsImage cs c.self.inside.image)
+    (cells-shared c.args.own.now c.self.inside.shared _ (c.gets_shared-shares.ensures yes) c.setting_of-setting.ensures) c.self.invariant.image
 
 pub invariant_of-self : goal.invariant_of-self
 invariant_of-self c =
     let own = c.args.own.now in
     let shared = c.self.inside.shared in
-    let images = c.outcome_of.ensures.images (cells shared)
-    (λ yes. cells-shared own shared _ (c.gets_shared-shares.ensures yes) c.setting_of-setting.ensures) c.self.invariant.images in
-    bench-alone shared _ _ _ _ _ _ c.self.invariant images
+    let image = c.outcome_of.ensures.image (cells shared)
+    (λ yes. cells-shared own shared _ (c.gets_shared-shares.ensures yes) c.setting_of-setting.ensures) c.self.invariant.image in
+    bench-alone shared _ _ _ _ _ _ c.self.invariant image
 
 pub returns-clause-comes : goal.returns-clause-comes
 returns-clause-comes c =

@@ -1,7 +1,7 @@
 use Rattle.std.proofs.Common.{◌≡◌, ◌++◌, ap, subst, ◌∙◌}
 use Rattle.std.specs.Prelude.{IfOk}
 use Rattle.bpf_suite.specs.Benches.{Shared, outcome_by}
-use Rattle.bpf_suite.specs.Images.{HaveImages}
+use Rattle.bpf_suite.specs.Images.{IsImage}
 use Rattle.bpf_suite.specs.Outcomes.{Comes}
 use Rattle.bpf_suite.specs.Tests.{cells, limited, setting}
 use Rattle.bpf_suite.proofs.Shares.{bench-after, cells-shared, loads-again, words-again}
@@ -30,8 +30,8 @@ run_on-requires c =
     let shared = c.self.inside.shared in
     record {
       loads = c.in_ok-bring.ensures.brings.loads;
-      images = λ yes. subst (λ cs. HaveImages cs c.self.inside.images.items)
-          (cells-shared own shared _ (c.gets_shared-shares.ensures yes) c.setting_of-setting.ensures) c.self.invariant.images;
+      image = λ yes. subst (λ cs. IsImage cs c.self.inside.image)
+          (cells-shared own shared _ (c.gets_shared-shares.ensures yes) c.setting_of-setting.ensures) c.self.invariant.image;
     }
 
 pub invariant_of-self-2 : goal.invariant_of-self-2
@@ -39,8 +39,8 @@ invariant_of-self-2 c =
     let own = c.args.own.now in
     let shared = c.self.inside.shared in
     let same = c.setting_of-setting.ensures in
-    let images = c.run_on.ensures.images (cells shared) (λ yes. cells-shared own shared _ (c.gets_shared-shares.ensures yes) same) c.self.invariant.images in
-    bench-after own shared _ _ _ _ _ _ _ _ _ _ c.requires c.self.invariant images c.maps-maps.ensures same
+    let image = c.run_on.ensures.image (cells shared) (λ yes. cells-shared own shared _ (c.gets_shared-shares.ensures yes) same) c.self.invariant.image in
+    bench-after own shared _ _ _ _ _ _ _ _ _ _ c.requires c.self.invariant image c.maps-maps.ensures same
     c.run_on.ensures.loads c.in_ok-bring.ensures.same
 
 pub returns-clause-comes : goal.returns-clause-comes
