@@ -97,7 +97,7 @@ head='-- maps\n1x1\n-- listing\nexit\n-- result\n0\n-- cells\n'
 } > many
 awk 'BEGIN { print "1..20000"; for (i = 1; i <= 20000; i++) print "ok " i " - x" }' > wanted/out
 tested 'bpfdb test of 20,000 tests that share 20,000 cells' 0 many
-# What they make of maps is kept for some tables, so tests that have other maps in turn, some of which lack a cell, take no longer.
+# What they make of maps is kept for all tables, so tests that have other maps in turn, some of which lack a cell, take no longer.
 {
     printf -- '-- listing\nexit\n-- result\n0\n-- cells\n'
     yes '0 0 00' | head -n 20000
@@ -111,6 +111,25 @@ tested 'bpfdb test of 20,000 tests that share 20,000 cells' 0 many
     run test many
     [ "$(cat found/status) $(grep -c '^ok ' found/out) $(grep -c '^# came: refused Q14 at cell 0 1: ' found/out)" = '1 4000 2000' ] ||
         complain 'bpfdb test of 6,000 tests that share 20,001 cells and have three tables of maps in turn, one of which lacks a cell'
+    exit "$failures"
+)
+failures=$((failures + $?))
+count=$((count + 1))
+# Nor do tests with 400 tables in turn: of 99 of them the first line whose cell they lack is another one each.
+{
+    printf -- '-- listing\nldmapval r1, 0, 3999\nldxb r0, [r1+0]\nldmapval r1, 1, 3600\nldxb r2, [r1+0]\nadd r0, r2\nexit\n-- result\n3\n-- cells\n1 3900 02\n'
+    awk 'BEGIN { for (i = 0; i < 12000; i++) print (i >= 4000) " " i % 4000 " 0" (i >= 8000) + 1 }'
+    awk 'BEGIN { for (i = 1; i <= 6000; i++) print "-- name\nx\n-- maps\n1x4000,1x" (i % 400 + 3697) }'
+} > many
+awk 'BEGIN { print "    204 3900"; for (i = 3901; i < 4000; i++) print "      1 " i }' > lacking
+(
+    ulimit -t 3
+    failures=0
+    : > script
+    run test many
+    sed -n 's/^# came: refused Q14 at cell 1 \([0-9]*\): .*/\1/p' found/out | sort -n | uniq -c | awk '{ printf "%7d %s\n", $1 / 15, $2 }' | cmp -s - lacking &&
+        [ "$(cat found/status) $(grep -c '^ok ' found/out)" = '1 1455' ] ||
+        complain 'bpfdb test of 6,000 tests that share 12,001 cells and have 400 tables of maps in turn, most of which lack a cell'
     exit "$failures"
 )
 failures=$((failures + $?))

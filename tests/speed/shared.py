@@ -1,7 +1,6 @@
 #!/usr/bin/env python3
 """shared.py BPFDB [MIB..]: how long `bpfdb test` takes over files of so many MiB (0.25, 0.5 and 1) of which one section, that all tests share, is half, and
-the tests are the rest. The last one is gone over for each test that has other maps; the others are read once. Prints processor seconds, of one run
-each."""
+the tests are the rest. Each section is read once. Prints processor seconds, of one run each."""
 import resource
 import subprocess
 import sys
@@ -33,7 +32,7 @@ def main():
             ('-- result', ends + '-- result\n' + '0' * half + '\n', [''], 0),
             ('-- result, with blanks', ends + '-- result\n' + ' ' * half + '0\n', [''], 0),
             ('-- fault, with blanks', '-- listing\nldxb r0, [r3+0]\nexit\n-- fault\n' + ' ' * half + 'access\n', [''], 0),
-            ('-- cells, and other maps in turn', ends + '-- cells\n' + '0 0 00\n' * (half // 7), ['-- maps\n1x1\n' + zero, '-- maps\n1x2\n' + zero], 0))
+            ('-- cells, and other maps for each test', ends + '-- cells\n' + '0 0 00\n' * (half // 7), [f'-- maps\n1x{n}\n{zero}' for n in range(1, 4097)], 0))
         for name, front, owns, status in sections:
             tests, length = [], len(front)
             while length < 2 * half - 60:
