@@ -1,2 +1,4 @@
 pub mod Targets
 pub mod Faults
+pub mod Kinds
+pub mod KindLaws

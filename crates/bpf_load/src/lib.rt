@@ -2,11 +2,14 @@
 #![tactic(auto)]
 
 mod fault;
+mod kind;
+pub mod laws;
 mod loading;
 mod program;
 mod target;
 
 pub use fault::{ObjectFault, TargetFault, in_object};
+pub use kind::{is_object, kind_of};
 pub use loading::{LinkedObject, Sources, gathered, link_object};
 pub use program::{Loaded, load, load_again, named_maps};
 pub use target::{SourceKind, Target};

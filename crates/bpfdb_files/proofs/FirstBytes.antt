@@ -3,8 +3,8 @@ use Rattle.std.proofs.Common.{◌≡◌, ◌∙◌, ◌<◌, ◌+◌, ◌-◌, �
 use Rattle.std.proofs.Math.Seq.{take-append-add}
 use Rattle.std.proofs.lemmas.List.{append-nil}
 use Rattle.counted_io.specs.Counted.{Tally}
-use Rattle.bpfdb_files.specs.Reading.{ReadsKind, TakesFirst, context_bytes, program_bytes}
-use Rattle.bpfdb_files.specs.declared.kinds.FileKind.TheVariants.{Context, Program}
+use Rattle.bpfdb_files.specs.Reading.{ReadsKind, TakesFirst, any_bytes, context_bytes, program_bytes}
+use Rattle.bpfdb_files.specs.declared.kinds.FileKind.TheVariants.{Any, Context, Program}
 
 none_some : {A : Type 0} {x : A} → None ≡ Some x → ⊥
 none_some e = cc
@@ -29,12 +29,21 @@ first_taken most (Some held) (Some rest) bytes takes all is =
     ap (λ (m : ℕ). take m all) many ∙ ap (take (length bytes + (most - length bytes))) parts
     ∙ first_of (most - length bytes) bytes rest (λ more. takes.end (omega arith))
 
--- A file is read as a program, or as a context.
+-- A file is read as a program, as what may be one or a source, or as a context.
 pub program_read : {R : Type 0} (remaining : R → Option (List ℕ)) (old new : Tally R) (bytes : List ℕ)
     → TakesFirst program_bytes (remaining old.inner) (remaining new.inner) bytes → new.failures ≡ old.failures
     → ReadsKind remaining Program old new (Some bytes)
 program_read remaining old new bytes takes same = record {
   gives = λ all is. ap Some (first_taken program_bytes (remaining old.inner) (remaining new.inner) bytes takes all is);
+  takes = (takes.taken, takes.bound);
+  same = same;
+}
+
+pub any_read : {R : Type 0} (remaining : R → Option (List ℕ)) (old new : Tally R) (bytes : List ℕ)
+    → TakesFirst any_bytes (remaining old.inner) (remaining new.inner) bytes → new.failures ≡ old.failures
+    → ReadsKind remaining Any old new (Some bytes)
+any_read remaining old new bytes takes same = record {
+  gives = λ all is. ap Some (first_taken any_bytes (remaining old.inner) (remaining new.inner) bytes takes all is);
   takes = (takes.taken, takes.bound);
   same = same;
 }

@@ -5,7 +5,7 @@ use Rattle.counted_io.specs.Counted.{Tally, one_more}
 use Rattle.bpf_isa.specs.Checker.{most_slots}
 use Rattle.bpf_steps.specs.Platform.{context_limit}
 use Rattle.bpfdb_files.specs.declared.kinds.FileKind.{FileKind}
-use Rattle.bpfdb_files.specs.declared.kinds.FileKind.TheVariants.{Program, Context, Source}
+use Rattle.bpfdb_files.specs.declared.kinds.FileKind.TheVariants.{Program, Any, Context, Source}
 use Rattle.bpfdb_files.specs.declared.reading.FirstFault.{FirstFault}
 use Rattle.bpfdb_files.specs.declared.reading.FirstFault.TheVariants.{Unread, Memory}
 
@@ -20,7 +20,8 @@ pub record TakesFirst (most : ℕ) (old new : Option (List ℕ)) (bytes : List �
   pub bound : length bytes ≤ most
   pub end : length bytes < most → IsAtEnd new
 
--- Of a program and of a context a byte more than any has, so that a longer one is refused; of a source no more than this.
+-- Of a program and of a context a byte more than any has, so that a longer one is refused; of a source no more than this, and of what may be one a byte
+-- more.
 abbrev pub program_bytes : ℕ
 program_bytes = 8 * most_slots + 1
 
@@ -30,14 +31,19 @@ context_bytes = context_limit + 1
 abbrev pub source_bytes : ℕ
 source_bytes = 67108864
 
+abbrev pub any_bytes : ℕ
+any_bytes = source_bytes + 1
+
 abbrev pub most_bytes : FileKind → ℕ
 most_bytes Program = program_bytes
+most_bytes Any = any_bytes
 most_bytes Context = context_bytes
 most_bytes Source = source_bytes
 
 -- What is read of a file that has these bytes: nothing of a source that is too long.
 abbrev pub content : FileKind → List ℕ → Option (List ℕ)
 content Program bytes = Some (take program_bytes bytes)
+content Any bytes = Some (take any_bytes bytes)
 content Context bytes = Some (take context_bytes bytes)
 content Source bytes = if nat_le (length bytes) source_bytes then Some bytes else None
 

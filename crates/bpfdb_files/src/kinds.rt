@@ -1,7 +1,7 @@
 //! Files over any reader: how much is read of each kind.
 ghost use Rattle.std.specs.Prelude.{IfOk, IfErr, option_map};
 ghost use Rattle.bpfdb_files.specs.Reading.{Counts, ReadsKind};
-ghost use Rattle.bpfdb_files.specs.declared.kinds.FileKind.TheVariants.{Context, Program, Source};
+ghost use Rattle.bpfdb_files.specs.declared.kinds.FileKind.TheVariants.{Any, Context, Program, Source};
 
 use crate::reading::{FirstFault, read_first};
 use bpf_isa::MOST_SLOTS;
@@ -19,13 +19,18 @@ const CONTEXT_BYTES: usize = CONTEXT_LIMIT + 1;
 
 /// The most bytes of a source: 64 MiB, about a thousand for each instruction that a program can
 /// have.
-const SOURCE_BYTES: usize = 67_108_864;
+pub const SOURCE_BYTES: usize = 67_108_864;
+
+/// The most bytes that are read of what may be a source: one more than any has.
+const ANY_BYTES: usize = SOURCE_BYTES + 1;
 
 /// What a file is read as.
 #[derive(Clone, Copy)]
 pub enum FileKind {
     /// The raw words of a program.
     Program,
+    /// A program, of which only its bytes show whether it is words or a source.
+    Any,
     /// A context.
     Context,
     /// A listing, an object, a file of tests or a script.
@@ -34,7 +39,8 @@ pub enum FileKind {
 
 /// Reads the bytes of a file of a kind, from where the reader stands: of a program at most the first
 /// 524,281 and of a context at most the first 65,537, which is one more than any has; of a source
-/// all, or None where there are more than 67,108,864.
+/// all, or None where there are more than 67,108,864; and of what may be each at most the first
+/// 67,108,865.
 pub fn read_kind<R: Read>(
     alloc: Global,
     reader: &mut Counted<R>,
@@ -46,6 +52,7 @@ pub fn read_kind<R: Read>(
 {
     match kind {
         FileKind::Program => read_program(alloc, reader),
+        FileKind::Any => read_any(alloc, reader),
         FileKind::Context => read_context(alloc, reader),
         FileKind::Source => read_source(alloc, reader),
     }
@@ -61,6 +68,18 @@ fn read_program<R: Read>(
     ensures err { IfErr result (λ why. Counts why reader.old.failures reader.new.failures) }
 {
     match read_first(alloc, reader, PROGRAM_BYTES) {
+        Ok(bytes) => Ok(Some(bytes)),
+        Err(fault) => Err(fault),
+    }
+}
+
+/// Reads the bytes of what may be a source, or one more than any has.
+fn read_any<R: Read>(alloc: Global, reader: &mut Counted<R>) -> Result<Option<Vec<u8>>, FirstFault>
+    ensures ok { IfOk result (λ found. ReadsKind R.remaining Any reader.old reader.new
+        (option_map (λ b. b.items) found)) }
+    ensures err { IfErr result (λ why. Counts why reader.old.failures reader.new.failures) }
+{
+    match read_first(alloc, reader, ANY_BYTES) {
         Ok(bytes) => Ok(Some(bytes)),
         Err(fault) => Err(fault),
     }

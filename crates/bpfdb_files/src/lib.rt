@@ -7,7 +7,7 @@ mod opener;
 mod reading;
 mod retrying;
 
-pub use kinds::{FileKind, read_kind};
+pub use kinds::{FileKind, SOURCE_BYTES, read_kind};
 pub use opener::Opener;
 pub use reading::{FirstFault, read_first};
 pub use retrying::Retrying;
