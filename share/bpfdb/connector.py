@@ -6,6 +6,7 @@ of bpfdb are lines of its script, as gdb's 'monitor' does; docs/COMMANDS.md has 
 import gdb
 import gdb.disassembler
 import gdb.unwinder
+import json
 import os
 import re
 import shlex
@@ -532,14 +533,14 @@ def shapes_of(details):
     if given:
         return given.group(1).split(",")
     words = shlex.split(details.lstrip("|"))
-    if "--object" not in words or "gdb" not in words:
+    if "gdb" not in words:
         return []
-    linking, others = for_link(words[words.index("gdb") + 1:])
-    for name in ("-m", "--journal", "--steps", "--registers"):
-        _, others = all_taken(others, name)
-    files = [word for word in others if not word.startswith("-")]
-    told = called("bpfdb", ["link", *linking, *files]).stderr.decode(errors="replace").split()
-    return told[1].split(",") if told[:1] == ["--maps"] else []
+    words = words[words.index("gdb") + 1:]
+    for name in ("-m", "--mem", "--journal", "--steps", "--registers"):
+        _, words = all_taken(words, name)
+    told = called("bpfdb", ["load", "--json", *words]).stdout.decode(errors="replace").splitlines()
+    rows = [json.loads(line) for line in told]
+    return [f"{row['value']}x{row['entries']}" for row in rows if row["kind"] == "map"]
 
 
 def value_type(name, size):

@@ -42,7 +42,7 @@ V1 | Name a register or an address; COUNT is 1 to 256. r10 has no history: it is
 V2 | Some of the bytes aren't there, or they lie in two regions. 'docs/MACHINE.md' has the addresses; numbers without '0x' are decimal.
 V3 | Name a slot as '12', or several as '12,15', without blanks; 'disasm' or 'lines' shows which there are.
 V4 | The program has no such slot, or it is the second one of a wide load.
-V5 | No instruction has this label, function or line: 'lines' shows which there are. A label needs '--listing'; a function or FILE:LINE needs '--object', and lines an object that was compiled with '-g'. A line without code of its own has none, as 'return 1' often at '-O2': ask about the line of the condition on which it depends. The next line's answer would be about another place.
+V5 | No instruction has this label, function or line: 'lines' shows which there are. A label needs a listing; a function or FILE:LINE needs an object, and lines one that was compiled with '-g'. A line without code of its own has none, as 'return 1' often at '-O2': ask about the line of the condition on which it depends. The next line's answer would be about another place.
 Q1 | No command has this name. Names are lower case and whole: 'continue', not 'c'.
 Q2 | A word after the name is wrong, missing or too many.
 Q3 | Go back, or let it run again by 'set pc'.

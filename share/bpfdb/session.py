@@ -14,7 +14,7 @@ LARGEST_JOURNAL = 16777216
 SHOWS = ('info', 'x', 'disas', 'last-write')
 # The options with a value, those without, and those for `link`.
 WITH_VALUE = ('-m', '--mem', '--maps', '--journal', '--steps', '--section', '--entry', '--entries', '--stub', '--packet', '--with')
-WITHOUT_VALUE = ('--listing', '--object', '--as-compiled')
+WITHOUT_VALUE = ('--words', '--listing', '--object', '--as-compiled')
 FOR_LINK = ('--section', '--entry', '--entries', '--stub', '--as-compiled', '--packet', '--with')
 # What `link` says of a map's name.
 MAP_LINE = re.compile(r'map (\d+): (.*)')

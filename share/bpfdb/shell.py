@@ -204,7 +204,7 @@ def opened(program, given):
     link, kept = [word for option in options for word in option], []
     debug, path = with_readable(debug, kept), file and readable(file, kept)
     source, linked_of = Source(), []
-    if file and start_of(path, 4) == b'\x7fELF':
+    if file and '--words' not in debug and start_of(path, 4) == b'\x7fELF':
         content, said = linked(program, path, link, kept)
         # (--object says what is known already)
         debug = [word for word in debug if word != '--object']
@@ -219,7 +219,7 @@ def opened(program, given):
         kept, path = [*kept, content], path_of(content)
     else:
         debug = debug + link
-        if file and file.endswith('.s') and os.path.isfile(file) and '--listing' not in debug:
+        if file and file.endswith('.s') and os.path.isfile(file) and not has(debug, '--listing') and not has(debug, '--words'):
             debug = debug + ['--listing']
         if '--listing' in debug and file and os.path.isfile(path):
             source = Listing(path, ran([program, 'lines', '--', path], kept)[0])

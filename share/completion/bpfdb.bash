@@ -60,28 +60,29 @@ _bpfdb() {
     --over) mapfile -t COMPREPLY < <(compgen -W "gdb bpfdb" -- "$word"); return ;;
     esac
     if [ "$COMP_CWORD" -eq "$first" ]; then
-        mapfile -t COMPREPLY < <(compgen -W "run trace debug origin whynot diff asm disasm lines check link gdb test batch help --help --version" -- "$word")
+        mapfile -t COMPREPLY < <(compgen -W "run trace debug origin whynot diff asm disasm lines check load link gdb test batch help --help --version" -- "$word")
         return
     fi
     case $job in
-    run) words="-m --mem --maps --steps --strict --listing --object --section --entry --entries --stub --as-compiled --packet --with --json -h --help" ;;
-    trace) words="-m --mem --maps --steps --from --count --branches --profile --strict --listing --object --section --entry --entries --stub --as-compiled --packet --with --json -h --help" ;;
-    debug) words="-m --mem --maps --journal --steps --listing --object --section --entry --entries --stub --as-compiled --packet --with -h --help" ;;
-    origin) words="-m --mem --maps --journal --steps --branches --listing --object --section --entry --entries --stub --script --as-compiled --packet --with --lines --addresses --json --dot -h --help" ;;
-    whynot) words="-m --mem --maps --journal --steps --listing --object --section --entry --entries --stub --script --as-compiled --packet --with --lines --addresses --alone --json -h --help" ;;
-    diff) words="-m --mem --maps --journal --steps --listing --object --section --entry --entries --stub --as-compiled --packet --with --lines --addresses --alone --other-mem --trace --writes --json -h --help" ;;
+    run) words="-m --mem --maps --steps --strict --words --listing --object --section --entry --entries --stub --as-compiled --packet --with --json -h --help" ;;
+    trace) words="-m --mem --maps --steps --from --count --branches --profile --strict --words --listing --object --section --entry --entries --stub --as-compiled --packet --with --json -h --help" ;;
+    debug) words="-m --mem --maps --journal --steps --words --listing --object --section --entry --entries --stub --as-compiled --packet --with -h --help" ;;
+    origin) words="-m --mem --maps --journal --steps --branches --words --listing --object --section --entry --entries --stub --script --as-compiled --packet --with --lines --addresses --json --dot -h --help" ;;
+    whynot) words="-m --mem --maps --journal --steps --words --listing --object --section --entry --entries --stub --script --as-compiled --packet --with --lines --addresses --alone --json -h --help" ;;
+    diff) words="-m --mem --maps --journal --steps --words --listing --object --section --entry --entries --stub --as-compiled --packet --with --lines --addresses --alone --other-mem --trace --writes --json -h --help" ;;
     asm) words="-h --help" ;;
-    disasm) words="--maps --listing --object --section --entry --entries --stub --as-compiled --packet --with --json -h --help" ;;
+    disasm) words="--maps --words --listing --object --section --entry --entries --stub --as-compiled --packet --with --json -h --help" ;;
     lines) words="--object --section --entry --entries --stub --as-compiled --packet --with --json -h --help" ;;
-    check) words="--maps --listing --object --section --entry --entries --stub --as-compiled --packet --with --json -h --help" ;;
+    check) words="--maps --words --listing --object --section --entry --entries --stub --as-compiled --packet --with --json -h --help" ;;
+    load) words="--maps --words --listing --object --section --entry --entries --stub --as-compiled --packet --with --json -h --help" ;;
     link) words="--section --entry --entries --stub --as-compiled --packet --with --joined -h --help" ;;
-    gdb) words="-m --mem --maps --journal --steps --listing --object --registers --section --entry --entries --stub --as-compiled --packet --with -h --help" ;;
+    gdb) words="-m --mem --maps --journal --steps --words --listing --object --registers --section --entry --entries --stub --as-compiled --packet --with -h --help" ;;
     test) words="--only --show --cover --cover-info --anywhere --json -h --help" ;;
     batch) words="--maps --steps -h --help" ;;
-    shell) words="-m --mem --maps --journal --steps --listing --object --section --entry --entries --stub --as-compiled --packet --with -h --help" ;;
-    page) words="-m --mem --maps --steps --listing --section --entry --entries --stub --as-compiled -o --output --from --count --title --object -h --help" ;;
+    shell) words="-m --mem --maps --journal --steps --words --listing --object --section --entry --entries --stub --as-compiled --packet --with -h --help" ;;
+    page) words="-m --mem --maps --steps --words --listing --section --entry --entries --stub --as-compiled -o --output --from --count --title --object -h --help" ;;
     dap) words="--port --over -h --help" ;;
-    help) words="run trace debug origin whynot diff asm disasm lines check link gdb test batch" ;;
+    help) words="run trace debug origin whynot diff asm disasm lines check load link gdb test batch" ;;
     *) return ;;
     esac
     case $word in

@@ -5,7 +5,7 @@
 // And for tests in JavaScript:
 //
 //   import { run } from "./bpfdb.mjs";
-//   const { status, out, err } = await run(["run", "--listing", "two.s"], { files: { "two.s": "mov r0, 2\nexit\n" } });
+//   const { status, out, err } = await run(["run", "two.s"], { files: { "two.s": "mov r0, 2\nexit\n" } });
 //
 // Its files, its standard input (`input`) and what it wrote (`out`, `err`) are in memory: bytes, or texts on the way in. `memory` is the most that it takes, and `room` the
 // most of standard output that is kept, in bytes. `execute` runs the command itself, over node's files.

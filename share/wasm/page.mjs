@@ -79,8 +79,7 @@ async function take(chosen) {
 // --- The line of words.
 
 function propose(name) {
-  const flag = { listing: "--listing ", object: "--object " }[kindOf(name)] ?? "";
-  setWords(kindOf(name) === "tests" ? `test ${quoted(name)}` : `debug ${flag}${quoted(name)}`);
+  setWords(`${kindOf(name) === "tests" ? "test" : "debug"} ${quoted(name)}`);
   at("words").focus();
 }
 

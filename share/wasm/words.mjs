@@ -6,9 +6,9 @@ const WITH_VALUE = new Set(["-m", "--mem", "--maps", "--journal", "--steps", "--
 const LINKING = new Set(["--section", "--entry", "--entries", "--stub", "--as-compiled", "--packet", "--with"]);
 const RUNS = ["run", "debug", "trace", "origin", "whynot", "diff"];
 const OFFERED = {
-  listing: [...RUNS, "check", "asm", "lines", "disasm"],
-  object: [...RUNS, "check", "link", "lines", "disasm"],
-  words: [...RUNS, "check", "disasm"],
+  listing: [...RUNS, "check", "load", "asm", "lines", "disasm"],
+  object: [...RUNS, "check", "load", "link", "lines", "disasm"],
+  words: [...RUNS, "check", "load", "disasm"],
   tests: ["test"],
 };
 // Those that want one more word: a place, or a second program or context.
@@ -68,9 +68,9 @@ export function lines({ file, options, kind }) {
   const line = (subcommand) => {
     const words = [subcommand];
     if (RUNS.includes(subcommand)) words.push(...of("-m", "--mem"));
-    if ([...RUNS, "check", "disasm"].includes(subcommand)) words.push(...of("--maps"));
-    if (kind === "listing" && !["asm", "lines"].includes(subcommand)) words.push("--listing");
-    if (kind === "object") words.push(...(subcommand === "link" ? [] : ["--object"]), ...linking);
+    if ([...RUNS, "check", "load", "disasm"].includes(subcommand)) words.push(...of("--maps"));
+    if (kind === "listing" && kindOf(file) !== kind && !["asm", "lines"].includes(subcommand)) words.push("--listing");
+    if (kind === "object") words.push(...(kindOf(file) === kind || subcommand === "link" ? [] : ["--object"]), ...linking);
     const text = [...words, file].map(quoted).join(" ");
     return ["asm", "link"].includes(subcommand) ? `${text} > ${quoted(file.replace(/\.[so]$/, "") + ".bin")}` : text;
   };

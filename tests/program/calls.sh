@@ -55,7 +55,8 @@ hinted() {
     check "bpfdb $* with a terminal as standard error" 2 '' "$line\n${hint:+$hint\n}"
 }
 
-# C3, and C4 and C6 at slot 0, of what begins as an object (0x7f, E, L, F) or as a text have a hint: with each subcommand that checks a program.
+# C3, and C4 and C6 at slot 0, of what begins as an object (0x7f, E, L, F) or as a text and is read as words have a hint: with each subcommand that checks a
+# program.
 bytes object 7f 45 4c 46 02 01 01 00 00 00 00 00 00 00 00 00
 head -c 13 object > cut.o
 printf 'mov r0, 7\nexit\n' > plain.s
@@ -64,32 +65,36 @@ printf 'exit ; 12345678\n' > unused.s
 ragged='refused C3: length is no multiple of 8'
 unknown='refused C4 at slot 0: unknown instruction'
 unused='refused C6 at slot 0: unused field is not zero'
-for subcommand in run trace debug origin gdb disasm check; do
-    hinted "$unused" 'object looks like an object: --object' "$subcommand" object
-    hinted "$ragged" 'plain.s looks like a listing: --listing' "$subcommand" plain.s
+for subcommand in run trace debug origin gdb disasm check load; do
+    hinted "$unused" 'object looks like an object: --object' "$subcommand" --words object
+    hinted "$ragged" 'plain.s looks like a listing: --listing' "$subcommand" --words plain.s
 done
-hinted "$ragged" 'cut.o looks like an object: --object' check cut.o
-hinted "$unknown" 'comment.s looks like a listing: --listing' check comment.s
-hinted "$unused" 'unused.s looks like a listing: --listing' check unused.s
+hinted "$ragged" 'cut.o looks like an object: --object' check --words cut.o
+hinted "$unknown" 'comment.s looks like a listing: --listing' check --words comment.s
+hinted "$unused" 'unused.s looks like a listing: --listing' check --words unused.s
 cp object "$(printf 'a\033b')"
-hinted "$unused" 'a\\x1bb looks like an object: --object' check "$(printf 'a\033b')"
+hinted "$unused" 'a\\x1bb looks like an object: --object' check --words "$(printf 'a\033b')"
 
 # A text has a line feed among its first 4,096 bytes, and there none but printing ASCII, tabs, carriage returns and line feeds.
 printf '\ta\r\nb' > blanks.s
-hinted "$ragged" 'blanks.s looks like a listing: --listing' check blanks.s
+hinted "$ragged" 'blanks.s looks like a listing: --listing' check --words blanks.s
 for count in 4095 4096; do
     { head -c "$count" /dev/zero | tr '\0' a; printf '\nb'; } > "late$count.s"
 done
-hinted "$ragged" 'late4095.s looks like a listing: --listing' check late4095.s
-hinted "$ragged" '' check late4096.s
+hinted "$ragged" 'late4095.s looks like a listing: --listing' check --words late4095.s
+hinted "$ragged" '' check --words late4096.s
 printf 'exit' > unended.s
 printf 'exit ; \303\244\n' > umlaut.s
 printf 'exit\177\n' > delete.s
 for text in unended umlaut delete; do
-    hinted "$ragged" '' check "$text.s"
+    hinted "$ragged" '' check --words "$text.s"
 done
 { head -c 4095 /dev/zero | tr '\0' '\n'; printf 'a\377b'; } > binary-later.s
-hinted "$ragged" 'binary-later.s looks like a listing: --listing' check binary-later.s
+hinted "$ragged" 'binary-later.s looks like a listing: --listing' check --words binary-later.s
+
+# A text of another name is read as words, too, where nothing says that it is a listing.
+cp plain.s plain
+hinted "$ragged" 'plain looks like a listing: --listing' run plain
 
 # Nothing is said of other bytes, of other faults (here C6 at slot 1 of a text, whose first word jumps to slot 2571), nor where FILE isn't read as words.
 bytes zeros 00 00 00 00 00 00 00 00
@@ -99,11 +104,11 @@ hinted "$ragged" '' run zeros
 bytes later b7 00 00 00 00 00 00 00 95 10 00 00 00 00 00 00
 hinted 'refused C6 at slot 1: unused field is not zero' '' run later
 { printf 'e\t\n\naaaa'; yes 'exit ; 1' | head -n 2600 | tr -d '\n'; } > later.s
-hinted 'refused C6 at slot 1: unused field is not zero' '' run later.s
-hinted 'refused M5: malformed map list' '' run --maps x object
+hinted 'refused C6 at slot 1: unused field is not zero' '' run --words later.s
+hinted 'refused M5: malformed map list' '' run --words --maps x object
+hinted 'refused F1: an object has maps of its own: leave --maps out' '' run --maps x object
 hinted 'refused A6 at line 1: byte outside ASCII text' '' run --listing object
 hinted 'refused A6 at line 1: byte outside ASCII text' '' asm object
-hinted 'refused A6 at line 1: byte outside ASCII text' '' lines object
 hinted 'refused E1: no ELF file' '' link plain.s
 hinted 'cannot read missing' '' run missing
 hinted 'refused J1: journal size out of range' '' debug --journal 0 program

@@ -357,7 +357,6 @@ refused 'refused C3: length is no multiple of 8 (the other run)' diff --writes o
 refused 'refused C3: length is no multiple of 8' diff --writes ragged one.bin
 refused 'refused O1: context too long (the other run)' diff --writes -m four --other-mem long one.bin
 usage "the argument '[OTHER]' cannot be used with '--other-mem <PATH>'" diff --other-mem four one.bin two.bin
-usage "the argument '--object' cannot be used with '[OTHER]'" diff --object one.bin two.bin
 usage "unexpected argument 'third' found" diff first second third
 
 # Against a trace of `trace`'s own form: the same; another value, another slot; each line but the end; no line; lines behind the end; another end.

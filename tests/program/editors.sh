@@ -34,7 +34,7 @@ if has bash 'completion in bash'; then
     completed '\n' bpfdb run --steps ''
     completed 'program.bin\n' bpfdb run -m prog
     completed 'program.bin\n' bpfdb check prog
-    completed 'lines\nlink\n' bpfdb help l
+    completed 'lines\nload\nlink\n' bpfdb help l
     completed '--addresses\n' bpfdb origin --ad
     completed '--journal\n' bpfdb-shell --j
     completed '--section\n' bpfdb-shell --sec

@@ -117,7 +117,9 @@ refused_in_60_mb() {
     ) || failures=$((failures + 1))
 }
 
-refused_in_60_mb 'refused C2: program too long' run /dev/zero
+# (what may be a listing or an object is read as far as one may go)
+refused_in_60_mb 'refused C2: program too long' run --words /dev/zero
+refused_in_60_mb 'out of memory' run /dev/zero
 refused_in_60_mb 'refused O1: context too long' debug -m /dev/zero program
 refused_in_60_mb 'out of memory' asm /dev/zero
 refused_in_60_mb 'out of memory' check --listing /dev/zero

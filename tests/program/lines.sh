@@ -51,8 +51,8 @@ refused 'refused E31: no such function in the code section: entry' lines --objec
 printf 'none' > none.o
 refused 'refused E1: no ELF file' lines --object none.o
 refused 'refused A1 at line 1: unknown mnemonic' lines none.o
-usage "'--section', '--entry', '--entries', '--stub', '--as-compiled', '--packet' and '--with' need '--object'" lines --with calls.o none.o
-usage "'--section', '--entry', '--entries', '--stub', '--as-compiled', '--packet' and '--with' need '--object'" lines --section prog none.o
+refused 'refused E1: no ELF file' lines --with calls.o none.o
+refused 'refused E1: no ELF file' lines --section prog none.o
 
 find_compilers 'lines --object'
 for compiler in $compilers; do

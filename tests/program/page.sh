@@ -58,7 +58,7 @@ if has python3 'pages of runs'; then
     made 2 "$(told link --section none overrun.o)" -o left/run.html --section none overrun.o
     made 2 "$(told link --entry none overrun.o)" -o left/run.html overrun.o --entry=none
     made 2 "$(told link two.s)" -o left/run.html --object two.s
-    made 2 "$(told trace --profile --maps 8 overrun.o)" -o left/run.html --maps 8 overrun.o
+    made 2 "$(told trace --profile --words --maps 8 overrun.o)" -o left/run.html --maps 8 overrun.o
     made 2 'bpfdb-page: the run has 2 steps, and none from 3 on\n' -o left/run.html --from 3 two.s
     made 2 "cannot write $PWD/none/run.html\\n" -o none/run.html two.s
     made 2 "cannot write left\\n" -o left two.s

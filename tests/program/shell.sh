@@ -422,4 +422,4 @@ compile errors
 bytes object 7f 45 4c 46 02 01 01 00
 PATH=$PWD/bare ./errors "$shell" object < script > found/out 2> found/err
 echo $? > found/status
-check 'bpfdb-shell without python3: an object' 2 '' 'bpfdb-shell: there is no python3, so this is bpfdb debug alone\nrefused C6 at slot 0: unused field is not zero\nobject looks like an object: --object\n'
+check 'bpfdb-shell without python3: an object' 2 '' 'bpfdb-shell: there is no python3, so this is bpfdb debug alone\nrefused E1: no ELF file\n'

@@ -42,14 +42,16 @@ each() {
     awk -v slots="$(($(wc -c < words) / 8))" '$1 !~ /^[0-9]+$/ || $1 >= slots || NF < 3 { bad = 1 } END { exit bad || !NR }' found/rows || complain "lines $options $object: $(cat found/rows)"
 }
 
-# needs OPTION..: each subcommand refuses it where no object is linked.
+# needs OPTION..: each subcommand takes FILE for an object then, and refuses it where FILE is said to be none.
 needs() {
     for subcommand in run trace debug origin whynot diff disasm lines check gdb; do
         what=''
         [ "$subcommand" != whynot ] || what=0
         [ "$subcommand" != diff ] || what='--other-mem other'
         # shellcheck disable=SC2086
-        usage "'--section', '--entry', '--entries', '--stub', '--as-compiled', '--packet' and '--with' need '--object'" $subcommand "$@" words $what
+        refused 'refused E1: no ELF file' $subcommand "$@" words $what
+        # shellcheck disable=SC2086
+        [ "$subcommand" = lines ] || usage "'--section', '--entry', '--entries', '--stub', '--as-compiled', '--packet' and '--with' are of objects: without '--words', '--listing' and '--maps'" $subcommand "$@" --words words $what
     done
 }
 

@@ -172,7 +172,8 @@ exit'
     done
     # shellcheck disable=SC2046
     usage "the argument '--entry <NAME>' is used more than 16 times" link $(entries $(yes count | head -n 17)) pair.o
-    usage "'--section', '--entry', '--entries', '--stub', '--as-compiled', '--packet' and '--with' need '--object'" run --entry store --entry take words
+    usage "'--section', '--entry', '--entries', '--stub', '--as-compiled', '--packet' and '--with' are of objects: without '--words', '--listing' and '--maps'" run --listing --entry store --entry take words
+    refused 'refused E1: no ELF file' run --entry store --entry take words
     refused 'refused E31: no such function in the code section: none' link --entry store --entry none pair.o
     refused 'refused E31: no such function in the code section: none' link --entry none@8 --entry nothing pair.o
     refused 'refused E31: no such function in the code section: kept' link --entry kept --entry store pair.o

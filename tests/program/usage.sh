@@ -131,19 +131,24 @@ usage "unexpected argument '--step' found" run --step 7 first
 usage "unexpected argument '--Steps' found" run --Steps 7 first
 usage "unexpected argument 'second' found" run first second
 usage 'a value is none of those that its option takes' gdb --registers arm first
-# Options that don't go together: an object is no listing and has its own maps, and of a link is asked where an object is linked.
-for subcommand in run trace debug origin whynot diff gdb disasm check; do
+# Options that don't go together: FILE is one thing, an object has its own maps, and of a link is asked where FILE is an object.
+of_objects="'--section', '--entry', '--entries', '--stub', '--as-compiled', '--packet' and '--with' are of objects: without '--words', '--listing' and '--maps'"
+for subcommand in run trace debug origin whynot diff gdb disasm check load; do
     what=''
     [ $subcommand != whynot ] || what=0
     [ $subcommand != diff ] || what=--other-mem=a
     # (what is asked about is a word without blanks, or none)
+    usage "the argument '--listing' cannot be used with '--words'" $subcommand --words --maps 8x2 --listing first $what
+    usage "the argument '--object' cannot be used with '--words'" $subcommand --object --words first $what
+    usage "the argument '--object' cannot be used with '--words'" $subcommand --listing --words --section a --object first $what
     usage "the argument '--object' cannot be used with '--listing'" $subcommand --object --listing first $what
     usage "the argument '--object' cannot be used with '--listing'" $subcommand --listing --maps 8x2 --section a --object first $what
     usage "the argument '--object' cannot be used with '--maps <VxN,VxN>'" $subcommand --maps 8x2 --object first $what
     usage "the argument '--object' cannot be used with '--maps <VxN,VxN>'" $subcommand --object first $what --maps=
     for option in --section=a --section= --entry=a --stub=5=0 --as-compiled --packet=xdp --with=a; do
-        usage "'--section', '--entry', '--entries', '--stub', '--as-compiled', '--packet' and '--with' need '--object'" $subcommand $option first $what
-        usage "'--section', '--entry', '--entries', '--stub', '--as-compiled', '--packet' and '--with' need '--object'" $subcommand first $what --listing $option
+        usage "$of_objects" $subcommand $option --maps 8x2 first $what
+        usage "$of_objects" $subcommand first $what --listing $option
+        usage "$of_objects" $subcommand first $what $option --words
     done
     usage "the argument '--object' cannot be used multiple times" $subcommand --object --object first $what
     usage "unexpected value 'yes' for '--object' found; no more were expected" $subcommand --object=yes first $what

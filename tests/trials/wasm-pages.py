@@ -143,7 +143,7 @@ def examples(page, trials, top):
 
 def subcommands(page, trials):
     """A file that is clicked on is that of the line of words, and a button below the line gives it to another subcommand, or writes the line where a word lacks."""
-    for name, offered in (('program.s', 'debug --listing program.s'), ('firewall.o', 'debug --object firewall.o'), ('program.bin', 'debug program.bin'), ('counters.test', 'test counters.test')):
+    for name, offered in (('program.s', 'debug program.s'), ('firewall.o', 'debug firewall.o'), ('program.bin', 'debug program.bin'), ('counters.test', 'test counters.test')):
         page.value(f'[...document.querySelectorAll("#files .name")].find((each) => each.textContent === {json.dumps(name)}).click()')
         trials.same(f'a click on {name}', offered, page.value('document.getElementById("words").value'))
         for number, line in enumerate(page.value('[...document.querySelectorAll("#subcommands button")].map((each) => each.title)')):

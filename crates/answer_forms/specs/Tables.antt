@@ -2,7 +2,7 @@
 use Rattle.std.specs.Prelude.{ℕ, true, false, List, [], ◌∷◌, ◌++◌, codes}
 use Rattle.answer_forms.specs.Shapes.{Pattern, Spot}
 use Rattle.answer_forms.specs.declared.answer.Answer.{Answer}
-use Rattle.answer_forms.specs.declared.answer.Answer.TheVariants.{Value, Run, Profile, Check, Listing, Lines, Sources, Report}
+use Rattle.answer_forms.specs.declared.answer.Answer.TheVariants.{Value, Run, Profile, Check, Listing, Lines, Program, Report}
 use Rattle.answer_forms.specs.declared.shape.Rest.{Rest}
 use Rattle.answer_forms.specs.declared.shape.Rest.TheVariants.{Nothing, Moves, Labels, Registers}
 
@@ -99,19 +99,26 @@ listing_shapes =
     ∷ shape (codes "insn") [] (text (codes "insn") [] ∷ []) Nothing
     ∷ []
 
--- The lines of a listing, by slot; and those of the sources of an object.
+-- Where slots stand: in a function of C, and in a line of it; and in a line of a listing, with labels or without.
 abbrev pub line_shapes : List Pattern
 line_shapes =
-    shape (codes "line") [] (count (codes "slot") (codes " ") ∷ count (codes "line") (codes " ") ∷ []) Labels
-    ∷ shape (codes "line") [] (count (codes "slot") (codes " ") ∷ count (codes "line") [] ∷ []) Labels
-    ∷ []
-
-abbrev pub source_shapes : List Pattern
-source_shapes =
     shape (codes "line") [] (count (codes "slot") (codes " - ") ∷ text (codes "function") [] ∷ []) Nothing
     ∷ shape (codes "line") []
     (count (codes "slot") (codes " ") ∷ text (codes "file") (codes ":") ∷ count (codes "line") (codes " ")
     ∷ text (codes "function") [] ∷ []) Nothing
+    ∷ shape (codes "line") [] (count (codes "slot") (codes " ") ∷ count (codes "line") (codes " ") ∷ []) Labels
+    ∷ shape (codes "line") [] (count (codes "slot") (codes " ") ∷ count (codes "line") [] ∷ []) Labels
+    ∷ []
+
+-- The maps of a program: with a name, or without.
+abbrev pub map_shapes : List Pattern
+map_shapes =
+    shape (codes "map") (codes "map ")
+    (count (codes "map") (codes ": ") ∷ count (codes "value") (codes "x") ∷ count (codes "entries") (codes " at ")
+    ∷ text (codes "address") (codes " ") ∷ text (codes "name") [] ∷ []) Nothing
+    ∷ shape (codes "map") (codes "map ")
+    (count (codes "map") (codes ": ") ∷ count (codes "value") (codes "x") ∷ count (codes "entries") (codes " at ")
+    ∷ text (codes "address") [] ∷ []) Nothing
     ∷ []
 
 -- A report on tests, and what follows those that failed, and on what ran.
@@ -150,5 +157,5 @@ patterns_of Profile = profile_shapes ++ place_shapes
 patterns_of Check = check_shapes
 patterns_of Listing = listing_shapes
 patterns_of Lines = line_shapes
-patterns_of Sources = source_shapes
+patterns_of Program = check_shapes ++ map_shapes ++ line_shapes
 patterns_of Report = report_shapes

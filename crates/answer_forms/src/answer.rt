@@ -13,10 +13,10 @@ pub enum Answer {
     Check,
     /// What `disasm` prints.
     Listing,
-    /// What `lines` prints of a listing.
+    /// What `lines` prints.
     Lines,
-    /// What `lines` prints of an object.
-    Sources,
+    /// What `load` prints.
+    Program,
     /// What `test` prints.
     Report,
 }

@@ -277,8 +277,8 @@ const PROFILE: [Shape; 6] = [
     },
 ];
 
-/// What `check` prints.
-const CHECK: [Shape; 1] = [Shape {
+/// How many instructions and slots a program has.
+const SIZE: Shape = Shape {
     kind: b"ok",
     begin: b"ok ",
     fields: &[
@@ -286,7 +286,10 @@ const CHECK: [Shape; 1] = [Shape {
         Field::Count(b"slots", b" slots"),
     ],
     rest: Rest::Nothing,
-}];
+};
+
+/// What `check` prints.
+const CHECK: [Shape; 1] = [SIZE];
 
 /// What `disasm` prints.
 const LISTING: [Shape; 2] = [
@@ -304,42 +307,72 @@ const LISTING: [Shape; 2] = [
     },
 ];
 
-/// What `lines` prints of a listing.
-const LINES: [Shape; 2] = [
-    Shape {
-        kind: b"line",
-        begin: b"",
-        fields: &[Field::Count(b"slot", b" "), Field::Count(b"line", b" ")],
-        rest: Rest::Labels,
-    },
-    Shape {
-        kind: b"line",
-        begin: b"",
-        fields: &[Field::Count(b"slot", b" "), Field::Count(b"line", b"")],
-        rest: Rest::Labels,
-    },
-];
+/// Where a slot stands in C: in a function alone, or in a line, too.
+const FUNCTION: Shape = Shape {
+    kind: b"line",
+    begin: b"",
+    fields: &[Field::Count(b"slot", b" - "), Field::Text(b"function", b"")],
+    rest: Rest::Nothing,
+};
 
-/// What `lines` prints of an object.
-const SOURCES: [Shape; 2] = [
-    Shape {
-        kind: b"line",
-        begin: b"",
-        fields: &[Field::Count(b"slot", b" - "), Field::Text(b"function", b"")],
-        rest: Rest::Nothing,
-    },
-    Shape {
-        kind: b"line",
-        begin: b"",
-        fields: &[
-            Field::Count(b"slot", b" "),
-            Field::Text(b"file", b":"),
-            Field::Count(b"line", b" "),
-            Field::Text(b"function", b""),
-        ],
-        rest: Rest::Nothing,
-    },
-];
+const SOURCE: Shape = Shape {
+    kind: b"line",
+    begin: b"",
+    fields: &[
+        Field::Count(b"slot", b" "),
+        Field::Text(b"file", b":"),
+        Field::Count(b"line", b" "),
+        Field::Text(b"function", b""),
+    ],
+    rest: Rest::Nothing,
+};
+
+/// Where a slot stands in a listing, with labels or without.
+const LABELLED: Shape = Shape {
+    kind: b"line",
+    begin: b"",
+    fields: &[Field::Count(b"slot", b" "), Field::Count(b"line", b" ")],
+    rest: Rest::Labels,
+};
+
+const LINE: Shape = Shape {
+    kind: b"line",
+    begin: b"",
+    fields: &[Field::Count(b"slot", b" "), Field::Count(b"line", b"")],
+    rest: Rest::Labels,
+};
+
+/// What `lines` prints.
+const LINES: [Shape; 4] = [FUNCTION, SOURCE, LABELLED, LINE];
+
+/// A map of a program, with a name or without.
+const NAMED_MAP: Shape = Shape {
+    kind: b"map",
+    begin: b"map ",
+    fields: &[
+        Field::Count(b"map", b": "),
+        Field::Count(b"value", b"x"),
+        Field::Count(b"entries", b" at "),
+        Field::Text(b"address", b" "),
+        Field::Text(b"name", b""),
+    ],
+    rest: Rest::Nothing,
+};
+
+const MAP: Shape = Shape {
+    kind: b"map",
+    begin: b"map ",
+    fields: &[
+        Field::Count(b"map", b": "),
+        Field::Count(b"value", b"x"),
+        Field::Count(b"entries", b" at "),
+        Field::Text(b"address", b""),
+    ],
+    rest: Rest::Nothing,
+};
+
+/// What `load` prints.
+const PROGRAM: [Shape; 7] = [SIZE, NAMED_MAP, MAP, FUNCTION, SOURCE, LABELLED, LINE];
 
 /// What `test` prints.
 const REPORT: [Shape; 17] = [
@@ -482,7 +515,7 @@ pub fn shapes_of(answer: Answer) -> &'static [Shape]
         Answer::Check => &CHECK,
         Answer::Listing => &LISTING,
         Answer::Lines => &LINES,
-        Answer::Sources => &SOURCES,
+        Answer::Program => &PROGRAM,
         Answer::Report => &REPORT,
     }
 }

@@ -11,7 +11,7 @@ use Rattle.bpfdb_jobs.specs.Done.{DoesJob}
 use Rattle.bpfdb.specs.declared.telling.Telling.{Telling}
 use Rattle.bpfdb.specs.Telling.{DoesTold, ErrLost, Exhausted, OutLost, Retells, Tells, Written, telling_of}
 use Rattle.bpfdb.specs.Files.{Contents}
-use Rattle.bpfdb.specs.Done.{DoesPlan, DoesReplaced, Done, EndsPlanWith, Replaced, Unread, Unreplaced}
+use Rattle.bpfdb.specs.Done.{DoesFitting, DoesPlan, DoesReplaced, Done, EndsPlanWith, Fits, Misfits, Replaced, Unread, Unreplaced}
 
 -- It is that of the plan's job, unless it is 2, told as JSON or not.
 ends_retold_with : {R W E : Type 0} (reader : Stream R) (writer : Stream W) (errors : Stream E) (telling : Telling) (job : Job) (status : ℕ)
@@ -27,6 +27,12 @@ ends_told_with : {R W E : Type 0} (reader : Stream R) (writer : Stream W) (error
 ends_told_with reader writer errors None job status does other = ends_with reader writer errors job.subcommand job status does other
 ends_told_with reader writer errors (Some telling) job status does other = ends_retold_with reader writer errors telling job status does other
 
+ends_fitting_with : {R W E : Type 0} (reader : Stream R) (writer : Stream W) (errors : Stream E) (at_terminal : Bool) (plan : Plan) (job : Job) (status : ℕ)
+    → DoesFitting at_terminal plan job reader writer errors status → status ≢ 2 → EndsWith job.subcommand job status
+ends_fitting_with reader writer errors at_terminal plan job status (Misfits why is same kept told two) other = absurd (other two)
+ends_fitting_with reader writer errors at_terminal plan job status (Fits none does) other =
+    ends_told_with reader writer (record errors { new = does.told }) (telling_of plan) job status does.does other
+
 ends_replaced_with : {R W E : Type 0} (reader : Stream R) (writer : Stream W) (errors : Stream E) (bytes_at : List ℕ → Option (List ℕ))
     (at_terminal : Bool) (plan : Plan) (of : Contents) (status : ℕ)
     → DoesReplaced bytes_at at_terminal plan of reader writer errors status → status ≢ 2 → EndsPlanWith plan status
@@ -36,7 +42,7 @@ ends_replaced_with reader writer errors bytes_at at_terminal plan of status (Rep
   of = record of { file = bytes };
   job = job;
   is = is;
-  ends = ends_told_with reader writer (record errors { new = does.told }) (telling_of plan) job status does.does other;
+  ends = ends_fitting_with reader writer errors at_terminal plan job status does other;
 }
 
 pub ends_plan_with : {R W E : Type 0} (reader : Stream R) (writer : Stream W) (errors : Stream E) (bytes_at : List ℕ → Option (List ℕ))

@@ -1,15 +1,18 @@
 -- What becomes of a plan, and of help that is asked for.
-use Rattle.std.specs.Prelude.{ℕ, ◌≡◌, Bool, List, Option, Some}
+use Rattle.std.specs.Prelude.{ℕ, ◌≡◌, Bool, List, Option, Some, None}
 use Rattle.bpfdb_cli.specs.declared.plans.Plan.{Plan}
 use Rattle.bpfdb_faults.specs.Streams.{Gets, Loses, Stream, Told}
 use Rattle.bpfdb_faults.specs.Faults.{line_of}
 use Rattle.bpfdb_jobs.specs.Hints.{AddsHint}
 use Rattle.bpfdb_jobs.specs.Statuses.{EndsWith}
 use Rattle.bpfdb_faults.specs.declared.fault.JobFault.{JobFault}
-use Rattle.bpfdb_faults.specs.declared.fault.JobFault.TheVariants.{Memory, Output}
+use Rattle.bpfdb_faults.specs.declared.fault.JobFault.TheVariants.{Memory, Output, Refused}
+use Rattle.bpfdb_faults.specs.declared.kind.KindFault.{KindFault}
+use Rattle.bpfdb_faults.specs.declared.refusal.JobRefusal.TheVariants.{Kind}
 use Rattle.bpfdb_jobs.specs.declared.job.Job.{Job}
 use Rattle.bpfdb.specs.Files.{AreRead, Contents, IsUnread}
 use Rattle.bpfdb.specs.Jobs.{IsJobOf}
+use Rattle.bpfdb.specs.Kinds.{misfit_of}
 use Rattle.bpfdb.specs.Telling.{DoesTold, telling_of}
 use Rattle.bpfdb.specs.declared.telling.Telling.{Telling}
 use Rattle.bpfdb.specs.Tests.{IsTestsFor, IsUnreplaced, files_line}
@@ -23,12 +26,20 @@ pub record DoesHinted {R W E : Type 0} (at_terminal : Bool) (telling : Option Te
   pub does : DoesTold telling job reader writer (record errors { new = told }) status
   pub adds : AddsHint at_terminal job status (record errors { old = told })
 
+-- A job is done unless what its files are doesn't go together with what it asks: that is told, and nothing else happens.
+pub data DoesFitting {R W E : Type 0} (at_terminal : Bool) (plan : Plan) (job : Job) (reader : Stream R) (writer : Stream W) (errors : Stream E)
+    (status : ℕ) : Type 0 where
+  Fits : misfit_of job ≡ None → DoesHinted at_terminal (telling_of plan) job reader writer errors status
+      → DoesFitting at_terminal plan job reader writer errors status
+  Misfits : (why : KindFault) → misfit_of job ≡ Some why → reader.new ≡ reader.old → writer.new ≡ writer.old
+      → Told errors (line_of (Refused (Kind why))) → status ≡ 2 → DoesFitting at_terminal plan job reader writer errors status
+
 -- The job is done over FILE as it is, or over the file of tests in which each section that names files is replaced; or why there is none is told, and
 -- nothing else happens.
 pub data DoesReplaced {R W E : Type 0} (bytes_at : List ℕ → Option (List ℕ)) (at_terminal : Bool) (plan : Plan) (of : Contents)
     (reader : Stream R) (writer : Stream W) (errors : Stream E) (status : ℕ) : Type 0 where
   Replaced : (bytes : List ℕ) → IsTestsFor bytes_at plan of.file bytes → (job : Job) → IsJobOf plan (record of { file = bytes }) job
-      → DoesHinted at_terminal (telling_of plan) job reader writer errors status
+      → DoesFitting at_terminal plan job reader writer errors status
       → DoesReplaced bytes_at at_terminal plan of reader writer errors status
   Unreplaced : (fault : FilesFault) → IsUnreplaced bytes_at plan of.file fault → reader.new ≡ reader.old → writer.new ≡ writer.old
       → Told errors (files_line fault) → status ≡ 2

@@ -1,28 +1,42 @@
 -- What the files of a plan hold, and what a fault of one tells.
-use Rattle.std.specs.Prelude.{ℕ, zero, suc, ◌≡◌, ◌<◌, ◌||◌, Bool, if◌then◌else◌, List, [], ◌∷◌, ◌++◌, Vec, Option, Some, None, get_or, length, map, ⊤}
+use Rattle.std.specs.Prelude.{ℕ, zero, suc, ◌≡◌, ◌<◌, ◌||◌, Bool, true, nat_le, if◌then◌else◌, List, [], ◌∷◌, ◌++◌, Vec, Option, Some, None, get_or, length, map, ⊤}
 use Rattle.std.specs.declared.alloc.Global.{Global}
 use Rattle.std.specs.Borrow.{Bor}
 use Rattle.bpfdb_cli.specs.declared.plans.Plan.{Plan}
 use Rattle.bpfdb.specs.declared.job.Bytes.{Bytes}
 use Rattle.bpf_load.specs.Targets.{contents, texts}
-use Rattle.bpfdb_files.specs.Reading.{Gives}
+use Rattle.bpf_load.specs.declared.target.SourceKind.{SourceKind}
+use Rattle.bpf_load.specs.declared.target.SourceKind.TheVariants.{Words}
+use Rattle.bpfdb_cli.specs.declared.plans.TargetWords.{TargetWords}
+use Rattle.bpfdb.specs.Kinds.{source_kind}
+use Rattle.bpfdb_files.specs.Reading.{Gives, source_bytes}
 use Rattle.bpfdb_files.specs.declared.kinds.FileKind.{FileKind}
-use Rattle.bpfdb_files.specs.declared.kinds.FileKind.TheVariants.{Program, Context, Source}
+use Rattle.bpfdb_files.specs.declared.kinds.FileKind.TheVariants.{Program, Any, Context, Source}
 use Rattle.bpfdb_faults.specs.declared.fault.JobFault.{JobFault}
 use Rattle.bpfdb_faults.specs.declared.fault.JobFault.TheVariants.{Unreadable, Memory}
 use Rattle.bpfdb_options.specs.declared.subcommand.Subcommand.{Subcommand}
-use Rattle.bpfdb_options.specs.declared.subcommand.Subcommand.TheVariants.{Asm, Lines, Link, Test}
+use Rattle.bpfdb_options.specs.declared.subcommand.Subcommand.TheVariants.{Asm, Batch, Lines, Link, Test}
 
--- What FILE is read as, by the subcommand and whether it is said to be a listing or an object.
-abbrev pub kind_in : Subcommand → Bool → FileKind
-kind_in Asm is_source = Source
-kind_in Lines is_source = Source
-kind_in Link is_source = Source
-kind_in Test is_source = Source
-kind_in subcommand is_source = if is_source then Source else Program
+-- What FILE is read as, by the subcommand and by what it is said to be.
+abbrev pub kind_in : Subcommand → TargetWords → FileKind
+kind_in Asm words = Source
+kind_in Lines words = Source
+kind_in Link words = Source
+kind_in Test words = Source
+kind_in Batch words = Program
+kind_in subcommand words = if words.is_listing || words.is_object then Source else if words.is_words then Program else Any
 
 abbrev pub kind_of : Plan → FileKind
-kind_of plan = kind_in plan.subcommand (plan.target.is_listing || plan.target.is_object)
+kind_of plan = kind_in plan.subcommand plan.target
+
+-- It isn't too long for what it is. (Of words the checker says that.)
+abbrev pub is_whole : SourceKind → List ℕ → Bool
+is_whole Words bytes = true
+is_whole kind bytes = nat_le (length bytes) source_bytes
+
+pub record IsFileOf (bytes_at : List ℕ → Option (List ℕ)) (plan : Plan) (bytes : List ℕ) : Type 0 where
+  pub gives : Gives (kind_of plan) (bytes_at plan.file.now) (Some bytes)
+  pub whole : is_whole (source_kind plan plan.file.now bytes) bytes ≡ true
 
 -- What is read of the file of a path that may not be there: where there is none, no bytes.
 abbrev pub GivesNamed : (List ℕ → Option (List ℕ)) → FileKind → Option (Bor (List ℕ)) → List ℕ → Type 0
@@ -68,7 +82,7 @@ contents_in bytes = record {
 
 -- They are what is read, where the bytes of files are known.
 pub record AreRead (bytes_at : List ℕ → Option (List ℕ)) (plan : Plan) (of : Contents) : Type 0 where
-  pub file : Gives (kind_of plan) (bytes_at plan.file.now) (Some of.file)
+  pub file : IsFileOf bytes_at plan of.file
   pub context : GivesNamed bytes_at Context plan.memory of.context
   pub other : GivesNamed bytes_at Source plan.other of.other
   pub with : GivesFirst bytes_at Source (texts plan.target.with.items) (length plan.target.with.items) of.with
@@ -76,11 +90,11 @@ pub record AreRead (bytes_at : List ℕ → Option (List ℕ)) (plan : Plan) (of
 -- Why they aren't read: by the first of them that can't be.
 pub data IsUnread (bytes_at : List ℕ → Option (List ℕ)) (plan : Plan) (fault : JobFault) : Type 0 where
   OfFile : Names plan.file.now fault → IsUnread bytes_at plan fault
-  OfPath : (of_file : List ℕ) → Gives (kind_of plan) (bytes_at plan.file.now) (Some of_file) → NamesGiven plan.memory fault
+  OfPath : (of_file : List ℕ) → IsFileOf bytes_at plan of_file → NamesGiven plan.memory fault
       → IsUnread bytes_at plan fault
-  OfOther : (of_file of_path : List ℕ) → Gives (kind_of plan) (bytes_at plan.file.now) (Some of_file)
+  OfOther : (of_file of_path : List ℕ) → IsFileOf bytes_at plan of_file
       → GivesNamed bytes_at Context plan.memory of_path → NamesGiven plan.other fault → IsUnread bytes_at plan fault
-  OfWith : (of_file of_path of_other : List ℕ) → Gives (kind_of plan) (bytes_at plan.file.now) (Some of_file)
+  OfWith : (of_file of_path of_other : List ℕ) → IsFileOf bytes_at plan of_file
       → GivesNamed bytes_at Context plan.memory of_path → GivesNamed bytes_at Source plan.other of_other
       → NamesOne bytes_at Source (texts plan.target.with.items) fault → IsUnread bytes_at plan fault
 

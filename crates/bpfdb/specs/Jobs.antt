@@ -1,14 +1,13 @@
 -- The job of a plan.
-use Rattle.std.specs.Prelude.{ℕ, ◌≡◌, ◌==◌, Bool, if◌then◌else◌, List, [], length, map, Option, Some, None}
+use Rattle.std.specs.Prelude.{ℕ, ◌≡◌, ◌==◌, if◌then◌else◌, List, [], length, map, Option, Some, None}
 use Rattle.std.specs.Borrow.{Bor}
 use Rattle.bpf_load.specs.Targets.{contents, texts}
-use Rattle.bpf_load.specs.declared.target.SourceKind.{SourceKind}
-use Rattle.bpf_load.specs.declared.target.SourceKind.TheVariants.{Listing, Object, Words}
 use Rattle.bpf_load.specs.declared.target.Target.{Target}
 use Rattle.bpfdb_cli.specs.declared.plans.Plan.{Plan}
 use Rattle.bpfdb_cli.specs.declared.plans.TargetWords.{TargetWords}
 use Rattle.bpfdb_jobs.specs.declared.job.Job.{Job}
 use Rattle.bpfdb_jobs.specs.Jobs.{name_or_empty as text_or_empty}
+use Rattle.bpfdb.specs.Kinds.{source_kind}
 use Rattle.bpfdb.specs.Files.{Contents}
 
 -- The bytes of a file, where one is named.
@@ -25,13 +24,9 @@ name_or_empty name = text_or_empty name
 abbrev pub entry_of : TargetWords → List ℕ
 entry_of words = if length words.turns.items == 0 then name_or_empty words.entry else []
 
--- What FILE is.
-abbrev pub source_kind : TargetWords → SourceKind
-source_kind words = if words.is_object then Object else if words.is_listing then Listing else Words
-
 -- What FILE is, and which program runs: what the plan says of that.
 pub record IsTargetOf (plan : Plan) (of : Contents) (target : Target) : Type 0 where
-  pub kind : target.kind ≡ source_kind plan.target
+  pub kind : target.kind ≡ source_kind plan plan.file.now of.file
   pub maps : target.maps ≡ plan.target.maps
   pub section : target.section.now ≡ name_or_empty plan.target.section
   pub entry : target.entry.now ≡ entry_of plan.target
@@ -50,5 +45,6 @@ pub record IsJobOf (plan : Plan) (of : Contents) (job : Job) : Type 0 where
   pub file : job.file.now ≡ of.file
   pub context : job.context.now ≡ of.context
   pub other : IsNamed plan.other of.other job.other
+  pub other_kind : job.other_kind ≡ source_kind plan (name_or_empty plan.other) of.other
   pub target : IsTargetOf plan of job.target
   pub options : job.options ≡ plan.options

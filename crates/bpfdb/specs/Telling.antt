@@ -20,7 +20,8 @@ use Rattle.answer_forms.specs.declared.answer.Answer.TheVariants as answer
 abbrev pub answer_by : Subcommand → Plan → Answer
 answer_by ask.Run plan = answer.Value
 answer_by ask.Trace plan = if plan.options.is_profile then answer.Profile else answer.Run
-answer_by ask.Lines plan = if plan.target.is_object then answer.Sources else answer.Lines
+answer_by ask.Lines plan = answer.Lines
+answer_by ask.Load plan = answer.Program
 answer_by ask.Disasm plan = answer.Listing
 answer_by ask.Check plan = answer.Check
 answer_by ask.Test plan = answer.Report

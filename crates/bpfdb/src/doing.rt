@@ -1,21 +1,22 @@
 //! What is done of a command line, over any files, reader and writers.
 ghost use Rattle.std.specs.Prelude.{◌≡◌, ◌≤◌, true};
-ghost use Rattle.bpfdb.specs.Done.{DoesHinted, DoesPlan, DoesReplaced, Helps};
+ghost use Rattle.bpfdb.specs.Done.{DoesFitting, DoesPlan, DoesReplaced, Helps};
 ghost use Rattle.bpfdb.specs.Files.{contents_in};
 ghost use Rattle.bpfdb.specs.Jobs.{IsJobOf};
-ghost use Rattle.bpfdb.specs.Telling.{DoesTold, telling_of};
+ghost use Rattle.bpfdb.specs.Telling.{DoesTold};
 ghost use Rattle.bpfdb.specs.Tests.{is_test};
 ghost use Rattle.bpfdb_jobs.specs.declared.job.Job.{Job};
 ghost use Rattle.bpfdb_limits.specs.Limits.{IsLimit};
 ghost use Rattle.counted_io.specs.Writing.{Writes};
 ghost use Rattle.bpfdb_faults.specs.Streams.{stream};
 
-use crate::files::{kind_of, read_each, read_given, read_named};
+use crate::files::{read_each, read_file, read_given};
 use crate::job::{Bytes, job_of};
+use crate::kind::misfit_of;
 use crate::telling::{Telling, retold_tool, telling_of};
 use crate::tests::{is_test, place_of, refuse_tests};
 use bpfdb_cli::Plan;
-use bpfdb_faults::{JobFault, give_up};
+use bpfdb_faults::{JobFault, JobRefusal, give_up};
 use bpfdb_files::{FileKind, Opener};
 use bpfdb_jobs::{Job, add_hint, tool};
 use clap::Error;
@@ -43,7 +44,7 @@ pub fn do_plan<F: Opener, R: Read, W: Write, E: Write>(
         (stream E.contents errors.old errors.new) result }
     ensures status { result ≤ 2 }
 {
-    let file = match read_named(alloc, files, plan.file, kind_of(plan)) {
+    let file = match read_file(alloc, files, plan) {
         Ok(file) => file,
         Err(fault) => return give_up(errors, &fault),
     };
@@ -141,7 +142,7 @@ fn do_tests<F: Opener, R: Read, W: Write, E: Write>(
     do_job(alloc, plan, &tested, at_terminal, reader, writer, errors)
 }
 
-/// Does the job of a plan, with the bytes of its files, and adds its hint.
+/// Does the job of a plan, with the bytes of its files.
 fn do_job<R: Read, W: Write, E: Write>(
     alloc: Global,
     plan: &Plan<'_>,
@@ -153,14 +154,37 @@ fn do_job<R: Read, W: Write, E: Write>(
 ) -> u8
     requires limit { IsLimit plan.now.options.limit }
     ensures does { (job : Job) × IsJobOf plan.now (contents_in bytes.now) job
-        × DoesHinted at_terminal (telling_of plan.now) job (stream R.remaining reader.old reader.new)
+        × DoesFitting at_terminal plan.now job (stream R.remaining reader.old reader.new)
         (stream W.contents writer.old writer.new) (stream E.contents errors.old errors.new) result }
     ensures status { result ≤ 2 }
 {
     let job = job_of(plan, bytes);
-    let status = told_tool(alloc, telling_of(plan), &job, reader, writer, errors);
-    add_hint(alloc, &job, at_terminal, status, errors);
-    status
+    fitting_tool(alloc, plan, &job, at_terminal, reader, writer, errors)
+}
+
+/// Does a job and adds its hint, unless what its files are doesn't go together with what it asks.
+fn fitting_tool<R: Read, W: Write, E: Write>(
+    alloc: Global,
+    plan: &Plan<'_>,
+    job: &Job<'_>,
+    at_terminal: bool,
+    reader: &mut Counted<R>,
+    writer: &mut Counted<W>,
+    errors: &mut Counted<E>,
+) -> u8
+    requires limit { IsLimit job.now.options.limit }
+    ensures does { DoesFitting at_terminal plan.now job.now (stream R.remaining reader.old reader.new)
+        (stream W.contents writer.old writer.new) (stream E.contents errors.old errors.new) result }
+    ensures status { result ≤ 2 }
+{
+    match misfit_of(job) {
+        Some(why) => give_up(errors, &JobFault::Refused(JobRefusal::Kind(why))),
+        None => {
+            let status = told_tool(alloc, telling_of(plan), job, reader, writer, errors);
+            add_hint(alloc, job, at_terminal, status, errors);
+            status
+        }
+    }
 }
 
 /// Does a job, as it is or told in another form.

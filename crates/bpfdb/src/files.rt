@@ -1,18 +1,21 @@
 //! FILE, PATH and the other file: files by their names.
 ghost use Rattle.std.specs.Prelude.{◌≡◌, IfErr, IfOk, Some, length};
-ghost use Rattle.bpfdb.specs.Files.{GivesFirst, GivesNamed, Names, NamesGiven, NamesOne, kind_of};
+ghost use Rattle.bpfdb.specs.Files.{GivesFirst, GivesNamed, IsFileOf, Names, NamesGiven, NamesOne, is_whole, kind_of};
 ghost use Rattle.bpf_load.specs.Targets.{contents, texts};
 ghost use Rattle.bpfdb_files.specs.Reading.{Gives};
 
+use crate::kind::source_kind;
+use bpf_load::SourceKind;
 use bpfdb_cli::Plan;
 use bpfdb_faults::JobFault;
-use bpfdb_files::{FileKind, FirstFault, Opener, read_kind};
+use bpfdb_files::{FileKind, FirstFault, Opener, SOURCE_BYTES, read_kind};
 use bpfdb_options::Subcommand;
 use counted_io::Counted;
 use std::alloc::Global;
 
-/// What FILE is read as: a listing for `asm` and `lines`, an object for `link`, and each where the
-/// plan says so; a file of tests for `test`, and else a program's words.
+/// What FILE is read as: a listing for `asm`, an object for `link`, one of these for `lines`, and each
+/// where the plan says so; a file of tests for `test`; a program's words for `batch`, and where the
+/// plan says so; and else what may be each.
 pub fn kind_of(plan: &Plan<'_>) -> FileKind
     ensures { result ≡ kind_of plan.now }
 {
@@ -21,13 +24,48 @@ pub fn kind_of(plan: &Plan<'_>) -> FileKind
         Subcommand::Lines => FileKind::Source,
         Subcommand::Link => FileKind::Source,
         Subcommand::Test => FileKind::Source,
+        Subcommand::Batch => FileKind::Program,
         _ => {
             if plan.target.is_listing || plan.target.is_object {
                 FileKind::Source
-            } else {
+            } else if plan.target.is_words {
                 FileKind::Program
+            } else {
+                FileKind::Any
             }
         }
+    }
+}
+
+/// The bytes of FILE. What turns out to be a listing or an object can't be read where it is too long
+/// for one.
+pub fn read_file<'a, F: Opener>(
+    alloc: Global,
+    files: &F,
+    plan: &Plan<'a>,
+) -> Result<Vec<u8>, JobFault<'a>>
+    ensures ok { IfOk result (λ b. IsFileOf (F.bytes_at files.now) plan.now b.items) }
+    ensures err { IfErr result (Names plan.now.file.now) }
+{
+    let bytes = match read_named(alloc, files, plan.file, kind_of(plan)) {
+        Ok(bytes) => bytes,
+        Err(fault) => return Err(fault),
+    };
+    let kind = source_kind(plan, plan.file.as_bytes(), bytes.as_slice());
+    if is_whole(kind, bytes.as_slice()) {
+        Ok(bytes)
+    } else {
+        Err(JobFault::Unreadable(plan.file))
+    }
+}
+
+/// Whether a file isn't too long for what it is; of words the checker says that.
+fn is_whole(kind: SourceKind, bytes: &[u8]) -> bool
+    ensures { result ≡ is_whole kind bytes.now }
+{
+    match kind {
+        SourceKind::Words => true,
+        _ => bytes.len() <= SOURCE_BYTES,
     }
 }
 

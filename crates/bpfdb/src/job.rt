@@ -1,9 +1,10 @@
 //! The job of a plan.
 ghost use Rattle.std.specs.Prelude.{◌≡◌};
 ghost use Rattle.bpfdb.specs.Files.{contents_in};
-ghost use Rattle.bpfdb.specs.Jobs.{IsJobOf, IsTargetOf, entry_of, name_or_empty, source_kind};
+ghost use Rattle.bpfdb.specs.Jobs.{IsJobOf, IsTargetOf, entry_of, name_or_empty};
 
-use bpf_load::{SourceKind, Target};
+use crate::kind::source_kind;
+use bpf_load::Target;
 use bpfdb_cli::{Plan, TargetWords};
 use bpfdb_jobs::Job;
 
@@ -33,6 +34,7 @@ pub fn job_of<'a>(plan: &'a Plan<'a>, bytes: &Bytes<'a>) -> Job<'a>
             Some(_) => Some(bytes.other),
             None => None,
         },
+        other_kind: source_kind(plan, name_or_empty(plan.other), bytes.other),
         target: target_of(plan, bytes),
         options: plan.options,
     }
@@ -44,7 +46,7 @@ fn target_of<'a>(plan: &'a Plan<'a>, bytes: &Bytes<'a>) -> Target<'a>
 {
     let words = &plan.target;
     Target {
-        kind: source_kind(words),
+        kind: source_kind(plan, plan.file.as_bytes(), bytes.file),
         maps: words.maps,
         section: name_or_empty(words.section),
         entry: entry_of(words),
@@ -54,19 +56,6 @@ fn target_of<'a>(plan: &'a Plan<'a>, bytes: &Bytes<'a>) -> Target<'a>
         stubs: words.stubs,
         as_compiled: words.as_compiled,
         packet: words.packet,
-    }
-}
-
-/// What FILE is.
-fn source_kind(words: &TargetWords<'_>) -> SourceKind
-    ensures { result ≡ source_kind words.now }
-{
-    if words.is_object {
-        SourceKind::Object
-    } else if words.is_listing {
-        SourceKind::Listing
-    } else {
-        SourceKind::Words
     }
 }
 

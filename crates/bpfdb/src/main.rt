@@ -12,6 +12,7 @@ mod doing;
 mod files;
 mod input;
 mod job;
+mod kind;
 mod opening;
 mod prompt;
 mod telling;

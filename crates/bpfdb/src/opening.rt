@@ -55,6 +55,7 @@ pub fn first_plan() -> Plan<'static>
         memory: None,
         other: None,
         target: TargetWords {
+            is_words: true,
             is_listing: false,
             is_object: false,
             maps: None,

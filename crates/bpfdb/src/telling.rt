@@ -59,13 +59,8 @@ fn answer_for(plan: &Plan<'_>) -> Answer
                 Answer::Run
             }
         }
-        Subcommand::Lines => {
-            if plan.target.is_object {
-                Answer::Sources
-            } else {
-                Answer::Lines
-            }
-        }
+        Subcommand::Lines => Answer::Lines,
+        Subcommand::Load => Answer::Program,
         Subcommand::Disasm => Answer::Listing,
         Subcommand::Check => Answer::Check,
         Subcommand::Test => Answer::Report,

@@ -1,4 +1,4 @@
--- The command line as `clap` is told of it: fourteen subcommands, the options of each, and FILE.
+-- The command line as `clap` is told of it: fifteen subcommands, the options of each, and FILE.
 use Rattle.std.specs.Prelude.{[], ◌∷◌, Some, true, codes}
 use Rattle.clap.specs.Words.{App, Rule, Text, new_app, new_rule, with_rule, with_subcommand}
 use Rattle.clap.specs.declared.builder.action.ArgAction.TheVariants.{Append, SetTrue}
@@ -66,6 +66,10 @@ profile_rule = record (new_rule (codes "profile")) { long = Some (codes "profile
 -- `--strict`: the run stops at a read of the stack where nothing was written.
 abbrev pub strict_rule : Rule
 strict_rule = record (new_rule (codes "strict")) { long = Some (codes "strict"); action = Some SetTrue }
+
+-- `--words`: FILE is words.
+abbrev pub words_rule : Rule
+words_rule = record (new_rule (codes "words")) { long = Some (codes "words"); action = Some SetTrue }
 
 -- `--listing`: FILE is a listing.
 abbrev pub listing_rule : Rule
@@ -196,9 +200,9 @@ abbrev pub with_link_rules : App → App
 with_link_rules app = with_rule (with_rule (with_rule (with_rule (with_rule (with_rule (with_rule app
     section_rule) entry_rule) entries_rule) stub_rule) as_compiled_rule) packet_rule) with_functions_rule
 
--- What FILE may be besides words: a listing, or an object.
+-- What FILE may be said to be: words, a listing, or an object.
 abbrev pub with_file_kinds : App → App
-with_file_kinds app = with_link_rules (with_rule (with_rule app listing_rule) object_rule)
+with_file_kinds app = with_link_rules (with_rule (with_rule (with_rule app words_rule) listing_rule) object_rule)
 
 -- The subcommands and their options.
 abbrev pub run_app : App
@@ -224,6 +228,9 @@ lines_app = with_rule (with_rule (with_link_rules (with_rule (new_app (codes "li
 
 abbrev pub check_app : App
 check_app = with_rule (with_rule (with_file_kinds (with_rule (new_app (codes "check")) maps_rule)) json_rule) file_rule
+
+abbrev pub load_app : App
+load_app = with_rule (with_rule (with_file_kinds (with_rule (new_app (codes "load")) maps_rule)) json_rule) file_rule
 
 abbrev pub link_app : App
 link_app = with_rule (with_rule (with_link_rules (new_app (codes "link"))) joined_rule) file_rule
@@ -268,8 +275,8 @@ unfoldable pub with_questions : App → App
 with_questions app = with_subcommand (with_subcommand (with_subcommand (with_subcommand app origin_app.top) whynot_app.top) diff_app.top) gdb_app.top
 
 unfoldable pub with_files : App → App
-with_files app = with_subcommand (with_subcommand (with_subcommand (with_subcommand (with_subcommand (with_subcommand (with_subcommand app
-    asm_app.top) disasm_app.top) lines_app.top) check_app.top) link_app.top) test_app.top) batch_app.top
+with_files app = with_subcommand (with_subcommand (with_subcommand (with_subcommand (with_subcommand (with_subcommand (with_subcommand (with_subcommand app
+    asm_app.top) disasm_app.top) lines_app.top) check_app.top) load_app.top) link_app.top) test_app.top) batch_app.top
 
 abbrev pub with_subcommands : App → App
 with_subcommands app = with_files (with_questions (with_runs app))

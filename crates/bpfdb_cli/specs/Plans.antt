@@ -107,10 +107,21 @@ names_one entries = nat_le (length entries) 1 && list_all (λ text. not (has_pla
 abbrev pub turns_in : List Row → List Text
 turns_in rows = if names_one (texts_in (codes "entry") rows) then [] else texts_in (codes "entry") rows
 
+-- Something is asked of the link of an object.
+abbrev pub asks_of_link : List Row → Bool
+asks_of_link rows = is_some (first_of (codes "section") rows) || (is_some (first_of (codes "entry") rows)
+    || (is_some (first_of (codes "stub") rows) || (is_given (first_of (codes "as-compiled") rows) || (is_some (first_of (codes "packet") rows)
+    || (is_some (first_of (codes "with") rows) || is_some (first_of (codes "entries") rows))))))
+
+-- FILE is said to be an object, or that is asked.
+abbrev pub is_object : List Row → Bool
+is_object rows = is_given (first_of (codes "object") rows) || asks_of_link rows
+
 -- What they say of FILE, and of the program that runs.
 pub record Aims (rows : List Row) (target : TargetWords) : Type 0 where
+  pub words : target.is_words ≡ is_given (first_of (codes "words") rows)
   pub listing : target.is_listing ≡ is_given (first_of (codes "listing") rows)
-  pub object : target.is_object ≡ is_given (first_of (codes "object") rows)
+  pub object : target.is_object ≡ is_object rows
   pub maps : option_map (λ s. s.now) target.maps ≡ first_of (codes "maps") rows
   pub section : option_map (λ s. s.now) target.section ≡ first_of (codes "section") rows
   pub entry : option_map (λ s. s.now) target.entry ≡ first_of (codes "entry") rows
@@ -150,37 +161,33 @@ pub record AreInRange (rows : List Row) (options : Options) : Type 0 where
   pub limit : IsLimit options.limit
   pub most : IsLimit options.lines
 
--- Something is asked of the link of an object.
-abbrev pub asks_of_link : List Row → Bool
-asks_of_link rows = is_some (first_of (codes "section") rows) || (is_some (first_of (codes "entry") rows)
-    || (is_some (first_of (codes "stub") rows) || (is_given (first_of (codes "as-compiled") rows) || (is_some (first_of (codes "packet") rows)
-    || (is_some (first_of (codes "with") rows) || is_some (first_of (codes "entries") rows))))))
-
--- One other side is named: by a second context, or by a trace; or by a second program, which isn't linked.
+-- One other side is named: by a second context, or by a trace; or by a second program.
 abbrev pub names_side : List Row → Bool
 names_side rows = if is_some (first_of (codes "other-mem") rows)
     then not (is_some (first_of (codes "trace") rows)) else is_some (first_of (codes "trace") rows)
 
 abbrev pub names_other : List Row → Bool
 names_other rows = if is_some (first_of (codes "other") rows)
-    then not (is_some (first_of (codes "other-mem") rows))
-    && (not (is_some (first_of (codes "trace") rows)) && not (is_given (first_of (codes "object") rows)))
+    then not (is_some (first_of (codes "other-mem") rows)) && not (is_some (first_of (codes "trace") rows))
     else names_side rows
 
 -- What two runs leave is compared only where the other side is a run.
 abbrev pub writes_fit : List Row → Bool
 writes_fit rows = not (is_given (first_of (codes "writes") rows) && is_some (first_of (codes "trace") rows))
 
--- Options go together: an object is no listing and has maps of its own, of a link is asked only where an object is linked, `diff` is told
--- of one other side, steps that are counted are those of a run that isn't strict, programs in turn have numbers, and so have maps, and a part of a
--- test and a tracefile are written as they are, and so is a graph.
-abbrev pub link_fits : Text → List Row → Bool
-link_fits name rows = if is_given (first_of (codes "object") rows)
-    then not (is_given (first_of (codes "listing") rows)) && not (is_some (first_of (codes "maps") rows))
-    else bytes_eq name (codes "link") || not (asks_of_link rows)
+-- Options go together: FILE is one thing, an object has maps of its own, `diff` is told of one other side, steps that are counted are those of a run
+-- that isn't strict, programs in turn have numbers, and so have maps, and a part of a test and a tracefile are written as they are, and so is a
+-- graph.
+abbrev pub may_be_object : List Row → Bool
+may_be_object rows = not (is_given (first_of (codes "words") rows))
+    && (not (is_given (first_of (codes "listing") rows)) && not (is_some (first_of (codes "maps") rows)))
+
+abbrev pub kinds_fit : List Row → Bool
+kinds_fit rows = if is_object rows then may_be_object rows
+    else not (is_given (first_of (codes "listing") rows) && is_given (first_of (codes "words") rows))
 
 abbrev pub run_fits : Text → List Row → Bool
-run_fits name rows = if bytes_eq name (codes "diff") then names_other rows && (writes_fit rows && link_fits name rows) else link_fits name rows
+run_fits name rows = if bytes_eq name (codes "diff") then names_other rows && (writes_fit rows && kinds_fit rows) else kinds_fit rows
 
 abbrev pub counts_strictly : List Row → Bool
 counts_strictly rows = is_given (first_of (codes "strict") rows) && is_given (first_of (codes "profile") rows)

@@ -10,11 +10,11 @@ pub const BPFDB: &str = "Runs BPF programs (RFC 9669) forwards and backwards";
 
 pub const BPFDB_LONG: &str = "Runs BPF programs (RFC 9669) forwards and backwards.
 
-FILE holds a program: raw little-endian words, with relocations applied. `bpfdb
-link` makes them from an object of clang; with --object FILE is that object, and
-is linked first. With --listing FILE is a text, one instruction a line; without
---listing such a text is refused, mostly with C3 or C4. The context is the bytes
-that the program works on: r1 has their address, r2 their number.
+FILE holds a program: an object of clang, which is linked first; a listing, one
+instruction a line, whose name ends in .s; or raw little-endian words, with
+relocations applied. Its first bytes and its name show which; --object,
+--listing and --words insist. The context is the bytes that the program works
+on: r1 has their address, r2 their number.
 
 Without arguments bpfdb debugs a small program that is built in: mov r0, 42 and
 exit.";
@@ -24,9 +24,9 @@ pub const BPFDB_EXAMPLE: &str = "Example:
   loop: add r0, 1
   jlt r0, 3, loop
   exit
-  $ bpfdb run --listing count.s
+  $ bpfdb run count.s
   0x3
-  $ printf 'stepi 3\\nreverse-stepi\\nundo\\n' | bpfdb debug --listing count.s
+  $ printf 'stepi 3\\nreverse-stepi\\nundo\\n' | bpfdb debug count.s
   3 forward; done; at 1: jlt r0, 3, L0
   1 back; done; at 0: add r0, 1
   2 back; done; at 0: add r0, 1
@@ -52,7 +52,7 @@ so, too, before an instruction that reads a byte of the stack which nothing
 wrote since the call of its function.";
 
 pub const RUN_EXAMPLE: &str = "Example:
-  $ bpfdb run --steps 5000 --listing count.s
+  $ bpfdb run --steps 5000 count.s
   0x3";
 
 pub const TRACE: &str = "Runs a program to its end and shows each step";
@@ -70,15 +70,15 @@ the steps. --strict stops before an instruction that reads a byte of the stack
 which nothing wrote since the call of its function.";
 
 pub const TRACE_EXAMPLE: &str = "Example:
-  $ bpfdb trace --from 5 --listing count.s
+  $ bpfdb trace --from 5 count.s
   5 0: add r0, 1; r0 = 0x3
   6 1: jlt r0, 3, L0
   7 2: exit
   exited at 2: r0 0x3
-  $ bpfdb trace --branches --count 2 --listing count.s
+  $ bpfdb trace --branches --count 2 count.s
   2 1: jlt r0, 3, L0; r0 = 0x1; jumped
   exited at 2: r0 0x3
-  $ bpfdb trace --profile --listing count.s
+  $ bpfdb trace --profile count.s
   3 0: add r0, 1
   3 1: jlt r0, 3, L0
   1 2: exit
@@ -130,7 +130,7 @@ that the program came to where it stands. If an answer is cut (--lines), its
 last line says so, and the exit status is 1.";
 
 pub const ORIGIN_EXAMPLE: &str = "Example:
-  $ bpfdb origin --listing count.s
+  $ bpfdb origin count.s
   exited at 2: r0 0x3
   -3 r0 = 0x3; 0: add r0, 1; from r0
   -5 r0 = 0x2; 0: add r0, 1; from r0
@@ -159,7 +159,7 @@ out of reach; it can still be reached; it was out of reach from the opening, or
 before what is kept.";
 
 pub const WHYNOT_EXAMPLE: &str = "Example:
-  $ bpfdb whynot --listing first.s 1
+  $ bpfdb whynot first.s 1
   exited at 4: r0 0x1
   -3 0: jeq r1, 0, L3; r1 = 0x0; jumped to 3
   at 0: jeq r1, 0, L3
@@ -171,7 +171,7 @@ pub const DIFF_LONG: &str = "Runs two programs, or one on two contexts, and show
 
 Reads FILE and the context, and a second program, OTHER, or a second context
 (--other-mem). Both runs go forward step by step, each to its end or to the
-limit of steps; OTHER is of FILE's kind, and has the same maps.
+limit of steps; OTHER has the same maps.
 
 Writes to standard output the first step of both at one slot that wrote to other
 places or other values, then the first step at which one is at another slot, or
@@ -196,7 +196,7 @@ place at which they end otherwise is written, and the step of each that wrote it
 last. Behind that stands where both values came from.";
 
 pub const DIFF_EXAMPLE: &str = "Example:
-  $ bpfdb diff --listing -m four.bin --other-mem five.bin port.s
+  $ bpfdb diff -m four.bin --other-mem five.bin port.s
   step 1 wrote otherwise
   < 1 0: ldxb r2, [r1+0]; r2 = 0x4
   > 1 0: ldxb r2, [r1+0]; r2 = 0x5
@@ -244,7 +244,7 @@ pub const LINES_LONG: &str = "Shows the line of each instruction of a listing or
 
 Reads the listing FILE. Writes one line an instruction to standard output, with
 blanks between: its slot, the line of FILE in which it stands, counted from 1,
-and the labels that stand at it. With --object FILE is linked, as by link, and
+and the labels that stand at it. An object is linked, as by link, and
 behind the slot stand FILE:LINE of the source, which an object has if it was
 compiled with -g, and the function: a hyphen for what the object doesn't tell.
 If something is wrong with FILE, a line on standard error says what and where,
@@ -265,8 +265,26 @@ many slots of 8 bytes. The first fault is one line on standard error, with its
 number and, where it has one, its slot or line. Then the exit status is 2.";
 
 pub const CHECK_EXAMPLE: &str = "Example:
-  $ bpfdb check --listing count.s
+  $ bpfdb check count.s
   ok 3 instructions in 3 slots";
+
+pub const LOAD: &str = "Shows what is made of a program: its size, its maps, its lines";
+
+pub const LOAD_LONG: &str = "Shows what is made of a program: its size, its maps, its lines.
+
+Reads FILE as `run` does, and runs nothing. Writes to standard output how many
+instructions and slots the program has, then a line a map: its number, its shape
+as --maps has it, the address of its first byte, and its name in an object. Then
+the lines of `lines` follow, which say where each instruction stands; a file of
+words has none.";
+
+pub const LOAD_EXAMPLE: &str = "Example:
+  $ bpfdb load --maps 8x2 count.s
+  ok 3 instructions in 3 slots
+  map 0: 8x2 at 0x300000000
+  0 1 loop
+  1 2
+  2 3";
 
 pub const LINK: &str = "Makes the words of a program from an ELF object";
 
@@ -400,11 +418,14 @@ pub const PROFILE: &str = "Tells how often each instruction ran, and no steps";
 /// `--strict`.
 pub const STRICT: &str = "Stops before a read of stack that nothing wrote";
 
+/// `--words`.
+pub const WORDS: &str = "FILE is raw words, whatever it looks like";
+
 /// `--listing`.
-pub const LISTING: &str = "FILE is a listing (LISTING.md), assembled first";
+pub const LISTING: &str = "FILE is a listing, whatever its name is";
 
 /// `--object`.
-pub const OBJECT: &str = "FILE is an object of clang, linked first";
+pub const OBJECT: &str = "FILE is an object, whatever it begins with";
 
 /// `--registers`.
 pub const REGISTERS: &str = "Machine for gdb: x86, riscv or bpf";
@@ -510,7 +531,7 @@ begin with '#' are skipped. It goes with neither OTHER nor --other-mem";
 pub const WRITES: &str = "Compares what both runs leave, and not their steps";
 
 /// OTHER.
-pub const OTHER: &str = "Second program: words, or a listing with --listing";
+pub const OTHER: &str = "Second program: a listing (NAME.s), or raw words";
 
 /// `--only NAME`.
 pub const ONLY: &str = "Runs the tests of this name alone";
@@ -551,11 +572,11 @@ pub const WHAT: &str = "r0 to r9, or ADDRESS:COUNT; without it r0, or a fault's 
 pub const GOAL: &str = "Slot, or slots with commas between; label; function or FILE:LINE";
 
 /// FILE.
-pub const PROGRAM: &str = "Program: raw words, with --listing a listing, with --object an object";
+pub const PROGRAM: &str = "Program: an object of clang, a listing (NAME.s), or raw words";
 
 pub const LISTING_FILE: &str = "Listing to be assembled";
 
-pub const LINES_FILE: &str = "Listing (docs/LISTING.md), with --object an object";
+pub const LINES_FILE: &str = "Listing (docs/LISTING.md), or an object";
 
 pub const OBJECT_FILE: &str = "Relocatable ELF object for BPF";
 

@@ -142,6 +142,15 @@ pub(crate) const STRICT: CliOption<'static> = CliOption {
     long_about: "",
 };
 
+/// `--words`.
+pub(crate) const WORDS: CliOption<'static> = CliOption {
+    name: "words",
+    takes: Takes::Nothing,
+    value: "",
+    about: help::WORDS,
+    long_about: "",
+};
+
 /// `--listing`.
 pub(crate) const LISTING: CliOption<'static> = CliOption {
     name: "listing",

@@ -7,7 +7,7 @@ ghost use Rattle.input_texts.specs.Turns.{has_place};
 ghost use Rattle.clap.specs.Words.{Row, Text, all_of, first_of, found_of, rows_of, subcommand_rows_of};
 ghost use Rattle.bpfdb_limits.specs.Limits.{IsLimit};
 ghost use Rattle.bpfdb_cli.specs.Scaffolding.{AskAlike};
-ghost use Rattle.bpfdb_cli.specs.Plans.{Aims, AreInRange, Chooses, HasKindIfTold, IsFaultOf, IsNumber, IsPlan, IsPlanOf, NamesPart, NamesRegisters, Says, Tells, asks_of_link, counts_strictly, go_together, is_given, joins_nothing, joins_packet, names_one, object_fits, link_fits, names_other, number_or, other_in, run_fits, given_or, NamesPacket, entries_fit, has_offset, graph_fits, is_json_graph, is_json_tracefile, most_texts, names_side, writes_fit, shows_json, texts_in, told_fits, turns_in};
+ghost use Rattle.bpfdb_cli.specs.Plans.{Aims, AreInRange, Chooses, HasKindIfTold, IsFaultOf, IsNumber, IsPlan, IsPlanOf, NamesPart, NamesRegisters, Says, Tells, asks_of_link, counts_strictly, go_together, is_given, joins_nothing, joins_packet, names_one, object_fits, is_object, kinds_fit, may_be_object, names_other, number_or, other_in, run_fits, given_or, NamesPacket, entries_fit, has_offset, graph_fits, is_json_graph, is_json_tracefile, most_texts, names_side, writes_fit, shows_json, texts_in, told_fits, turns_in};
 
 use crate::command_line::command_line;
 use crate::plans::{MOST_TEXTS, Plan, PlanFault, TargetWords};
@@ -25,13 +25,15 @@ use std::alloc::Global;
 const BAD_VALUE: &str = "a value is none of those that its option takes";
 
 /// What is said of options that don't go together.
+const LISTING_AND_WORDS: &str = "the argument '--listing' cannot be used with '--words'";
+
+const OBJECT_AND_WORDS: &str = "the argument '--object' cannot be used with '--words'";
+
 const OBJECT_AND_LISTING: &str = "the argument '--object' cannot be used with '--listing'";
 
 const OBJECT_AND_MAPS: &str = "the argument '--object' cannot be used with '--maps <VxN,VxN>'";
 
 const TWO_OTHERS: &str = "the argument '[OTHER]' cannot be used with '--other-mem <PATH>'";
-
-const OBJECT_AND_OTHER: &str = "the argument '--object' cannot be used with '[OTHER]'";
 
 const OTHER_AND_TRACE: &str = "the argument '[OTHER]' cannot be used with '--trace <PATH>'";
 
@@ -67,8 +69,8 @@ const MANY_COUNTS: &str = "the argument '--entries <NAME=N>' is used more than 1
 const BAD_COUNT: &str =
     "each '--entries <NAME=N>' names a map of its own, and N is a number, 1 to 4294967295";
 
-const NO_OBJECT: &str =
-    "'--section', '--entry', '--entries', '--stub', '--as-compiled', '--packet' and '--with' need '--object'";
+const OF_OBJECTS: &str =
+    "'--section', '--entry', '--entries', '--stub', '--as-compiled', '--packet' and '--with' are of objects: without '--words', '--listing' and '--maps'";
 
 /// The plan of a command line, of which the first word is the program's name.
 pub fn plan<'a>(alloc: Global, words: &'a [&'a str]) -> Result<Plan<'a>, PlanFault>
@@ -320,7 +322,7 @@ fn counts_strictly(found: &ArgMatches<'_>) -> bool
     is_given(found, "strict") && is_given(found, "profile")
 }
 
-/// Why what is asked of runs and of a link doesn't go together, if it doesn't.
+/// Why what is asked of runs and said of FILE doesn't go together, if it doesn't.
 fn misfit_of_run(name: &str, found: &ArgMatches<'_>) -> Option<&'static str>
     ensures none { IfNone result (run_fits name.now (rows_of (found_of found.now)) ≡ true) }
     ensures some { OnSome result (run_fits name.now (rows_of (found_of found.now)) ≡ false) }
@@ -328,25 +330,25 @@ fn misfit_of_run(name: &str, found: &ArgMatches<'_>) -> Option<&'static str>
     if name == "diff" {
         match misfit_of_other(found) {
             Some(why) => Some(why),
-            None => misfit_of_writes(name, found),
+            None => misfit_of_writes(found),
         }
     } else {
-        misfit_of_link(name, found)
+        misfit_of_kind(found)
     }
 }
 
-/// Why the other side is none that leaves something to compare, or what is asked of a link doesn't go
-/// together with the rest, if it doesn't.
-fn misfit_of_writes(name: &str, found: &ArgMatches<'_>) -> Option<&'static str>
+/// Why the other side is none that leaves something to compare, or what is said of FILE doesn't go
+/// together, if that is so.
+fn misfit_of_writes(found: &ArgMatches<'_>) -> Option<&'static str>
     ensures none { IfNone result ((writes_fit (rows_of (found_of found.now))
-        && link_fits name.now (rows_of (found_of found.now))) ≡ true) }
+        && kinds_fit (rows_of (found_of found.now))) ≡ true) }
     ensures some { OnSome result ((writes_fit (rows_of (found_of found.now))
-        && link_fits name.now (rows_of (found_of found.now))) ≡ false) }
+        && kinds_fit (rows_of (found_of found.now))) ≡ false) }
 {
     if is_given(found, "writes") && has_text(found, "trace") {
         Some(WRITES_AND_TRACE)
     } else {
-        misfit_of_link(name, found)
+        misfit_of_kind(found)
     }
 }
 
@@ -388,8 +390,6 @@ fn misfit_of_other(found: &ArgMatches<'_>) -> Option<&'static str>
             Some(TWO_OTHERS)
         } else if has_text(found, "trace") {
             Some(OTHER_AND_TRACE)
-        } else if is_given(found, "object") {
-            Some(OBJECT_AND_OTHER)
         } else {
             None
         }
@@ -415,34 +415,52 @@ fn misfit_of_side(found: &ArgMatches<'_>) -> Option<&'static str>
     }
 }
 
-/// Why what is asked of a link doesn't go together with the rest, if it doesn't.
-fn misfit_of_link(name: &str, found: &ArgMatches<'_>) -> Option<&'static str>
-    ensures none { IfNone result (link_fits name.now (rows_of (found_of found.now)) ≡ true) }
-    ensures some { OnSome result (link_fits name.now (rows_of (found_of found.now)) ≡ false) }
+/// Why what is said of FILE doesn't go together, if it doesn't.
+fn misfit_of_kind(found: &ArgMatches<'_>) -> Option<&'static str>
+    ensures none { IfNone result (kinds_fit (rows_of (found_of found.now)) ≡ true) }
+    ensures some { OnSome result (kinds_fit (rows_of (found_of found.now)) ≡ false) }
 {
     if is_given(found, "object") {
         misfit_with_object(found)
-    } else if name == "link" {
-        None
     } else if asks_of_link(found) {
-        Some(NO_OBJECT)
+        misfit_of_link(found)
+    } else if is_given(found, "listing") && is_given(found, "words") {
+        Some(LISTING_AND_WORDS)
     } else {
         None
     }
 }
 
-/// What doesn't go together with `--object`, if there is something.
+/// What is said beside `--object` and is of no object, if there is something.
 fn misfit_with_object(found: &ArgMatches<'_>) -> Option<&'static str>
-    ensures { is_some result ≡ not (not (is_given (first_of (codes "listing") (rows_of (found_of found.now))))
-        && not (is_some (first_of (codes "maps") (rows_of (found_of found.now))))) }
+    ensures { is_some result ≡ not (may_be_object (rows_of (found_of found.now))) }
 {
-    if is_given(found, "listing") {
+    if is_given(found, "words") {
+        Some(OBJECT_AND_WORDS)
+    } else if is_given(found, "listing") {
         Some(OBJECT_AND_LISTING)
     } else if has_text(found, "maps") {
         Some(OBJECT_AND_MAPS)
     } else {
         None
     }
+}
+
+/// The same beside what is asked of a link.
+fn misfit_of_link(found: &ArgMatches<'_>) -> Option<&'static str>
+    ensures { is_some result ≡ not (may_be_object (rows_of (found_of found.now))) }
+{
+    match misfit_with_object(found) {
+        Some(_) => Some(OF_OBJECTS),
+        None => None,
+    }
+}
+
+/// Whether FILE is said to be an object, or something is asked of its link.
+fn is_object(found: &ArgMatches<'_>) -> bool
+    ensures { result ≡ is_object (rows_of (found_of found.now)) }
+{
+    is_given(found, "object") || asks_of_link(found)
 }
 
 /// Whether something is asked of the link of an object.
@@ -477,8 +495,9 @@ fn target_in<'a>(
         return Err(MANY_COUNTS);
     };
     Ok(TargetWords {
+        is_words: is_given(found, "words"),
         is_listing: is_given(found, "listing"),
-        is_object: is_given(found, "object"),
+        is_object: is_object(found),
         maps: text_of(found, "maps"),
         section: text_of(found, "section"),
         entry: text_of(found, "entry"),

@@ -14,9 +14,11 @@ pub const MOST_TEXTS: usize = 16;
 /// What FILE is, and which program runs. What is said of an object says nothing of words and listings.
 #[derive(Drop)]
 pub struct TargetWords<'a> {
-    /// FILE is a listing, assembled first.
+    /// FILE is said to be words. Where nothing is said, its name and its bytes show what it is.
+    pub is_words: bool,
+    /// FILE is said to be a listing, which is assembled first.
     pub is_listing: bool,
-    /// FILE is an object; it is linked first.
+    /// FILE is said to be an object, which is linked first, or something is asked of its link.
     pub is_object: bool,
     /// The map table's text, as `8x2,4x256`; without one there are no maps.
     pub maps: Option<&'a str>,

@@ -23,6 +23,7 @@ pub(crate) const RUNS: [CliSubcommand<'static>; 3] = [
             options::MAPS,
             options::STEPS,
             options::STRICT,
+            options::WORDS,
             options::LISTING,
             options::OBJECT,
             options::SECTION,
@@ -50,6 +51,7 @@ pub(crate) const RUNS: [CliSubcommand<'static>; 3] = [
             options::BRANCHES,
             options::PROFILE,
             options::STRICT,
+            options::WORDS,
             options::LISTING,
             options::OBJECT,
             options::SECTION,
@@ -73,6 +75,7 @@ pub(crate) const RUNS: [CliSubcommand<'static>; 3] = [
             options::MAPS,
             options::JOURNAL,
             options::STEPS,
+            options::WORDS,
             options::LISTING,
             options::OBJECT,
             options::SECTION,
@@ -100,6 +103,7 @@ pub(crate) const QUESTIONS: [CliSubcommand<'static>; 4] = [
             options::GDB_JOURNAL,
             options::STEPS,
             options::SCRIPT,
+            options::WORDS,
             options::LISTING,
             options::OBJECT,
             options::SECTION,
@@ -129,6 +133,7 @@ pub(crate) const QUESTIONS: [CliSubcommand<'static>; 4] = [
             options::GDB_JOURNAL,
             options::STEPS,
             options::SCRIPT,
+            options::WORDS,
             options::LISTING,
             options::OBJECT,
             options::SECTION,
@@ -159,6 +164,7 @@ pub(crate) const QUESTIONS: [CliSubcommand<'static>; 4] = [
             options::GDB_JOURNAL,
             options::STEPS,
             options::WRITES,
+            options::WORDS,
             options::LISTING,
             options::OBJECT,
             options::SECTION,
@@ -186,6 +192,7 @@ pub(crate) const QUESTIONS: [CliSubcommand<'static>; 4] = [
             options::MAPS,
             options::GDB_JOURNAL,
             options::STEPS,
+            options::WORDS,
             options::LISTING,
             options::OBJECT,
             options::SECTION,
@@ -202,7 +209,7 @@ pub(crate) const QUESTIONS: [CliSubcommand<'static>; 4] = [
 ];
 
 /// Those of files, which stand last.
-pub(crate) const FILES: [CliSubcommand<'static>; 7] = [
+pub(crate) const FILES: [CliSubcommand<'static>; 8] = [
     CliSubcommand {
         name: "asm",
         about: help::ASM,
@@ -217,6 +224,7 @@ pub(crate) const FILES: [CliSubcommand<'static>; 7] = [
         example: help::DISASM_EXAMPLE,
         options: &[
             options::MAPS,
+            options::WORDS,
             options::LISTING,
             options::OBJECT,
             options::SECTION,
@@ -255,6 +263,28 @@ pub(crate) const FILES: [CliSubcommand<'static>; 7] = [
         example: help::CHECK_EXAMPLE,
         options: &[
             options::MAPS,
+            options::WORDS,
+            options::LISTING,
+            options::OBJECT,
+            options::SECTION,
+            options::ENTRY,
+            options::ENTRIES,
+            options::STUB,
+            options::AS_COMPILED,
+            options::PACKET,
+            options::WITH,
+            options::JSON,
+            options::PROGRAM,
+        ],
+    },
+    CliSubcommand {
+        name: "load",
+        about: help::LOAD,
+        long_about: help::LOAD_LONG,
+        example: help::LOAD_EXAMPLE,
+        options: &[
+            options::MAPS,
+            options::WORDS,
             options::LISTING,
             options::OBJECT,
             options::SECTION,

@@ -18,12 +18,19 @@ use Rattle.bpfdb_script.specs.Shown.{shown}
 use Rattle.input_texts.specs.TraceFaults.{line_fault}
 use Rattle.bpfdb_faults.specs.declared.fault.JobFault.{JobFault}
 use Rattle.bpfdb_faults.specs.declared.fault.JobFault.TheVariants.{Unreadable, NotText, Refused, Input, Output, Memory, StepLimit}
+use Rattle.bpfdb_faults.specs.declared.kind.KindFault.{KindFault}
+use Rattle.bpfdb_faults.specs.declared.kind.KindFault.TheVariants as kind
 use Rattle.bpfdb_faults.specs.declared.refusal.JobRefusal.{JobRefusal}
-use Rattle.bpfdb_faults.specs.declared.refusal.JobRefusal.TheVariants.{Maps, Listing, Load, Open, OtherRun, TraceLine, Journal, What, Object, Functions, Tests, NoTest, ManyTests, Script, Goal, NoPlace}
+use Rattle.bpfdb_faults.specs.declared.refusal.JobRefusal.TheVariants.{Kind, Maps, Listing, Load, Open, OtherRun, TraceLine, Journal, What, Object, Functions, Tests, NoTest, ManyTests, Script, Goal, NoPlace}
 
 -- The line of a refusal: a letter and a number, its line if it has one, and a text.
 abbrev pub refused_line : List ℕ → ℕ → Option ℕ → List ℕ → List ℕ
 refused_line family number line text = text_of_refusal family number (codes " at line ") line text ++ codes "\n"
+
+-- What a file is doesn't go together with what is asked.
+abbrev pub kind_fault : KindFault → ℕ × List ℕ
+kind_fault kind.Maps = (1, codes "an object has maps of its own: leave --maps out")
+kind_fault kind.Programs = (2, codes "an object is compared with itself: --other-mem or --trace in place of OTHER")
 
 -- A helper: its number, and its name in the kernel, if it has one.
 abbrev pub label_text : ℕ → List ℕ → List ℕ
@@ -120,6 +127,7 @@ functions_end before =
 
 -- The line of each refusal.
 abbrev pub refusal_line : JobRefusal → List ℕ
+refusal_line (Kind fault) = refused_line (codes "refused F") (kind_fault fault).0 None (kind_fault fault).1
 refusal_line (OtherRun refusal) = refusal_text refusal ++ codes " (the other run)\n"
 refusal_line (TraceLine fault line) = refused_line (codes "refused X") (line_fault fault).0 (Some line) (line_fault fault).1
 refusal_line (Script refusal) = commands.refusal_text refusal

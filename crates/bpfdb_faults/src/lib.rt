@@ -3,12 +3,14 @@
 #![tactic(auto)]
 
 mod fault;
+mod kind;
 mod line;
 mod machine;
 mod refusal;
 mod report;
 
 pub use fault::JobFault;
+pub use kind::KindFault;
 pub use line::put_object;
 pub use machine::open_machine;
 pub use refusal::JobRefusal;

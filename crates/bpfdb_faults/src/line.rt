@@ -93,6 +93,10 @@ fn put_refusal<E: Write>(
                 b"refused T8: more than one test is asked for\n",
             )
         }
+        JobRefusal::Kind(fault) => {
+            let (number, text) = (fault.number(), fault.text());
+            put_refused(errors, so_far, b"refused F", number, None, text)
+        }
     }
 }
 

@@ -1,4 +1,5 @@
 //! Why a job is refused.
+use crate::kind::KindFault;
 use bpf_isa::{LoadFault, MapFault};
 use bpf_link::LinkFault;
 use bpf_machine::OpenFault;
@@ -13,6 +14,8 @@ use input_texts::LineFault;
 /// Why a job is refused, in the order in which it is looked at.
 #[derive(Clone, Copy)]
 pub enum JobRefusal<'a> {
+    /// What FILE is, or the other file, doesn't go together with what is asked.
+    Kind(KindFault),
     /// The map table's text.
     Maps(MapFault),
     /// The listing.

@@ -14,7 +14,7 @@ use Rattle.counted_io.specs.Writing.{Writes}
 use Rattle.bpfdb_faults.specs.Faults.{output_line}
 use Rattle.bpfdb_faults.specs.Streams.{Stream, Told}
 use Rattle.bpfdb_faults.specs.declared.refusal.JobRefusal.{JobRefusal}
-use Rattle.bpfdb_faults.specs.declared.refusal.JobRefusal.TheVariants.{Maps, Listing, Load, Open, OtherRun, TraceLine, Journal, What, Goal, NoPlace, Object, Functions, Tests, NoTest, ManyTests, Script}
+use Rattle.bpfdb_faults.specs.declared.refusal.JobRefusal.TheVariants.{Kind, Maps, Listing, Load, Open, OtherRun, TraceLine, Journal, What, Goal, NoPlace, Object, Functions, Tests, NoTest, ManyTests, Script}
 use Rattle.bpfdb_jobs.specs.Endings.{EndsPrinted, OutLost, Printed}
 use Rattle.bpfdb_jobs.specs.Jobs.{AgainstPrints, DiffPrints, IsOtherRun, Print, Prints, RunsPrint, against_print, compared_print, comparison_of, diff_status, other_bytes, runs_told, section_of}
 use Rattle.bpfdb_jobs.specs.Openings.{OpensAs, OpensRuns}
@@ -45,6 +45,7 @@ machine-diff job (Functions fault index name) p = p
 machine-diff job (Tests fault line) p = p
 machine-diff job (NoTest name) p = p
 machine-diff job ManyTests p = p
+machine-diff job (Kind why) p = p
 
 -- of two runs, or of a run along a trace
 runs-diff : (job : Job) (a : Print) → job.options.other_is_trace ≡ false → RunsPrint job a → Prints Diff job a
@@ -135,6 +136,7 @@ machine-against job (Functions fault index name) p = p
 machine-against job (Tests fault line) p = p
 machine-against job (NoTest name) p = p
 machine-against job ManyTests p = p
+machine-against job (Kind why) p = p
 
 -- what is printed of a run along a trace
 pub against-prints : (job : Job) (x : State) (form : Form) (file : List ℕ) → job.options.other_is_trace ≡ true

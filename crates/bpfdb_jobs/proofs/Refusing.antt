@@ -8,7 +8,7 @@ use Rattle.bpfdb_faults.specs.Machines.{RefusesOpening}
 use Rattle.bpfdb_jobs.specs.Refusals.{Refuses, RefusesArrival, RefusesMachine, RefusesOrigin, RefusesWhynot}
 use Rattle.bpfdb_jobs.specs.declared.job.Job.{Job}
 use Rattle.bpfdb_faults.specs.declared.refusal.JobRefusal.{JobRefusal}
-use Rattle.bpfdb_faults.specs.declared.refusal.JobRefusal.TheVariants.{Maps, Listing, Load, Open, OtherRun, TraceLine, Journal, What, Goal, NoPlace, Object, Functions, Tests, NoTest, ManyTests, Script}
+use Rattle.bpfdb_faults.specs.declared.refusal.JobRefusal.TheVariants.{Kind, Maps, Listing, Load, Open, OtherRun, TraceLine, Journal, What, Goal, NoPlace, Object, Functions, Tests, NoTest, ManyTests, Script}
 
 -- a refusal of a context is one of a machine on it, that one of a session
 pub opening-machine : (job : Job) (refusal : JobRefusal) → RefusesOpening job.context.now refusal → RefusesMachine job refusal
@@ -28,6 +28,7 @@ opening-machine job (Functions fault index name) p = absurd p
 opening-machine job (Tests fault line) p = absurd p
 opening-machine job (NoTest name) p = absurd p
 opening-machine job ManyTests p = absurd p
+opening-machine job (Kind why) p = absurd p
 
 pub opening-refuses : (job : Job) (refusal : JobRefusal) → RefusesOpening job.context.now refusal → Refuses job refusal
 opening-refuses job (Maps fault) p = absurd p
@@ -46,6 +47,7 @@ opening-refuses job (Functions fault index name) p = absurd p
 opening-refuses job (Tests fault line) p = absurd p
 opening-refuses job (NoTest name) p = absurd p
 opening-refuses job ManyTests p = absurd p
+opening-refuses job (Kind why) p = absurd p
 
 pub machine-session : (job : Job) (refusal : JobRefusal) → RefusesMachine job refusal → Refuses job refusal
 machine-session job (Maps fault) p = p
@@ -64,6 +66,7 @@ machine-session job (Functions fault index name) p = absurd p
 machine-session job (Tests fault line) p = absurd p
 machine-session job (NoTest name) p = absurd p
 machine-session job ManyTests p = absurd p
+machine-session job (Kind why) p = absurd p
 
 -- a refusal of a session is one on the way to where it is asked, and that one of `origin` and of `whynot`
 pub session-arrival : (job : Job) (refusal : JobRefusal) → Refuses job refusal → RefusesArrival job refusal
@@ -83,6 +86,7 @@ session-arrival job (Functions fault index name) p = p
 session-arrival job (Tests fault line) p = p
 session-arrival job (NoTest name) p = p
 session-arrival job ManyTests p = p
+session-arrival job (Kind why) p = p
 
 pub arrival-origin : (job : Job) (refusal : JobRefusal) → RefusesArrival job refusal → RefusesOrigin job refusal
 arrival-origin job (Maps fault) p = p
@@ -101,6 +105,7 @@ arrival-origin job (Functions fault index name) p = p
 arrival-origin job (Tests fault line) p = p
 arrival-origin job (NoTest name) p = p
 arrival-origin job ManyTests p = p
+arrival-origin job (Kind why) p = p
 
 pub arrival-whynot : (job : Job) (refusal : JobRefusal) → RefusesArrival job refusal → RefusesWhynot job refusal
 arrival-whynot job (Maps fault) p = p
@@ -119,6 +124,7 @@ arrival-whynot job (Functions fault index name) p = p
 arrival-whynot job (Tests fault line) p = p
 arrival-whynot job (NoTest name) p = p
 arrival-whynot job ManyTests p = p
+arrival-whynot job (Kind why) p = p
 
 -- what a session refuses has a line of the session's
 pub session-refused : (job : Job) (refusal : JobRefusal) → Refuses job refusal → refusal_line refusal ≡ session_line refusal
@@ -138,6 +144,7 @@ session-refused job (Functions fault index name) p = absurd p
 session-refused job (Tests fault line) p = absurd p
 session-refused job (NoTest name) p = absurd p
 session-refused job ManyTests p = absurd p
+session-refused job (Kind why) p = absurd p
 
 -- Where a session was opened, memory for answers may be missing still.
 pub no-places : (job : Job) (refusal : JobRefusal) → length job.context.now ≤ context_limit → IsSize job.options.journal → refusal ≡ Journal OutOfMemory

@@ -16,7 +16,7 @@ use Rattle.bpfdb_jobs.specs.Statuses.{EndsBatchWith, EndsSessionWith, EndsTestWi
 use Rattle.bpfdb_jobs.specs.Suites as tests
 use Rattle.bpfdb_jobs.specs.declared.job.Job.{Job}
 use Rattle.bpfdb_options.specs.declared.subcommand.Subcommand.{Subcommand}
-use Rattle.bpfdb_options.specs.declared.subcommand.Subcommand.TheVariants.{Run, Trace, Debug, Origin, Whynot, Diff, Gdb, Asm, Disasm, Lines, Check, Link, Test, Batch}
+use Rattle.bpfdb_options.specs.declared.subcommand.Subcommand.TheVariants.{Run, Trace, Debug, Origin, Whynot, Diff, Gdb, Asm, Disasm, Lines, Check, Load, Link, Test, Batch}
 use Rattle.bpfdb_options.specs.declared.test_part.TestPart.{TestPart}
 
 -- the status of a report, and of one with which it is told what ran
@@ -92,6 +92,7 @@ module _ {R W E : Type 0} (reader : Stream R) (writer : Stream W) (errors : Stre
   plain_with Disasm job status does other = printed_with Disasm job status does.1 other
   plain_with Lines job status does other = printed_with Lines job status does.1 other
   plain_with Check job status does other = printed_with Check job status does.1 other
+  plain_with Load job status does other = printed_with Load job status does.1 other
   plain_with Link job status does other = printed_with Link job status does.1 other
 
   -- the status of a job that is done

@@ -8,6 +8,7 @@ use Rattle.bpf_isa.specs.declared.fault.LoadFault.TheVariants.{Ragged, At}
 use Rattle.bpf_isa.specs.declared.fault.PieceFault.TheVariants.{Word}
 use Rattle.bpf_isa.specs.declared.fault.WordFault.TheVariants.{UnknownInstruction, UnusedField}
 use Rattle.bpf_load.specs.Faults.{IsTargetFault}
+use Rattle.bpf_load.specs.Kinds.{is_object}
 use Rattle.bpf_load.specs.Targets.{Loads}
 use Rattle.bpf_load.specs.declared.fault.TargetFault.{TargetFault}
 use Rattle.bpf_load.specs.declared.fault.TargetFault.TheVariants.{Program}
@@ -20,7 +21,7 @@ use Rattle.counted_io.specs.Lines.{lines}
 use Rattle.counted_io.specs.Numerals.{as_u64, natural}
 use Rattle.bpfdb_faults.specs.Streams.{Stream, Told}
 use Rattle.bpfdb_script.specs.Shown.{shown}
-use Rattle.bpfdb_jobs.specs.Looks.{is_object, is_text}
+use Rattle.bpfdb_jobs.specs.Looks.{is_text}
 use Rattle.bpfdb_jobs.specs.Objects.{is_check}
 use Rattle.bpfdb_jobs.specs.declared.hint.Hint.{Hint}
 use Rattle.bpfdb_jobs.specs.declared.hint.Hint.TheVariants as hint

@@ -1,5 +1,5 @@
 -- What a job asks for: its machine and its session, and what each subcommand prints that reads no standard input.
-use Rattle.std.specs.Prelude.{◌≡◌, ◌≤◌, ◌/◌, ◌&&◌, ◌||◌, ℕ, Bool, true, false, List, [], ◌++◌, Option, Some, None, Result, Ok, is_some, length, map, option_map, count_by, codes, decimal, if◌then◌else◌}
+use Rattle.std.specs.Prelude.{◌≡◌, ◌≤◌, ◌/◌, ◌&&◌, ◌||◌, ℕ, Bool, true, false, List, [], ◌++◌, Option, Some, None, Result, Ok, is_some, length, map, option_map, codes, if◌then◌else◌}
 use Rattle.std.specs.Borrow.{Bor}
 use Rattle.bpf_entries.specs.Keeping.{IsSize}
 use Rattle.bpf_diff.specs.Values.{Comparison, by_steps, by_writes}
@@ -15,7 +15,7 @@ use Rattle.bpf_load.specs.declared.loading.LinkedObject.{LinkedObject}
 use Rattle.bpf_load.specs.declared.loading.Sources.{Sources}
 use Rattle.bpf_load.specs.declared.program.Loaded.{Loaded}
 use Rattle.bpf_load.specs.declared.target.SourceKind.{SourceKind}
-use Rattle.bpf_load.specs.declared.target.SourceKind.TheVariants.{Listing, Object}
+use Rattle.bpf_load.specs.declared.target.SourceKind.TheVariants.{Listing, Object, Words}
 use Rattle.bpf_lines.specs.Objects.{AreProgramLines, program_table}
 use Rattle.bpf_lines.specs.declared.objects.ObjectLines.{ObjectLines}
 use Rattle.bpf_lines.specs.declared.place_names.Names.{Names}
@@ -49,12 +49,13 @@ use Rattle.bpf_whynot.specs.declared.fault.GoalFault.{GoalFault}
 use Rattle.bpfdb_script.specs.declared.refusal.Refusal.{Refusal}
 use Rattle.bpfdb_script.specs.Texts.{place}
 use Rattle.bpfdb_jobs.specs.MapLines.{linked_told}
+use Rattle.bpfdb_jobs.specs.Programs.{check_line, program_text}
 use Rattle.bpfdb_jobs.specs.Origins.{Arrival, AreNamesOf, Asks, IsTail, answer_by, arrival, branches_by, followed_by, found_text, named_by, question_by, status_of_extent}
 use Rattle.bpfdb_jobs.specs.Sources.{both_marked, sources}
 use Rattle.bpfdb_jobs.specs.declared.job.Job.{Job}
 use Rattle.bpfdb_jobs.specs.declared.known.Known.{Known}
 use Rattle.bpfdb_options.specs.declared.subcommand.Subcommand.{Subcommand}
-use Rattle.bpfdb_options.specs.declared.subcommand.Subcommand.TheVariants.{Run, Trace, Debug, Origin, Whynot, Diff, Gdb, Asm, Disasm, Lines, Check, Link, Test, Batch}
+use Rattle.bpfdb_options.specs.declared.subcommand.Subcommand.TheVariants.{Run, Trace, Debug, Origin, Whynot, Diff, Gdb, Asm, Disasm, Lines, Check, Load, Link, Test, Batch}
 
 -- A machine can be opened on any program with the job's context, and a session with its journal.
 pub record HasRoom (job : Job) : Type 0 where
@@ -204,14 +205,15 @@ query_of job known goals at = record {
 abbrev pub whynot_print : Option Names → Query → (ℕ → List ℕ → Bool) → Arrival → Print
 whynot_print names q can at = named_print names at.point.state (why_not can q at.point.history at.point.state)
 
--- `diff`: the job of the other run, which has the bytes of the other file for its program, or for its context.
+-- `diff`: the job of the other run, which has the bytes of the other file for its program, which is of a kind of its own, or for its context.
 abbrev pub other_bytes : Option (Bor (List ℕ)) → List ℕ
 other_bytes (Some other) = other.now
 other_bytes None = []
 
 abbrev pub RunsOn : Bool → Job → Job → Type 0
 RunsOn true job other = (other.context.now ≡ other_bytes job.other) × (other ≡ record job { context = other.context })
-RunsOn false job other = (other.file.now ≡ other_bytes job.other) × (other ≡ record job { file = other.file })
+RunsOn false job other = (other.file.now ≡ other_bytes job.other)
+    × (other ≡ record job { file = other.file; target = record job.target { kind = job.other_kind } })
 
 abbrev pub IsOtherRun : Job → Job → Type 0
 IsOtherRun job other = RunsOn job.options.other_is_context job other
@@ -268,11 +270,6 @@ abbrev pub DiffPrints : Bool → Job → Print → Type 0
 DiffPrints true job a = AgainstPrints job a
 DiffPrints false job a = RunsPrint job a
 
--- `check`: how many instructions, and in how many slots.
-unfoldable pub check_line : Checked → List ℕ
-check_line code =
-    codes "ok " ++ decimal (count_by is_some code.insns) ++ codes " instructions in " ++ decimal (length code.insns) ++ codes " slots\n"
-
 -- `link`: the words of the program, and what is told of it: the shapes of its maps, in the order of their numbers (none unless the object
 -- defines each as an array), and their names; how many calls are answered; and how many fields are left as compiled. Or with `--joined` the
 -- object that would be linked.
@@ -302,6 +299,13 @@ abbrev pub IsTable : Bool → Job → List ℕ → Type 0
 IsTable true job table = (linked : LinkedObject) × (all : List ObjectLines) × LinksTo job.target job.file.now linked × AreLinesFor job linked all
     × (table ≡ table_by job linked all)
 IsTable false job table = IsLineTable job.file.now table
+
+-- `load`: the size and the maps of a program, and then the table that `lines` has of an object or a listing; words have none.
+abbrev pub AreRows : SourceKind → Job → Option LinkedObject → List ℕ → Type 0
+AreRows Object job None rows = ⊥
+AreRows Object job (Some linked) rows = (all : List ObjectLines) × AreLinesFor job linked all × (rows ≡ table_by job linked all)
+AreRows Listing job object rows = IsLineTable job.file.now rows
+AreRows Words job object rows = rows ≡ []
 
 -- The slots of the place of an object that is asked about, by the table of its program's words.
 abbrev pub HasPlace : Bool → Job → Option LinkedObject → Option (List ℕ) → Type 0
@@ -356,4 +360,6 @@ Prints Asm job a = (words : List ℕ) × IsListing job.file.now words × (a ≡ 
 Prints Disasm job a = (loaded : Loaded) × Loads job.target job.file.now loaded × (a ≡ printed (canon loaded.program))
 Prints Lines job a = (table : List ℕ) × IsTable (links_first job.target.kind) job table × (a ≡ printed table)
 Prints Check job a = (loaded : Loaded) × Loads job.target job.file.now loaded × (a ≡ printed (check_line loaded.program))
+Prints Load job a = (loaded : Loaded) × (rows : List ℕ) × Loads job.target job.file.now loaded × AreRows job.target.kind job loaded.object rows
+    × (a ≡ printed (program_text loaded ++ rows))
 Prints Link job a = LinkPrints job.options.is_joined job a

@@ -4,6 +4,7 @@ pub mod Done
 pub mod Endings
 pub mod Hints
 pub mod Jobs
+pub mod Programs
 pub mod Looks
 pub mod MapLines
 pub mod Obeying

@@ -1,10 +1,6 @@
 -- What a file looks like that isn't the words of a program, by how it begins. bpfdb's own choice.
-use Rattle.std.specs.Prelude.{ℕ, ◌==◌, ◌&&◌, ◌||◌, nat_le, nat_lt, Bool, if◌then◌else◌, List, [], ◌∷◌, take}
-use Rattle.std.specs.List.{list_all, list_any, starts_with}
-
--- An object begins with the four bytes of ELF's magic number (System V ABI, "ELF Identification").
-abbrev pub is_object : List ℕ → Bool
-is_object file = starts_with (λ a b. a == b) file (127 ∷ 69 ∷ 76 ∷ 70 ∷ [])
+use Rattle.std.specs.Prelude.{ℕ, ◌==◌, ◌&&◌, ◌||◌, nat_le, nat_lt, Bool, if◌then◌else◌, List, take}
+use Rattle.std.specs.List.{list_all, list_any}
 
 -- A text begins with printing ASCII, tabs and what ends lines; a line feed (10) is among that.
 abbrev pub is_plain : ℕ → Bool

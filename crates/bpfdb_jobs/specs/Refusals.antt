@@ -12,6 +12,8 @@ use Rattle.bpf_load.specs.declared.fault.TargetFault.{TargetFault}
 use Rattle.bpf_load.specs.declared.fault.TargetFault.TheVariants as of_target
 use Rattle.bpf_load.specs.declared.loading.LinkedObject.{LinkedObject}
 use Rattle.bpf_load.specs.declared.program.Loaded.{Loaded}
+use Rattle.bpf_load.specs.declared.target.SourceKind.{SourceKind}
+use Rattle.bpf_load.specs.declared.target.SourceKind.TheVariants as kind
 use Rattle.bpf_suite.specs.Faults as suite
 use Rattle.bpf_suite.specs.Files.{sections, tests}
 use Rattle.bpf_suite.specs.Tests.{chosen}
@@ -37,7 +39,7 @@ use Rattle.bpfdb_jobs.specs.declared.known.Known.{Known}
 use Rattle.bpfdb_faults.specs.declared.refusal.JobRefusal.{JobRefusal}
 use Rattle.bpfdb_faults.specs.declared.refusal.JobRefusal.TheVariants.{Maps, Listing, Load, Open, OtherRun, TraceLine, Journal, What, Goal, NoPlace, Object, Functions, Tests, NoTest, Script}
 use Rattle.bpfdb_options.specs.declared.subcommand.Subcommand.{Subcommand}
-use Rattle.bpfdb_options.specs.declared.subcommand.Subcommand.TheVariants.{Run, Trace, Debug, Origin, Whynot, Diff, Gdb, Asm, Disasm, Lines, Check, Link, Test, Batch}
+use Rattle.bpfdb_options.specs.declared.subcommand.Subcommand.TheVariants.{Run, Trace, Debug, Origin, Whynot, Diff, Gdb, Asm, Disasm, Lines, Check, Load, Link, Test, Batch}
 
 -- A fault of an object is told with the name that it tells, and which of the others has it.
 abbrev pub TellsFault : Option ℕ → ObjectFault → JobRefusal → Type 0
@@ -181,6 +183,12 @@ abbrev pub RefusesLines : Bool → Job → JobRefusal → Type 0
 RefusesLines true job refusal = RefusesLinking job refusal ⊎ RefusesTable job refusal
 RefusesLines false job refusal = RefusesListing job refusal
 
+-- `load` looks at them when the program is loaded.
+abbrev pub RefusesRows : SourceKind → Job → JobRefusal → Type 0
+RefusesRows kind.Object job refusal = RefusesTable job refusal
+RefusesRows kind.Listing job refusal = RefusesListing job refusal
+RefusesRows kind.Words job refusal = ⊥
+
 -- No test has the name that is asked for.
 abbrev pub LacksName : Option (Bor (List ℕ)) → List (List Section) → JobRefusal → Type 0
 LacksName only all (NoTest name) = (only ≡ Some name) × (chosen name.now all ≡ [])
@@ -209,6 +217,7 @@ RefusesAs Asm job refusal = RefusesListing job refusal
 RefusesAs Disasm job refusal = ⊥
 RefusesAs Lines job refusal = RefusesLines (links_first job.target.kind) job refusal
 RefusesAs Check job refusal = ⊥
+RefusesAs Load job refusal = RefusesRows job.target.kind job refusal
 RefusesAs Link job refusal = RefusesLink job.options.is_joined job refusal
 RefusesAs Test job refusal = RefusesTests job refusal
 RefusesAs Batch job refusal = RefusesBatch job refusal

@@ -3,7 +3,7 @@ ghost use Rattle.std.specs.Prelude.{◌≡◌, ◌≤◌, count_by, is_some};
 ghost use Rattle.bpf_load.specs.Targets.{Loads};
 ghost use Rattle.counted_io.specs.Writing.{Writes};
 ghost use Rattle.bpfdb_jobs.specs.Endings.{EndsPrinted};
-ghost use Rattle.bpfdb_jobs.specs.Jobs.{check_line};
+ghost use Rattle.bpfdb_jobs.specs.Programs.{check_line};
 ghost use Rattle.bpfdb_options.specs.declared.subcommand.Subcommand.TheVariants.{Check};
 ghost use Rattle.bpfdb_faults.specs.Streams.{stream};
 
@@ -34,6 +34,14 @@ pub fn check_job<W: Write, E: Write>(
 fn write_size<W: Write>(program: &Program, writer: &mut Counted<W>) -> Result<(), WriteFault>
     ensures { Writes W.contents writer.old writer.new result (check_line program.now) }
 {
+    let written = put_size(program, writer);
+    flush_after(writer, written)
+}
+
+/// Writes how many instructions and slots a program has.
+pub fn put_size<W: Write>(program: &Program, writer: &mut Counted<W>) -> Result<(), WriteFault>
+    ensures { Writes W.contents writer.old writer.new result (check_line program.now) }
+{
     let instructions = instructions(program) as u64;
     let slots = program.len() as u64;
     let pieces = [
@@ -43,8 +51,7 @@ fn write_size<W: Write>(program: &Program, writer: &mut Counted<W>) -> Result<()
         Piece::Decimal(slots),
         Piece::Text(b" slots\n"),
     ];
-    let written = put_all(writer, Ok(()), &pieces);
-    flush_after(writer, written)
+    put_all(writer, Ok(()), &pieces)
 }
 
 /// How many instructions a program has.

@@ -24,7 +24,7 @@ use bpf_diff::put_marked;
 use bpf_isa::Program;
 use bpf_lines::Names;
 use bpf_link::LinkFault;
-use bpf_load::{LinkedObject, Loaded, ObjectFault, TargetFault, load, load_again};
+use bpf_load::{LinkedObject, Loaded, ObjectFault, Target, TargetFault, load, load_again};
 use bpf_machine::Cpu;
 use bpf_suite::Refusal;
 use bpfdb_faults::{JobFault, JobRefusal, flush_after, give_up, open_machine};
@@ -289,6 +289,10 @@ fn other_run<'a>(job: &Job<'a>) -> Job<'a>
     } else {
         Job {
             file: bytes,
+            target: Target {
+                kind: job.other_kind,
+                ..job.target
+            },
             ..*job
         }
     }

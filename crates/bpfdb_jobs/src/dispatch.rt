@@ -20,6 +20,7 @@ use crate::gdb::gdb_job;
 use crate::job::Job;
 use crate::known::{Known, Places, is_check, nowhere, places_of};
 use crate::listing::{asm_job, disasm_job, lines_job};
+use crate::load::load_job;
 use crate::object::{link_job, refuse_object, refuse_target};
 use crate::origin::origin_job;
 use crate::run::run_job;
@@ -177,6 +178,7 @@ fn program_tool<R: Read, W: Write, E: Write>(
         Subcommand::Gdb => gdb_job(alloc, job, loaded, reader, writer, errors),
         Subcommand::Disasm => disasm_job(alloc, job, &loaded, writer, errors),
         Subcommand::Check => check_job(job, &loaded, writer, errors),
+        Subcommand::Load => load_job(alloc, job, &loaded, writer, errors),
         _ => unreachable!(),
     }
 }

@@ -14,10 +14,10 @@ ghost use Rattle.bpfdb_jobs.specs.declared.hint.Hint.TheVariants as hint;
 
 use crate::job::Job;
 use crate::known::is_check;
-use crate::look::{is_object, is_text};
+use crate::look::is_text;
 use crate::row::line_at;
 use bpf_isa::{LoadFault, PieceFault, WordFault};
-use bpf_load::{SourceKind, TargetFault, load};
+use bpf_load::{SourceKind, TargetFault, is_object, load};
 use bpf_text::line_table;
 use bpfdb_faults::flush_after;
 use bpfdb_script::put_shown;

@@ -1,5 +1,5 @@
 //! What `tool` is given to do.
-use bpf_load::Target;
+use bpf_load::{SourceKind, Target};
 use bpfdb_options::{Options, Subcommand};
 
 /// A subcommand, with the bytes of its files and its options.
@@ -17,6 +17,8 @@ pub struct Job<'a> {
     /// asks, without which the program runs; or of the second program or context of `diff`, or of its
     /// trace.
     pub other: Option<&'a [u8]>,
+    /// What the other file is where it is a second program.
+    pub other_kind: SourceKind,
     /// What FILE is, and which program runs.
     pub target: Target<'a>,
     pub options: Options<'a>,

@@ -14,6 +14,7 @@ mod hint;
 mod job;
 mod known;
 mod listing;
+mod load;
 mod look;
 mod maps;
 mod object;

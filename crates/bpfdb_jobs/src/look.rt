@@ -1,20 +1,10 @@
 //! What a file looks like, by how it begins.
 ghost use Rattle.std.specs.Prelude.{◌≡◌, ◌==◌};
 ghost use Rattle.std.specs.List.{list_all, list_any};
-ghost use Rattle.bpfdb_jobs.specs.Looks.{beginning, is_object, is_plain, is_text};
-
-/// How an object begins.
-const ELF_MAGIC: &[u8] = b"\x7fELF";
+ghost use Rattle.bpfdb_jobs.specs.Looks.{beginning, is_plain, is_text};
 
 /// How many bytes of a file show whether it is a text.
 const BEGINNING_BYTES: usize = 4096;
-
-/// Whether a file begins as an object.
-pub fn is_object(file: &[u8]) -> bool
-    ensures { result ≡ is_object file.now }
-{
-    file.starts_with(ELF_MAGIC)
-}
 
 /// Whether a file begins as a text: with printing ASCII, tabs and the ends of lines, a line feed among
 /// that.

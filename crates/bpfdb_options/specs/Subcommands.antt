@@ -1,7 +1,7 @@
 -- The names of the subcommands.
 use Rattle.std.specs.Prelude.{ℕ, List, codes}
 use Rattle.bpfdb_options.specs.declared.subcommand.Subcommand.{Subcommand}
-use Rattle.bpfdb_options.specs.declared.subcommand.Subcommand.TheVariants.{Run, Trace, Debug, Origin, Whynot, Diff, Gdb, Asm, Disasm, Lines, Check, Link, Test, Batch}
+use Rattle.bpfdb_options.specs.declared.subcommand.Subcommand.TheVariants.{Run, Trace, Debug, Origin, Whynot, Diff, Gdb, Asm, Disasm, Lines, Check, Load, Link, Test, Batch}
 
 -- As help lists them.
 abbrev pub subcommand_name : Subcommand → List ℕ
@@ -16,6 +16,7 @@ subcommand_name Asm = codes "asm"
 subcommand_name Disasm = codes "disasm"
 subcommand_name Lines = codes "lines"
 subcommand_name Check = codes "check"
+subcommand_name Load = codes "load"
 subcommand_name Link = codes "link"
 subcommand_name Test = codes "test"
 subcommand_name Batch = codes "batch"

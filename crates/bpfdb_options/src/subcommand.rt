@@ -27,6 +27,8 @@ pub enum Subcommand {
     Lines,
     /// A program is checked.
     Check,
+    /// What was made of FILE is told.
+    Load,
     /// An object is linked.
     Link,
     /// The tests of a file are run.
@@ -54,6 +56,7 @@ impl Subcommand {
             "disasm" => Some(Subcommand::Disasm),
             "lines" => Some(Subcommand::Lines),
             "check" => Some(Subcommand::Check),
+            "load" => Some(Subcommand::Load),
             "link" => Some(Subcommand::Link),
             "test" => Some(Subcommand::Test),
             "batch" => Some(Subcommand::Batch),

@@ -57,3 +57,9 @@ returns-in-Check-clause-does g c =
     subst (λ (s : Subcommand). DoesPlain s c.args.job.now (stream g.R.Read.remaining c.args.reader.now c.args.reader.now)
     (stream g.W.Write.contents c.args.writer.now c.check_job.new.writer) (stream g.E.Write.contents c.args.errors.now c.check_job.new.errors) c.check_job.result)
     (sym c.in-Check.is) (refl, c.check_job.ensures.does)
+
+pub returns-in-Load-clause-does : goal.returns-in-Load-clause-does
+returns-in-Load-clause-does g c =
+    subst (λ (s : Subcommand). DoesPlain s c.args.job.now (stream g.R.Read.remaining c.args.reader.now c.args.reader.now)
+    (stream g.W.Write.contents c.args.writer.now c.load_job.new.writer) (stream g.E.Write.contents c.args.errors.now c.load_job.new.errors) c.load_job.result)
+    (sym c.in-Load.is) (refl, c.load_job.ensures.does)
