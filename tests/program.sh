@@ -27,7 +27,7 @@ trap 'exit 130' HUP INT TERM
 
 # all_parts: each part, those that take longest first.
 all_parts() {
-    printf '%s\n' fuzz faults page wasm memory hostile transcripts rings limits context kernels convert calls trace gdb dap linux machine headers join counts turns target kinds load runs journal libraries listings bugs objects direct named tracefile suite session origin branches names places whynot diff strict json pieces usage refusals results remote lines shell editors conformance symbols jobs install dist files streams build batch
+    printf '%s\n' fuzz faults page wasm memory hostile transcripts rings limits context kernels convert calls trace gdb dap linux machine headers join counts turns target kinds load runs journal libraries listings bugs objects links direct named tracefile suite session origin branches names places whynot diff strict json pieces usage refusals results remote lines shell editors conformance symbols jobs install dist files streams build batch
 }
 
 # total: the last lines of the parts, added up. Fails where a test failed, or a part has no such line.
@@ -45,8 +45,8 @@ total() {
 }
 
 if [ $# -eq 0 ]; then
-    # (help writes texts anew, and harness and packets are read by parts)
-    unlisted=$(ls "$parts" | sed -n 's/\.sh$//p' | grep -v -x -e harness -e help -e packets -e "$(all_parts)")
+    # (help writes texts anew, and harness, linked and packets are read by parts)
+    unlisted=$(ls "$parts" | sed -n 's/\.sh$//p' | grep -v -x -e harness -e help -e linked -e packets -e "$(all_parts)")
     [ -z "$unlisted" ] || { echo "FAILED: parts that all_parts doesn't name: $unlisted"; exit 1; }
     # (work has no quotes: mktemp made it)
     all_parts | xargs -P "$(nproc)" -I PART sh -c "sh tests/program.sh PART > '$work/PART' 2>&1"
