@@ -510,6 +510,7 @@ wants "$a7" 0 "$words" '' assemble
 wants "$plain" 0 "$listing" '' disassemble
 wants "$o2" 0 '\01\07\03\04\05\06\07\010' '' memory
 wants "$o2" 0 '\01\02\03\04\05\06\07\010' '' machine
+wants "$o2" 0 '\011\012\07\07\07\07\07\07\07\07' '' restart
 wants '' 0 '1024' '' list
 wants "$j2" 0 '1024' '' ring
 wants "$plain" 0 "$words" '' program

@@ -1,10 +1,10 @@
 -- The laws of memory read by address.
-use Rattle.std.proofs.Common.{◌≡◌, ◌≤◌, ◌<◌, ◌⊎◌, ℕ, zero, suc, ◌+◌, ◌-◌, ◌*◌, ◌^◌, List, [], ◌∷◌, length, Option, Some, None, refl, sym, ap, ◌∙◌, inl, inr, arith}
-use Rattle.std.specs.Prelude.{Bool, true, false, IsSome, All, option_map, unwrap_or, slice_index, slice_get, slice_range, replicate, if◌then◌else◌, ◌++◌}
+use Rattle.std.proofs.Common.{◌≡◌, ◌≤◌, ◌<◌, ◌⊎◌, ℕ, zero, suc, ◌+◌, ◌-◌, ◌*◌, ◌^◌, List, [], ◌∷◌, length, Option, Some, None, refl, sym, ap, ◌∙◌, inl, inr, arith, le_refl}
+use Rattle.std.specs.Prelude.{Bool, true, false, IsSome, All, option_map, unwrap_or, slice_index, slice_get, slice_range, drop, replicate, if◌then◌else◌, ◌++◌}
 use Rattle.byteorder.specs.Endian.{little_from}
 use Rattle.std.proofs.lemmas.Bool.{cases_lt}
 use Rattle.std.proofs.lemmas.Bool.Decides.{nat_tests}
-use Rattle.std.proofs.lemmas.List.{get_or_append_left, get_or-append-add, get_or-replicate}
+use Rattle.std.proofs.lemmas.List.{drop-append-le, drop-drop, drop_all, drop-replicate, get_or_append_left, get_or-append-add, get_or-drop, get_or-replicate, length-replicate, replicate-append-replicate}
 use Rattle.std.proofs.lemmas.Grind.{elements}
 use Rattle.std.proofs.Math.Nat.{pow-suc}
 use Rattle.std.proofs.lemmas.List.Sums.{sum_by-cons}
@@ -12,9 +12,9 @@ use Rattle.bpf_isa.specs.declared.maps.MapShape.{MapShape}
 use Rattle.bpf_isa.specs.Maps.{IsShape}
 use Rattle.bpf_isa.specs.Programs.{Checked}
 use Rattle.bpf_steps.specs.Platform.{context_base, context_limit, frame_base, frame_len, frame_count, map_base, map_address}
-use Rattle.bpf_steps.specs.Regions.{Image, IsImage, Region, regions, frames_from, maps_from, map_len, maps_len, index_in, index_of, is_from_frame, paste}
-use Rattle.bpf_steps.specs.State.{depth}
-use Rattle.bpf_steps.specs.ByAddress.{byte_at, AllPast, AreApart, RegionsAreApart, RunsAreTheirAddresses, sum_at, NumbersAreSums, StoresAreLocal, IsInFrame, AccessibleIsBelow, OpenedByAddress}
+use Rattle.bpf_steps.specs.Regions.{Image, IsImage, Region, regions, frames_from, maps_from, map_len, maps_len, index_in, index_of, is_from_frame, map_bytes, paste, with_context}
+use Rattle.bpf_steps.specs.State.{initial, depth}
+use Rattle.bpf_steps.specs.ByAddress.{byte_at, AllPast, AreApart, RegionsAreApart, RunsAreTheirAddresses, sum_at, NumbersAreSums, StoresAreLocal, IsInFrame, AccessibleIsBelow, OpenedByAddress, RestartedByAddress, RestartedAtOpening}
 use Rattle.bpf_steps.proofs.Indices.{index_here, index_above, index_below, frames_in, frames_before, maps_below, none_behind}
 use Rattle.bpf_steps.proofs.Spans.{first_shape, later_shapes}
 
@@ -398,3 +398,77 @@ law_opened program context short = (
       ∙ ap (option_map (λ at. length context + at)) (frames_before 0 frame_count (maps_from 0 program.maps) a 1 (omega arith) (omega arith) ∙ ap (option_map (λ at. frame_len * frame_count + at)) found.1))
       ∙ ap Some (zero_behind program context (frame_len * frame_count + found.0) (omega (arith, fits, whole)))),
 )
+
+-- The laws of starting once more.
+frame_bytes : List ℕ
+frame_bytes = replicate (frame_len * frame_count) 0
+
+restarted_bytes : Image → List ℕ → List ℕ
+restarted_bytes m context = context ++ (frame_bytes ++ map_bytes m)
+
+zero_in_frames : (m : Image) (context : List ℕ) (k : ℕ) → k < frame_len * frame_count → slice_index (restarted_bytes m context) (length context + k) ≡ 0
+unfolding restarted_bytes frame_bytes
+zero_in_frames m context k low =
+    get_or-append-add context (frame_bytes ++ map_bytes m) k 0
+    ∙ get_or_append_left frame_bytes (map_bytes m) 0 k (omega (arith, length-replicate {A = ℕ} (frame_len * frame_count) 0))
+    ∙ get_or-replicate (frame_len * frame_count) k 0 0 low
+
+same_in_maps : (m : Image) (context : List ℕ) (k : ℕ)
+    → slice_index (restarted_bytes m context) (length context + (frame_len * frame_count + k)) ≡ slice_index m.bytes (m.context_len + (frame_len * frame_count + k))
+unfolding restarted_bytes frame_bytes
+same_in_maps m context k =
+    let frames : length frame_bytes ≡ frame_len * frame_count = length-replicate {A = ℕ} (frame_len * frame_count) 0 in
+    let place : m.context_len + frame_len * frame_count + k ≡ m.context_len + (frame_len * frame_count + k) = omega arith in
+    get_or-append-add context (frame_bytes ++ map_bytes m) (frame_len * frame_count + k) 0
+    ∙ ap (λ n. slice_index (frame_bytes ++ map_bytes m) (n + k)) (sym frames)
+    ∙ get_or-append-add frame_bytes (map_bytes m) k 0
+    ∙ get_or-drop (m.context_len + frame_len * frame_count) m.bytes k 0
+    ∙ ap (λ n. slice_index m.bytes n) place
+
+-- Where a byte of a map stands among all bytes.
+at_map : (m : Image) (a at : ℕ) → map_base ≤ a → index_in (maps_from 0 m.maps) a 1 ≡ Some at → m.context_len ≤ context_limit
+    → index_of m a 1 ≡ Some (m.context_len + (frame_len * frame_count + at))
+at_map m a at past here short =
+    let region : Region = record { base = context_base; len = m.context_len } in
+    index_above region (frames_from 0 frame_count ++ maps_from 0 m.maps) a 1 (omega arith)
+    ∙ ap (option_map (λ at. m.context_len + at)) (frames_before 0 frame_count (maps_from 0 m.maps) a 1 (omega arith) (omega arith) ∙ ap (option_map (λ at. frame_len * frame_count + at)) here)
+
+pub law_restarted : RestartedByAddress
+unfolding restarted_bytes frame_bytes
+law_restarted x is context short = (
+  (λ j low.
+      let place : context_base + j - context_base ≡ j = omega arith in
+      ap (option_map (λ at. slice_index (restarted_bytes x.memory context) at)) (index_here (record { base = context_base; len = length context }) (frames_from 0 frame_count ++ maps_from 0 x.memory.maps) (context_base + j) 1 (omega arith) (omega arith))
+      ∙ ap (λ at. Some (slice_index (restarted_bytes x.memory context) at)) place
+      ∙ ap Some (get_or_append_left context (frame_bytes ++ map_bytes x.memory) 0 j low)),
+  (λ i j there low.
+      let region : Region = record { base = context_base; len = length context } in
+      let a : ℕ = frame_base i + j in
+      let frames = frames_in 0 frame_count i j a 1 (omega arith) (omega arith) there in
+      ap (option_map (λ at. slice_index (restarted_bytes x.memory context) at)) (index_above region (frames_from 0 frame_count ++ maps_from 0 x.memory.maps) a 1 (omega arith)
+      ∙ ap (option_map (λ at. length context + at)) (none_behind (frames_from 0 frame_count) (maps_from 0 x.memory.maps) a 1 (maps_below 0 x.memory.maps a 1 (omega arith)) ∙ frames))
+      ∙ ap Some (zero_in_frames x.memory context (512 * i + j) (omega arith))),
+  (λ i j shape here low.
+      let a : ℕ = map_address i + j in
+      let zeroth : 0 + i ≡ i = omega arith in
+      let found = map_has 0 i x.memory.maps shape a j (rw is.mapped here) low (omega (arith, zeroth)) in
+      ap (option_map (λ at. slice_index (restarted_bytes x.memory context) at)) (at_map (with_context context x.memory) a found.0 (omega arith) found.1 short)
+      ∙ ap Some (same_in_maps x.memory context found.0)
+      ∙ sym (ap (option_map (λ at. slice_index x.memory.bytes at)) (at_map x.memory a found.0 (omega arith) found.1 is.image.short))),
+)
+
+still_zeros : (first : List ℕ) (n : ℕ)
+    → replicate (frame_len * frame_count) 0 ++ drop (length first + frame_len * frame_count) (first ++ replicate (frame_len * frame_count + n) 0) ≡ replicate (frame_len * frame_count + n) 0
+still_zeros first n =
+    let zeros : List ℕ = replicate (frame_len * frame_count + n) 0 in
+    let rest : frame_len * frame_count + n - frame_len * frame_count ≡ n = omega arith in
+    ap (λ ys. replicate (frame_len * frame_count) 0 ++ ys)
+      (sym (drop-drop (frame_len * frame_count) (length first) (first ++ zeros))
+      ∙ ap (drop (frame_len * frame_count)) (drop-append-le (length first) first zeros (le_refl (length first)) ∙ ap (λ ys. ys ++ zeros) (drop_all (length first) first (le_refl (length first))))
+      ∙ drop-replicate (frame_len * frame_count) (frame_len * frame_count + n) 0
+      ∙ ap (λ k. replicate k 0) rest)
+    ∙ replicate-append-replicate (frame_len * frame_count) n 0
+
+pub law_unchanged : RestartedAtOpening
+law_unchanged program first context =
+    ap (λ bytes. record (initial program context) { memory = record { context_len = length context; maps = program.maps; bytes = context ++ bytes } }) (still_zeros first (maps_len program.maps))

@@ -5,7 +5,7 @@ use Rattle.bpf_isa.specs.declared.maps.MapShape.{MapShape}
 use Rattle.bpf_steps.specs.Platform.{context_base, context_limit, frame_base, frame_len, frame_count, map_address, cell_address}
 use Rattle.bpf_steps.specs.Regions.{Image, IsImage, Region, map_len, regions, index_of, number_at, with_bytes}
 use Rattle.bpf_steps.specs.Access.{accessible}
-use Rattle.bpf_steps.specs.State.{State, IsState, depth, initial}
+use Rattle.bpf_steps.specs.State.{State, IsState, depth, initial, restarted}
 
 -- The byte at an address, None where there is none.
 abbrev pub byte_at : Image → ℕ → Option ℕ
@@ -76,6 +76,20 @@ OpenedByAddress =
     × ((i j : ℕ) → i < frame_count → j < frame_len → byte_at (initial program context).memory (frame_base i + j) ≡ Some 0)
     × ((i j : ℕ) (shape : MapShape) → slice_get program.maps i ≡ Some shape → j < map_len shape → byte_at (initial program context).memory (map_address i + j) ≡ Some 0)
 
+-- Where a program starts once more the new context stands there, the bytes of the frames are zero, and those of the maps are what they were.
+abbrev pub RestartedByAddress : Type 0
+RestartedByAddress =
+    (x : State) → IsState x → (context : List ℕ) → length context ≤ context_limit →
+    ((j : ℕ) → j < length context → byte_at (restarted context x).memory (context_base + j) ≡ Some (slice_index context j))
+    × ((i j : ℕ) → i < frame_count → j < frame_len → byte_at (restarted context x).memory (frame_base i + j) ≡ Some 0)
+    × ((i j : ℕ) (shape : MapShape) → slice_get x.program.maps i ≡ Some shape → j < map_len shape →
+        byte_at (restarted context x).memory (map_address i + j) ≡ byte_at x.memory (map_address i + j))
+
+-- As long as nothing was stored, that is the state at opening.
+abbrev pub RestartedAtOpening : Type 0
+RestartedAtOpening =
+    (program : Checked) (first context : List ℕ) → restarted context (initial program first) ≡ initial program context
+
 -- All of these laws.
 pub record MemoryIsItsAddresses : Type 0 where
   pub apart : RegionsAreApart
@@ -85,3 +99,5 @@ pub record MemoryIsItsAddresses : Type 0 where
   pub accessible : AccessibleIsBelow
   pub cells : CellsAreAccessible
   pub opened : OpenedByAddress
+  pub restarted : RestartedByAddress
+  pub unchanged : RestartedAtOpening

@@ -5,8 +5,8 @@ use Rattle.bpf_isa.specs.declared.maps.MapShape.{MapShape}
 use Rattle.bpf_steps.specs.declared.fault.OpenFault.{OpenFault}
 use Rattle.bpf_steps.specs.declared.fault.OpenFault.TheVariants.{ContextTooLong, OutOfMemory}
 use Rattle.bpf_steps.specs.Platform.{context_limit}
-use Rattle.bpf_steps.specs.Regions.{Image, opened}
-use Rattle.bpf_steps.specs.State.{State, initial}
+use Rattle.bpf_steps.specs.Regions.{Image, opened, with_context}
+use Rattle.bpf_steps.specs.State.{State, initial, restarted}
 
 -- A fault's number, which is printed after O, and its text.
 abbrev pub open_fault : OpenFault → ℕ × List ℕ
@@ -24,3 +24,10 @@ MemoryOpened shapes context memory = (length context ≤ context_limit) × (memo
 
 abbrev pub Opened : Checked → List ℕ → State → Type 0
 Opened program context x = (length context ≤ context_limit) × (x ≡ initial program context)
+
+-- The same of one that starts once more.
+abbrev pub MemoryRestarted : List ℕ → Image → Image → Type 0
+MemoryRestarted context old new = (length context ≤ context_limit) × (new ≡ with_context context old)
+
+abbrev pub Restarted : List ℕ → State → State → Type 0
+Restarted context old new = (length context ≤ context_limit) × (new ≡ restarted context old)

@@ -1,5 +1,5 @@
 //! Memory: the bytes of all regions, one region after another.
-ghost use Rattle.std.specs.Prelude.{◌≡◌, All, ◌+◌, ◌-◌, ◌*◌, ◌^◌, ◌≤◌, ◌<◌, ◌⊎◌, length, IfSome, IfNone, IfOk, IfErr, IsTrue, IsSome, ◌↔◌, option_map, Some, None, ℕ, List, if◌then◌else◌, ◌==◌, ◌++◌, replicate};
+ghost use Rattle.std.specs.Prelude.{◌≡◌, All, ◌+◌, ◌-◌, ◌*◌, ◌^◌, ◌≤◌, ◌<◌, ◌⊎◌, length, IfSome, IfNone, IfOk, IfErr, OnErr, OnOk, IsTrue, IsSome, ◌↔◌, option_map, Some, None, ℕ, List, if◌then◌else◌, ◌==◌, ◌++◌, replicate};
 ghost use Rattle.bpf_isa.specs.declared.maps.MapShape.{MapShape};
 ghost use Rattle.bpf_steps.specs.Regions.{Image, index_in, index_of, frames_from, is_from_frame, zeros};
 ghost use Rattle.bpf_steps.specs.Spans.{AreSoughtFrom};
@@ -37,8 +37,8 @@ impl Model for Memory {
 impl Memory {
     ghost use Rattle.std.specs.Borrow.{sem};
     ghost use Rattle.bpf_isa.specs.Sizes.{size_len};
-    ghost use Rattle.bpf_steps.specs.Regions.{index_of, run, run_at, number_at, with_number, put, IsImage};
-    ghost use Rattle.bpf_steps.specs.Opening.{MemoryOpened, Refused};
+    ghost use Rattle.bpf_steps.specs.Regions.{index_of, run, run_at, number_at, with_number, put, map_bytes, IsImage};
+    ghost use Rattle.bpf_steps.specs.Opening.{MemoryOpened, MemoryRestarted, Refused};
     ghost use Rattle.bpf_steps.specs.Lending.{LendsRun, LendsRunOrNone, LendsBytes};
 
     /// Opens memory with the context's bytes, and frames and maps of zero bytes.
@@ -56,6 +56,26 @@ impl Memory {
                 maps,
                 bytes,
             }),
+            Err(_) => Err(OpenFault::OutOfMemory),
+        }
+    }
+
+    /// Puts another context in the place of this one: its bytes, frames of zero bytes, and the maps as
+    /// they are.
+    pub fn restart(&mut self, alloc: Global, context: &[u8]) -> Result<(), OpenFault>
+        ensures ok { OnOk result (MemoryRestarted context.now self.old self.new) }
+        ensures err { IfErr result (Refused context.now) }
+        ensures same { OnErr result (self.new ≡ self.old) }
+    {
+        if context.len() > CONTEXT_LIMIT {
+            return Err(OpenFault::ContextTooLong);
+        }
+        match refilled(alloc, context, self.map_bytes()) {
+            Ok(bytes) => {
+                self.context_len = context.len();
+                self.bytes = bytes;
+                Ok(())
+            }
             Err(_) => Err(OpenFault::OutOfMemory),
         }
     }
@@ -121,6 +141,15 @@ impl Memory {
         ensures value { result.now ≡ run self.old at n }
     {
         self.bytes.slice_mut(at..at + n)
+    }
+
+    /// The bytes of the maps.
+    fn map_bytes(&self) -> &[u8]
+        ensures value { result.now ≡ map_bytes self.now }
+        ensures fits { length result.now ≤ 16 * 65536 }
+    {
+        let first = self.bytes.len() - self.maps.len();
+        &self.bytes[first..]
     }
 
     /// The n bytes at this address, None where some of them aren't present.
@@ -306,5 +335,16 @@ fn filled(alloc: Global, context: &[u8], zeros: usize) -> Result<Vec<u8>, AllocE
     let mut bytes = Vec::with_capacity(alloc, len)?;
     bytes.extend_from_slice(context)?;
     bytes.resize(len, 0)?;
+    Ok(bytes)
+}
+
+/// The context's bytes, behind them frames of zero bytes, and then the bytes of the maps.
+fn refilled(alloc: Global, context: &[u8], maps: &[u8]) -> Result<Vec<u8>, AllocError>
+    requires { (length context.now ≤ context_limit) × (length maps.now ≤ 16 * 65536) }
+    ensures { IfOk result (λ bytes. bytes.items
+        ≡ context.now ++ (replicate (frame_len * frame_count) 0 ++ maps.now)) }
+{
+    let mut bytes = filled(alloc, context, FRAME_LEN * FRAME_COUNT)?;
+    bytes.extend_from_slice(maps)?;
     Ok(bytes)
 }

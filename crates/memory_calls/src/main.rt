@@ -33,12 +33,13 @@ pub const REFUSED: u8 = 2;
 pub const NOT_REACHED: u8 = 3;
 
 /// The calls.
-const CALLS: [&str; 18] = [
+const CALLS: [&str; 19] = [
     "check",
     "assemble",
     "disassemble",
     "memory",
     "machine",
+    "restart",
     "list",
     "ring",
     "answer",
@@ -124,6 +125,7 @@ fn made<W: Write>(rt: &HostRuntime, name: &str, output: &mut Counted<W>) -> Resu
         "disassemble" => programs::disassemble_program(alloc, output),
         "memory" => programs::open_memory(alloc, output),
         "machine" => programs::open_machine(alloc, output),
+        "restart" => programs::restart_machine(alloc, output),
         "list" => scripts::open_list(alloc, output),
         "ring" => scripts::open_ring(alloc, output),
         "answer" => scripts::run_script(alloc, &scripts::ANSWER, output),

@@ -1,7 +1,7 @@
 //! Programs: their words and listings, and the machines that are opened on them.
 use crate::telling::{Lack, say};
 use bpf_isa::{MapTable, Program, check};
-use bpf_machine::{Cpu, Memory};
+use bpf_machine::{ByteString, Cpu, Edit, Memory};
 use bpf_text::{assemble, disassemble};
 use counted_io::Counted;
 use std::alloc::Global;
@@ -104,4 +104,39 @@ pub fn open_machine<W: Write>(alloc: Global, output: &mut Counted<W>) -> Result<
         },
         Err(fault) => Err(Lack::Refused("O", fault.number(), fault.text())),
     }
+}
+
+/// `Cpu::restart`: the new context, and the first value of a map that was written to before.
+pub fn restart_machine<W: Write>(alloc: Global, output: &mut Counted<W>) -> Result<(), Lack> {
+    let Some(mut cpu) = written_machine(alloc) else {
+        return Err(Lack::NotReached);
+    };
+    if let Err(fault) = cpu.restart(alloc, b"\x09\x0a") {
+        return Err(Lack::Refused("O", fault.number(), fault.text()));
+    }
+    match (
+        cpu.peek(0x1_0000_0000, 2),
+        cpu.peek(0x1_0000_0000, 3),
+        cpu.peek(0x3_0000_0000, 8),
+    ) {
+        (Some(context), None, Some(value)) => {
+            say(output, context)?;
+            say(output, value)
+        }
+        _ => Err(Lack::NotReached),
+    }
+}
+
+/// A machine with a map, whose context and whose first value in the map are 7s; none where memory runs
+/// out.
+fn written_machine(alloc: Global) -> Option<Cpu> {
+    let mut maps = MapTable::empty();
+    maps.add(8, 2).ok()?;
+    let program = check(alloc, WORDS, &maps).ok()?;
+    let mut cpu = Cpu::open(alloc, program, CONTEXT).ok()?;
+    for address in [0x1_0000_0000, 0x3_0000_0000] {
+        let bytes = ByteString::of(&[7; 8]);
+        cpu.edit(&Edit::Bytes { address, bytes }).ok()?;
+    }
+    Some(cpu)
 }

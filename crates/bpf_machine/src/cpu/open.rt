@@ -1,8 +1,9 @@
 //! Opening a machine.
 ghost use Rattle.std.specs.Prelude.{◌≡◌, ◌==◌, ◌∷◌, IfOk, IfErr, OnErr, OnOk, if◌then◌else◌, length, replicate, slice_index, take};
 ghost use Rattle.bpf_isa.specs.Checker.{IsAccepted};
-ghost use Rattle.bpf_steps.specs.Opening.{Opened, Refused};
+ghost use Rattle.bpf_steps.specs.Opening.{Opened, Refused, Restarted};
 ghost use Rattle.bpf_steps.specs.Platform.{context_base, frame_pointer as frame_pointer_of};
+ghost use Rattle.bpf_steps.specs.State.{initial};
 
 use super::Cpu;
 use arrayvec::ArrayVec;
@@ -14,8 +15,8 @@ use std::alloc::Global;
 
 impl Cpu {
     /// Opens a machine at its program's first slot. The context is at most 65,536 bytes; r1 is its
-    /// address, 0 where it is empty, and r2 its length. Besides `reopen` no call of a machine takes
-    /// memory.
+    /// address, 0 where it is empty, and r2 its length. Besides `reopen` and `restart` no call of a
+    /// machine takes memory.
     pub fn open(alloc: Global, program: Program, context: &[u8]) -> Result<Cpu, OpenFault>
         ensures ok { IfOk result (Opened program context.now) }
         ensures err { IfErr result (Refused context.now) }
@@ -53,6 +54,23 @@ impl Cpu {
         self.reopen_with(alloc, maps, context)
     }
 
+    /// Starts the program once more, on another context: as `open` does, but the bytes of its maps stay
+    /// as they are. A machine that isn't started again stays as it was.
+    pub fn restart(&mut self, alloc: Global, context: &[u8]) -> Result<(), OpenFault>
+        ensures ok { OnOk result (Restarted context.now self.old self.new) }
+        ensures err { IfErr result (Refused context.now) }
+        ensures same { OnErr result (self.new ≡ self.old) }
+    {
+        self.invariant();
+        match self.memory.restart(alloc, context) {
+            Ok(()) => {
+                self.begin(context);
+                Ok(())
+            }
+            Err(fault) => Err(fault),
+        }
+    }
+
     /// Opens the machine again on its program with other maps, with which the checker accepts its
     /// words, and with a context. Its memory is new, and what was made of the program stays, so this
     /// takes no time in the program's length. A machine that isn't opened stays as it was.
@@ -75,12 +93,20 @@ impl Cpu {
         };
         self.program.set_maps(maps);
         self.memory = memory;
+        self.begin(context);
+        Ok(())
+    }
+
+    /// Goes to the first slot, as at opening with a context, whatever memory is.
+    fn begin(&mut self, context: &[u8])
+        ensures { self.new ≡ record (initial self.old.program context.now) { memory = self.old.memory } }
+    {
+        self.program.invariant();
         self.pc = 0;
         self.registers = opening_registers(context);
         self.frames.clear();
         self.status = Status::Running;
         self.trace.clear();
-        Ok(())
     }
 }
 

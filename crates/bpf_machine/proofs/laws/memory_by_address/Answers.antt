@@ -1,4 +1,4 @@
-use Rattle.bpf_steps.proofs.ByAddress.{law_apart, law_runs, law_numbers, law_stores, law_accessible, law_opened}
+use Rattle.bpf_steps.proofs.ByAddress.{law_apart, law_runs, law_numbers, law_stores, law_accessible, law_opened, law_restarted, law_unchanged}
 use Rattle.bpf_machine.proofs.Cells.{law_cells}
 use Rattle.bpf_machine.proofs.laws.memory_by_address.Goals as goal
 
@@ -11,4 +11,6 @@ returns c = record {
   accessible = law_accessible;
   cells = law_cells;
   opened = law_opened;
+  restarted = law_restarted;
+  unchanged = law_unchanged;
 }
