@@ -70,6 +70,7 @@ impl MapLayout {
         requires { MAP_BASE ≤ address }
         ensures value { result ≡ index_in (maps_from 0 self.now) address n }
         ensures fits { IfSome result (λ at. at + n ≤ maps_len self.now) }
+        ensures few { maps_len self.now ≤ 16 * 65536 }
     {
         let map = (address - MAP_BASE) / MAP_STRIDE;
         match span_of(self.spans.as_slice(), map) {

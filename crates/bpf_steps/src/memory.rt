@@ -1,9 +1,8 @@
 //! Memory: the bytes of all regions, one region after another.
 ghost use Rattle.std.specs.Prelude.{◌≡◌, All, ◌+◌, ◌-◌, ◌*◌, ◌^◌, ◌≤◌, ◌<◌, ◌⊎◌, length, IfSome, IfNone, IfOk, IfErr, OnErr, OnOk, IsTrue, IsSome, ◌↔◌, option_map, Some, None, ℕ, List, if◌then◌else◌, ◌==◌, ◌++◌, replicate};
-ghost use Rattle.bpf_isa.specs.declared.maps.MapShape.{MapShape};
-ghost use Rattle.bpf_steps.specs.Regions.{Image, index_in, index_of, frames_from, is_from_frame, zeros};
+ghost use Rattle.bpf_steps.specs.Regions.{image, index_in, index_of, frames_from, is_from_frame, maps_from, maps_len, zeros};
 ghost use Rattle.bpf_steps.specs.Spans.{AreSoughtFrom};
-ghost use Rattle.bpf_steps.specs.Platform.{context_limit, frame_base, frame_count, frame_len};
+ghost use Rattle.bpf_steps.specs.Platform.{context_limit, frame_base, frame_count, frame_len, map_base};
 
 use crate::alu::{low8, low16, low32};
 use crate::fault::OpenFault;
@@ -19,9 +18,9 @@ use std::marker::Model;
 /// Memory of a machine: the context, the frames and the maps.
 #[derive(Drop)]
 pub struct Memory {
-    context_len: usize,
-    maps: MapLayout,
-    bytes: Vec<u8>,
+    pub(crate) context_len: usize,
+    pub(crate) maps: MapLayout,
+    pub(crate) bytes: Vec<u8>,
 }
 
 impl Model for Memory {
@@ -97,16 +96,7 @@ impl Memory {
             (if is_from_frame frames address then None else index_of self.now address n) }
         ensures fits { IfSome result (λ at. at + n ≤ length self.now.bytes) }
     {
-        if address < FRAME_BASE {
-            region_index(CONTEXT_BASE, self.context_len, address, n)
-        } else if address < MAP_BASE {
-            behind(self.context_len, frame_index(frames, address, n))
-        } else {
-            behind(
-                self.context_len + FRAME_LEN * FRAME_COUNT,
-                self.maps.index(address, n),
-            )
-        }
+        run_index(self.context_len, &self.maps, frames, address, n)
     }
 
     /// How many bytes the context has.
@@ -284,40 +274,65 @@ pub fn region_index(base: u64, len: usize, address: u64, n: usize) -> Option<usi
     }
 }
 
-/// Where the run of n bytes at an address from frame 0 on begins in the frames below frame
-/// `frames`.
+/// Where the run of n bytes at an address in the frames below frame `frames` begins in the frames.
 fn frame_index(frames: usize, address: u64, n: usize) -> Option<usize>
-    requires { AreSoughtFrom FRAME_BASE frames address n }
-    ensures value { result ≡ (if is_from_frame frames address then None
-        else index_in (frames_from 0 frame_count) address n) }
+    requires sought { AreSoughtFrom FRAME_BASE frames address n }
+    requires below { address < frame_base frames }
+    ensures value { result ≡ index_in (frames_from 0 frame_count) address n }
     ensures fits { IfSome result (λ at. at + n ≤ frame_len * frame_count) }
-    ensures near { IfSome result (λ at. address < frame_base frame_count) }
 {
     let frame = (address - FRAME_BASE) / FRAME_STRIDE;
-    if frame >= frames as u64 {
-        return None;
-    }
     match region_index(0, FRAME_LEN, (address - FRAME_BASE) % FRAME_STRIDE, n) {
         Some(at) => Some(FRAME_LEN * frame as usize + at),
         None => None,
     }
 }
 
-/// Where the run of n bytes at this address begins, if that is in the context or in a frame below
-/// frame `frames`.
+/// Where the run of n bytes at an address from frame 0 on begins that is in no frame: in a map or
+/// nowhere. (It is called, so that the loop of a run is no longer by it.)
+#[inline(never)]
+fn far_index(context_len: usize, maps: &MapLayout, address: u64, n: usize) -> Option<usize>
+    requires { context_len ≤ context_limit }
+    ensures below { address < map_base → result ≡ None }
+    ensures past { map_base ≤ address → result ≡ option_map
+        (λ at. context_len + frame_len * frame_count + at)
+        (index_in (maps_from 0 maps.now) address n) }
+    ensures fits { IfSome result
+        (λ at. at + n ≤ context_len + frame_len * frame_count + maps_len maps.now) }
+{
+    if address < MAP_BASE {
+        return None;
+    }
+    behind(
+        context_len + FRAME_LEN * FRAME_COUNT,
+        maps.index(address, n),
+    )
+}
+
+/// Where the run of n bytes at this address begins among the bytes of all regions, None where some
+/// of them aren't present or lie in a frame from `frames` on.
 #[inline(always)]
-pub fn near_index(context_len: usize, frames: usize, address: u64, n: usize) -> Option<usize>
+pub fn run_index(
+    context_len: usize,
+    maps: &MapLayout,
+    frames: usize,
+    address: u64,
+    n: usize,
+) -> Option<usize>
     requires sought { AreSoughtFrom 0 frames address n }
     requires short { context_len ≤ context_limit }
-    ensures value { IfSome result (λ at. (maps : List MapShape) (bytes : List ℕ) →
-        let m : Image = record { context_len = context_len; maps = maps; bytes = bytes } in
-        (if is_from_frame frames address then None else index_of m address n) ≡ Some at) }
-    ensures fits { IfSome result (λ at. at + n ≤ context_len + frame_len * frame_count) }
+    ensures value { (bytes : List ℕ) → result ≡ (if is_from_frame frames address then None
+        else index_of (image context_len maps.now bytes) address n) }
+    ensures fits { IfSome result
+        (λ at. at + n ≤ context_len + frame_len * frame_count + maps_len maps.now) }
 {
     if address < FRAME_BASE {
-        region_index(CONTEXT_BASE, context_len, address, n)
-    } else {
+        return region_index(CONTEXT_BASE, context_len, address, n);
+    }
+    if (address - FRAME_BASE) / FRAME_STRIDE < frames as u64 {
         behind(context_len, frame_index(frames, address, n))
+    } else {
+        far_index(context_len, maps, address, n)
     }
 }
 
