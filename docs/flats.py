@@ -81,7 +81,7 @@ def answer(kind, tag, call, keeps):
     some, left = {
         "set": (f"set_arm {of} c.args.len c.args.bytes.now (λ h. {keeps}) c.{call}.ensures", f"left_set c.{call}.ensures"),
         "jump": (f"jump_arm {of} c.{call}.result c.args.len c.args.bytes.now (λ h. h) c.{call}.ensures", f"left_jump c.{call}.result c.{call}.ensures"),
-        "memory": (f"memory_arm {of} _ _ c.{call}.result (λ h. {keeps}) c.{call}.ensures.done", f"c.{call}.ensures.left"),
+        "memory": (f"memory_arm {of} _ _ c.{call}.result c.requires.can.mapped.same (λ h. {keeps}) c.{call}.ensures.done", f"c.{call}.ensures.left"),
     }[kind]
     return f"\npub returns-in-{tag} : goal.returns-in-{tag}\nreturns-in-{tag} g c = record {{ some = {some}; left = {left} }}\n"
 

@@ -463,10 +463,10 @@ still_zeros first n =
     let zeros : List ℕ = replicate (frame_len * frame_count + n) 0 in
     let rest : frame_len * frame_count + n - frame_len * frame_count ≡ n = omega arith in
     ap (λ ys. replicate (frame_len * frame_count) 0 ++ ys)
-      (sym (drop-drop (frame_len * frame_count) (length first) (first ++ zeros))
-      ∙ ap (drop (frame_len * frame_count)) (drop-append-le (length first) first zeros (le_refl (length first)) ∙ ap (λ ys. ys ++ zeros) (drop_all (length first) first (le_refl (length first))))
-      ∙ drop-replicate (frame_len * frame_count) (frame_len * frame_count + n) 0
-      ∙ ap (λ k. replicate k 0) rest)
+    (sym (drop-drop (frame_len * frame_count) (length first) (first ++ zeros))
+    ∙ ap (drop (frame_len * frame_count)) (drop-append-le (length first) first zeros (le_refl (length first)) ∙ ap (λ ys. ys ++ zeros) (drop_all (length first) first (le_refl (length first))))
+    ∙ drop-replicate (frame_len * frame_count) (frame_len * frame_count + n) 0
+    ∙ ap (λ k. replicate k 0) rest)
     ∙ replicate-append-replicate (frame_len * frame_count) n 0
 
 pub law_unchanged : RestartedAtOpening

@@ -83,7 +83,7 @@ RestartedByAddress =
     ((j : ℕ) → j < length context → byte_at (restarted context x).memory (context_base + j) ≡ Some (slice_index context j))
     × ((i j : ℕ) → i < frame_count → j < frame_len → byte_at (restarted context x).memory (frame_base i + j) ≡ Some 0)
     × ((i j : ℕ) (shape : MapShape) → slice_get x.program.maps i ≡ Some shape → j < map_len shape →
-        byte_at (restarted context x).memory (map_address i + j) ≡ byte_at x.memory (map_address i + j))
+    byte_at (restarted context x).memory (map_address i + j) ≡ byte_at x.memory (map_address i + j))
 
 -- As long as nothing was stored, that is the state at opening.
 abbrev pub RestartedAtOpening : Type 0

@@ -10,5 +10,5 @@ returns-in-Ok-clause-ok c =
     let given = ap (λ (m : Image). m.maps) c.self.view_is in (
       omega arith,
       ap (λ bytes. record { context_len = length context; maps = c.self.inside.maps; bytes = bytes }) (c.in-Ok.ensures ∙ behind)
-      ∙ ap (λ maps. record { context_len = length context; maps = maps; bytes = context ++ (replicate 4096 0 ++ map_bytes c.args.self.now) }) given,
+          ∙ ap (λ maps. record { context_len = length context; maps = maps; bytes = context ++ (replicate 4096 0 ++ map_bytes c.args.self.now) }) given,
     )
