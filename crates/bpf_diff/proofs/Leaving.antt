@@ -23,7 +23,7 @@ use Rattle.bpf_trace.specs.Runs.{steps_of}
 use Rattle.bpf_trace.proofs.Stepping.{Steps-none, drop_steps, next-program, none_ended, none_left, one_more_step, whole_run}
 use Rattle.bpf_diff.specs.Differences.{side}
 use Rattle.bpf_diff.specs.Outputs.{last_write, later, writer_line}
-use Rattle.bpf_diff.specs.Seen.{ends_otherwise, map_places, word_places, words_from}
+use Rattle.bpf_diff.specs.Seen.{ends_otherwise, map_places, more_maps, word_places, words_from}
 use Rattle.bpf_diff.specs.declared.seen.Sides.{Sides}
 
 -- the first of some places, place by place
@@ -133,9 +133,9 @@ pub words-whole : (s : Sides) (n : ℕ) → n ≡ max (length s.first.now.trace)
     → among_words s 0 n ≡ find (test_of s) (word_places s.first.now s.second.now)
 words-whole s n e = ap (λ (m : ℕ). among_words s 0 m) e
 
-pub maps-whole : (s : Sides) (ms : List MapShape) (program : List MapShape) → ms ≡ program → s.first.now.memory.maps ≡ program
-    → among_maps s 0 ms ≡ find (test_of s) (map_places 0 s.first.now.memory.maps)
-maps-whole s ms program e mapped = ap (λ (xs : List MapShape). among_maps s 0 xs) (e ∙ sym mapped)
+pub maps-whole : (s : Sides) (ms : List MapShape) → ms ≡ more_maps s.first.now s.second.now
+    → among_maps s 0 ms ≡ find (test_of s) (map_places 0 (more_maps s.first.now s.second.now))
+maps-whole s ms e = ap (λ (xs : List MapShape). among_maps s 0 xs) e
 
 -- the last of some steps, k of which were taken
 abbrev pub behind : ℕ → ℕ → ℕ → ℕ

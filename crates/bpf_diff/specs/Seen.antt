@@ -1,6 +1,6 @@
 -- What is seen of a machine from outside: the bytes of its context and of its maps, its traced words, and r0 where it exited. And the first
 -- place at which two runs leave something else.
-use Rattle.std.specs.Prelude.{ℕ, zero, suc, ◌-◌, max, Bool, true, false, not, ◌==◌, ◌&&◌, if◌then◌else◌, List, [], ◌∷◌, ◌++◌, find, length, slice_get, Option, Some, None}
+use Rattle.std.specs.Prelude.{ℕ, zero, suc, ◌-◌, max, Bool, true, false, not, ◌==◌, ◌&&◌, if◌then◌else◌, List, [], ◌∷◌, ◌++◌, find, length, nat_lt, option_map, slice_get, Option, Some, None}
 use Rattle.std.specs.Option.{option_or}
 use Rattle.bpf_entries.specs.declared.status.Status.{Status}
 use Rattle.bpf_entries.specs.declared.status.Status.TheVariants.{Running, Exited, Faulted}
@@ -19,10 +19,10 @@ seen x (Byte a) = byte_at x.memory a
 seen x (Word i) = slice_get x.trace i
 seen x (Register d r) = Some (register x 0)
 
--- What a context has there before the first step, None behind it.
-abbrev pub given : List ℕ → Place → Option ℕ
-given context (Byte a) = slice_get context (a - context_base)
-given context p = None
+-- What stood there before the first step: the context's byte, and zero in a map; None where there is no such byte or word.
+abbrev pub given : List ℕ → State → Place → Option ℕ
+given context x (Byte a) = option_or (slice_get context (a - context_base)) (option_map (λ v. 0) (byte_at x.memory a))
+given context x p = None
 
 abbrev pub same_value : Option ℕ → Option ℕ → Bool
 same_value None None = true
@@ -32,15 +32,19 @@ same_value v w = false
 -- Two runs, on these contexts, end with something else there. What each left as it was given doesn't count.
 unfoldable pub ends_otherwise : List ℕ → List ℕ → State → State → Place → Bool
 ends_otherwise c d x y p = not (same_value (seen x p) (seen y p))
-    && not (same_value (seen x p) (given c p) && same_value (seen y p) (given d p))
+    && not (same_value (seen x p) (given c x p) && same_value (seen y p) (given d y p))
 
--- The places that are seen, in their order: the longer context, the maps from map i on, the traced words from word i on.
+-- The places that are seen, in their order: the longer context, the maps from map i on, of the program that has more of them, the traced words from
+-- word i on.
 abbrev pub context_places : List ℕ → List ℕ → List Place
 context_places c d = bytes_from context_base (max (length c) (length d))
 
 unfoldable pub map_places : ℕ → List MapShape → List Place
 map_places i [] = []
 map_places i (shape ∷ shapes) = bytes_from (map_address i) (map_len shape) ++ map_places (suc i) shapes
+
+abbrev pub more_maps : State → State → List MapShape
+more_maps x y = if nat_lt (length x.program.maps) (length y.program.maps) then y.program.maps else x.program.maps
 
 unfoldable pub words_from : ℕ → ℕ → List Place
 words_from i zero = []
@@ -66,5 +70,5 @@ result_otherwise x y =
 abbrev pub first_place : List ℕ → List ℕ → State → State → Option Place
 first_place c d x y =
     option_or (find (ends_otherwise c d x y) (context_places c d))
-    (option_or (find (ends_otherwise c d x y) (map_places 0 x.memory.maps))
+    (option_or (find (ends_otherwise c d x y) (map_places 0 (more_maps x y)))
     (option_or (find (ends_otherwise c d x y) (word_places x y)) (result_otherwise x y)))

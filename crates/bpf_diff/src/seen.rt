@@ -1,11 +1,11 @@
 //! What is seen of two machines from outside, and the first place at which they ended otherwise.
-ghost use Rattle.std.specs.Prelude.{◌≡◌, ◌<◌, ◌+◌, ◌%◌, ◌^◌, Some, find, length, max, slice_get};
+ghost use Rattle.std.specs.Prelude.{◌≡◌, ◌<◌, ◌+◌, ◌%◌, ◌^◌, Some, find, length, max, option_map, slice_get};
 ghost use Rattle.std.specs.Option.{option_or};
 ghost use Rattle.bpf_steps.specs.Platform.{map_address};
 ghost use Rattle.bpf_steps.specs.Regions.{map_len};
 ghost use Rattle.bpf_origin.specs.Places.{bytes_from};
 ghost use Rattle.bpf_diff.specs.Seen as spec;
-ghost use Rattle.bpf_diff.specs.Seen.{context_places, ends_otherwise, map_places, result_otherwise, word_places};
+ghost use Rattle.bpf_diff.specs.Seen.{context_places, ends_otherwise, map_places, more_maps, result_otherwise, word_places};
 
 use bpf_isa::{MapShape, MapTable};
 use bpf_machine::{Cpu, Status};
@@ -48,7 +48,7 @@ pub fn first_place<'a>(
 fn first_behind_contexts(sides: &Sides<'_>) -> Option<Place>
     ensures { result ≡ option_or (find (ends_otherwise sides.now.context.now
         sides.now.other.now sides.now.first.now sides.now.second.now)
-        (map_places 0 sides.now.first.now.memory.maps))
+        (map_places 0 (more_maps sides.now.first.now sides.now.second.now)))
         (option_or (find (ends_otherwise sides.now.context.now
         sides.now.other.now sides.now.first.now sides.now.second.now)
         (word_places sides.now.first.now sides.now.second.now))
@@ -73,14 +73,13 @@ fn first_of_contexts(sides: &Sides<'_>) -> Option<Place>
     first_of_bytes(sides, CONTEXT_BASE, len)
 }
 
-/// The first byte of a map.
+/// The first byte of a map, of the program that has more of them.
 fn first_of_maps(sides: &Sides<'_>) -> Option<Place>
     ensures { result ≡ find (ends_otherwise sides.now.context.now
         sides.now.other.now sides.now.first.now sides.now.second.now)
-        (map_places 0 sides.now.first.now.memory.maps) }
+        (map_places 0 (more_maps sides.now.first.now sides.now.second.now)) }
 {
-    sides.first.invariant();
-    let maps = sides.first.program().maps();
+    let maps = more_maps(sides);
     for i in 0..maps.len() {
         match first_of_map(sides, i, shape_at(maps, i)) {
             Some(place) => return Some(place),
@@ -88,6 +87,15 @@ fn first_of_maps(sides: &Sides<'_>) -> Option<Place>
         }
     }
     None
+}
+
+/// The maps of the program that has more of them.
+fn more_maps<'a>(sides: &Sides<'a>) -> &'a MapTable
+    ensures { result.now ≡ more_maps sides.now.first.now sides.now.second.now }
+{
+    let one = sides.first.program().maps();
+    let other = sides.second.program().maps();
+    if one.len() < other.len() { other } else { one }
 }
 
 /// The shape of the map with a number.
@@ -190,8 +198,8 @@ fn is_otherwise(sides: &Sides<'_>, place: Place) -> bool
     let one = seen(sides.first, place);
     let other = seen(sides.second, place);
     !same_value(one, other)
-        && !(same_value(one, given(sides.context, place))
-            && same_value(other, given(sides.other, place)))
+        && !(same_value(one, given(sides.context, sides.first, place))
+            && same_value(other, given(sides.other, sides.second, place)))
 }
 
 /// What stands at a place, None where there is no such byte or word.
@@ -215,19 +223,30 @@ fn byte_at(cpu: &Cpu, address: u64) -> Option<u64>
     }
 }
 
-/// What a context has at a place before the first step, None behind it.
-fn given(context: &[u8], place: Place) -> Option<u64>
-    ensures { result ≡ spec.given context.now place }
+/// What stood at a place before the first step: a byte of the context, zero in a map; None where there
+/// is no such byte or word.
+fn given(context: &[u8], cpu: &Cpu, place: Place) -> Option<u64>
+    ensures { result ≡ spec.given context.now cpu.now place }
 {
     match place {
         Place::Byte { address } => {
             let index = address.saturating_sub(CONTEXT_BASE);
             match context.get(index as usize) {
                 Some(byte) => Some(u64::from(*byte)),
-                None => None,
+                None => zero_at(cpu, address),
             }
         }
         Place::Word { .. } | Place::Register { .. } => None,
+    }
+}
+
+/// Zero where there is a byte at an address.
+fn zero_at(cpu: &Cpu, address: u64) -> Option<u64>
+    ensures { result ≡ option_map (λ v. 0) (spec.seen cpu.now (Place.Byte address)) }
+{
+    match byte_at(cpu, address) {
+        Some(_) => Some(0),
+        None => None,
     }
 }
 
