@@ -100,7 +100,7 @@ refused 'refused F1: an object has maps of its own: leave --maps out' diff --map
 refused 'refused F1: an object has maps of its own: leave --maps out' run --json --maps 8x2 text.o
 refused 'cannot read missing' run --maps 8x2 -m missing text.o
 
-# Two programs are looked at each by itself; none of them is an object.
+# Two programs are looked at each by itself; both are objects, or none of them is.
 for pair in 'seven.s seven.bin' 'seven.bin seven.s' 'seven.s seven.s' 'words.s words.o'; do
     # shellcheck disable=SC2086
     result 'same for 2 steps\nexited at 1: r0 0x7\n' diff $pair
@@ -110,11 +110,11 @@ refused 'refused C3: length is no multiple of 8 (the other run)' diff --words se
 refused 'refused C3: length is no multiple of 8 (the other run)' diff --writes seven.bin zero.s
 result 'same for 2 steps\nexited at 1: r0 0x7\n' diff --listing seven.s seven
 refused 'refused A6 at line 1: byte outside ASCII text (the other run)' diff --listing seven.s seven.bin
-for pair in 'text.o text.o' 'text.o seven.s' 'seven.s text.o' 'text.s seven.bin'; do
+for pair in 'text.o seven.s' 'seven.s text.o' 'text.s seven.bin'; do
     # shellcheck disable=SC2086
-    refused 'refused F2: an object is compared with itself: --other-mem or --trace in place of OTHER' diff $pair
+    refused 'refused F2: one of FILE and OTHER is an object, and the other is none' diff $pair
     # shellcheck disable=SC2086
-    refused 'refused F2: an object is compared with itself: --other-mem or --trace in place of OTHER' diff --writes --alone $pair
+    refused 'refused F2: one of FILE and OTHER is an object, and the other is none' diff --writes --alone $pair
 done
 
 # `batch` reads words, and nothing else.

@@ -27,7 +27,11 @@ said_kind words finds found = if words.is_object then Object else if words.is_li
 abbrev pub source_kind : Plan → List ℕ → List ℕ → SourceKind
 source_kind plan name file = said_kind plan.target (finds_kind plan.subcommand) (kind_of name file)
 
--- What its files are doesn't go together with what it asks: maps are named beside an object, or one of two programs is one.
+-- What its files are doesn't go together with what it asks: maps are named beside an object, or one of two programs is an object and the other isn't.
+abbrev pub differ : Bool → Bool → Bool
+differ true b = not b
+differ false b = b
+
 abbrev pub runs_two_by : Subcommand → Job → Bool
 runs_two_by Diff job = not job.options.other_is_context && not job.options.other_is_trace
 runs_two_by subcommand job = false
@@ -37,4 +41,4 @@ runs_two job = runs_two_by job.subcommand job
 
 abbrev pub misfit_of : Job → Option KindFault
 misfit_of job = if links_first job.target.kind && is_some job.target.maps then Some Maps
-    else if runs_two job && (links_first job.target.kind || links_first job.other_kind) then Some Programs else None
+    else if runs_two job && differ (links_first job.target.kind) (links_first job.other_kind) then Some Programs else None

@@ -45,7 +45,7 @@ pub fn misfit_of(job: &Job<'_>) -> Option<KindFault>
     if is_object(job.target.kind) && job.target.maps.is_some() {
         return Some(KindFault::Maps);
     }
-    if runs_two(job) && (is_object(job.target.kind) || is_object(job.other_kind)) {
+    if runs_two(job) && is_object(job.target.kind) != is_object(job.other_kind) {
         Some(KindFault::Programs)
     } else {
         None

@@ -171,7 +171,7 @@ pub const DIFF_LONG: &str = "Runs two programs, or one on two contexts, and show
 
 Reads FILE and the context, and a second program, OTHER, or a second context
 (--other-mem). Both runs go forward step by step, each to its end or to the
-limit of steps; OTHER has the same maps.
+limit of steps; two objects have each its own maps.
 
 Writes to standard output the first step of both at one slot that wrote to other
 places or other values, then the first step at which one is at another slot, or
@@ -531,7 +531,7 @@ begin with '#' are skipped. It goes with neither OTHER nor --other-mem";
 pub const WRITES: &str = "Compares what both runs leave, and not their steps";
 
 /// OTHER.
-pub const OTHER: &str = "Second program: a listing (NAME.s), or raw words";
+pub const OTHER: &str = "Second program: an object, a listing (NAME.s), or raw words";
 
 /// `--only NAME`.
 pub const ONLY: &str = "Runs the tests of this name alone";

@@ -21,7 +21,7 @@ use Rattle.bpfdb_faults.specs.declared.fault.JobFault.TheVariants.{Unreadable, N
 use Rattle.bpfdb_faults.specs.declared.kind.KindFault.{KindFault}
 use Rattle.bpfdb_faults.specs.declared.kind.KindFault.TheVariants as kind
 use Rattle.bpfdb_faults.specs.declared.refusal.JobRefusal.{JobRefusal}
-use Rattle.bpfdb_faults.specs.declared.refusal.JobRefusal.TheVariants.{Kind, Maps, Listing, Load, Open, OtherRun, TraceLine, Journal, What, Object, Functions, Tests, NoTest, ManyTests, Script, Goal, NoPlace}
+use Rattle.bpfdb_faults.specs.declared.refusal.JobRefusal.TheVariants.{Kind, Maps, Listing, Load, Open, OtherRun, OtherObject, OtherMap, TraceLine, Journal, What, Object, Functions, Tests, NoTest, ManyTests, Script, Goal, NoPlace}
 
 -- The line of a refusal: a letter and a number, its line if it has one, and a text.
 abbrev pub refused_line : List ℕ → ℕ → Option ℕ → List ℕ → List ℕ
@@ -30,7 +30,7 @@ refused_line family number line text = text_of_refusal family number (codes " at
 -- What a file is doesn't go together with what is asked.
 abbrev pub kind_fault : KindFault → ℕ × List ℕ
 kind_fault kind.Maps = (1, codes "an object has maps of its own: leave --maps out")
-kind_fault kind.Programs = (2, codes "an object is compared with itself: --other-mem or --trace in place of OTHER")
+kind_fault kind.Programs = (2, codes "one of FILE and OTHER is an object, and the other is none")
 
 -- A helper: its number, and its name in the kernel, if it has one.
 abbrev pub label_text : ℕ → List ℕ → List ℕ
@@ -125,10 +125,16 @@ functions_end before =
     if before == 0 then codes " (--with)\n"
     else (codes " (--with, object " ++ decimal (min (before + 1) 18446744073709551615) ++ codes ")\n")
 
+-- A map of one program isn't that of its number in the other.
+abbrev pub other_map_line : ℕ → List ℕ
+other_map_line number = codes "refused F3: map " ++ decimal number ++ codes " is another one in OTHER\n"
+
 -- The line of each refusal.
 abbrev pub refusal_line : JobRefusal → List ℕ
 refusal_line (Kind fault) = refused_line (codes "refused F") (kind_fault fault).0 None (kind_fault fault).1
 refusal_line (OtherRun refusal) = refusal_text refusal ++ codes " (the other run)\n"
+refusal_line (OtherObject fault name) = object_text fault name.now ++ codes " (the other run)\n"
+refusal_line (OtherMap number) = other_map_line number
 refusal_line (TraceLine fault line) = refused_line (codes "refused X") (line_fault fault).0 (Some line) (line_fault fault).1
 refusal_line (Script refusal) = commands.refusal_text refusal
 refusal_line (What fault) = refused_line (codes "refused V") (what_fault fault).0 None (what_fault fault).1

@@ -7,7 +7,7 @@ ghost use Rattle.bpfdb_faults.specs.Faults.{kind_fault};
 pub enum KindFault {
     /// FILE is an object, and maps are named.
     Maps,
-    /// One of two programs that are compared is an object.
+    /// One of two programs that are compared is an object, and the other isn't.
     Programs,
 }
 
@@ -21,7 +21,7 @@ impl KindFault {
             KindFault::Maps => (1, "an object has maps of its own: leave --maps out"),
             KindFault::Programs => (
                 2,
-                "an object is compared with itself: --other-mem or --trace in place of OTHER",
+                "one of FILE and OTHER is an object, and the other is none",
             ),
         }
     }

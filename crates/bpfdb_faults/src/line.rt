@@ -3,7 +3,7 @@ ghost use Rattle.std.specs.Prelude.{◌≡◌, ◌≤◌, ◌++◌, codes, lengt
 ghost use Rattle.counted_io.specs.Writing.{WritesAfter};
 ghost use Rattle.bpf_link.specs.Helpers.{helper_name};
 ghost use Rattle.bpf_suite.specs.Refusals.{refusal_text};
-ghost use Rattle.bpfdb_faults.specs.Faults.{answer_text, helpers_text, label_text, line_of, hint_of, more_of, name_text, object_text, origin_text, other_text, others_text, refusal_line, refused_line, slot_of_words, source_text, functions_end};
+ghost use Rattle.bpfdb_faults.specs.Faults.{answer_text, helpers_text, label_text, line_of, hint_of, more_of, name_text, object_text, other_map_line, origin_text, other_text, others_text, refusal_line, refused_line, slot_of_words, source_text, functions_end};
 
 use crate::fault::JobFault;
 use crate::refusal::JobRefusal;
@@ -97,7 +97,27 @@ fn put_refusal<E: Write>(
             let (number, text) = (fault.number(), fault.text());
             put_refused(errors, so_far, b"refused F", number, None, text)
         }
+        JobRefusal::OtherObject(fault, name) => {
+            put_object(errors, so_far, fault, name, b" (the other run)\n")
+        }
+        JobRefusal::OtherMap(number) => put_other_map(errors, so_far, *number),
     }
+}
+
+/// Writes the line of a map that is another one in the other program.
+fn put_other_map<E: Write>(
+    errors: &mut Counted<E>,
+    so_far: Result<(), WriteFault>,
+    number: usize,
+) -> Result<(), WriteFault>
+    ensures { WritesAfter E.contents errors.old so_far errors.new result (other_map_line number) }
+{
+    let pieces = [
+        Piece::Text(b"refused F3: map "),
+        Piece::Decimal(number as u64),
+        Piece::Text(b" is another one in OTHER\n"),
+    ];
+    put_all(errors, so_far, &pieces)
 }
 
 /// Writes the line of a refusal that ends with the name of what there isn't.
@@ -158,6 +178,7 @@ fn put_refused<'a, E: Write>(
 }
 
 /// Writes the line of an object's fault, which ends so.
+#[inline(never)]
 pub fn put_object<E: Write>(
     errors: &mut Counted<E>,
     so_far: Result<(), WriteFault>,

@@ -26,6 +26,11 @@ pub enum JobRefusal<'a> {
     Open(OpenFault),
     /// The other run of `diff` can't be made, by its program or its context.
     OtherRun(ProgramRefusal),
+    /// No program is made of the object of the other run; a name or names as in `Object`.
+    OtherObject(LinkFault, &'a [u8]),
+    /// Two programs that are compared have another map of this number each, by its name or its
+    /// shape.
+    OtherMap(usize),
     /// The trace of another machine has this fault, in this line.
     TraceLine(LineFault, usize),
     /// The journal can't be opened.

@@ -2,7 +2,8 @@
 use Rattle.std.proofs.Common.{ℕ, ◌≡◌, Bool, true, false, List, Option, Some, None, Result, Ok, Err, ap, ap₂, inl, inr, subst, sym, ◌∙◌}
 use Rattle.std.specs.Borrow.{Bor}
 use Rattle.std.specs.Prelude.{OnErr, OnOk, is_some}
-use Rattle.bpf_load.specs.Targets.{Loads}
+use Rattle.bpf_load.specs.Targets.{Loads, loaded_of}
+use Rattle.bpf_load.specs.declared.loading.LinkedObject.{LinkedObject}
 use Rattle.bpf_load.specs.declared.program.Loaded.{Loaded}
 use Rattle.bpf_steps.specs.Opening.{Opened}
 use Rattle.bpf_steps.specs.State.{State, initial}
@@ -14,14 +15,16 @@ use Rattle.counted_io.specs.Writing.{Writes}
 use Rattle.bpfdb_faults.specs.Faults.{output_line}
 use Rattle.bpfdb_faults.specs.Streams.{Stream, Told}
 use Rattle.bpfdb_faults.specs.declared.refusal.JobRefusal.{JobRefusal}
-use Rattle.bpfdb_faults.specs.declared.refusal.JobRefusal.TheVariants.{Kind, Maps, Listing, Load, Open, OtherRun, TraceLine, Journal, What, Goal, NoPlace, Object, Functions, Tests, NoTest, ManyTests, Script}
+use Rattle.bpfdb_faults.specs.declared.refusal.JobRefusal.TheVariants.{OtherMap, OtherObject, Kind, Maps, Listing, Load, Open, OtherRun, TraceLine, Journal, What, Goal, NoPlace, Object, Functions, Tests, NoTest, ManyTests, Script}
 use Rattle.bpfdb_jobs.specs.Endings.{EndsPrinted, OutLost, Printed}
-use Rattle.bpfdb_jobs.specs.Jobs.{AgainstPrints, DiffPrints, IsOtherRun, Print, Prints, RunsPrint, against_print, compared_print, comparison_of, diff_status, other_bytes, runs_told, section_of}
-use Rattle.bpfdb_jobs.specs.Openings.{OpensAs, OpensRuns}
+use Rattle.bpfdb_jobs.specs.Jobs.{AgainstPrints, AreNamesFor, DiffPrints, IsOtherRun, Print, Prints, RunsOn, RunsPrint, against_print, compared_print, comparison_of, diff_status, other_bytes, runs_told, section_of}
+use Rattle.bpfdb_jobs.specs.Openings.{OpensAs, OpensOf, OpensRuns}
 use Rattle.bpfdb_jobs.specs.Origins.{RefusesNames}
+use Rattle.bpfdb_jobs.specs.Programs.{AreSameMaps, IsOtherMap}
 use Rattle.bpfdb_jobs.specs.Sources.{sources}
 use Rattle.bpfdb_jobs.specs.Refusals.{RefusesAgainst, RefusesDiff, RefusesEither, RefusesMachine, RefusesOtherRun, RefusesRuns}
 use Rattle.bpfdb_jobs.specs.declared.job.Job.{Job}
+use Rattle.bpfdb_options.specs.declared.options.Options.{Options}
 use Rattle.bpfdb_options.specs.declared.subcommand.Subcommand.TheVariants.{Diff}
 use Rattle.input_texts.specs.TraceFaults.{bad_line}
 use Rattle.input_texts.specs.TraceForms.{form_in, told}
@@ -46,6 +49,8 @@ machine-diff job (Tests fault line) p = p
 machine-diff job (NoTest name) p = p
 machine-diff job ManyTests p = p
 machine-diff job (Kind why) p = p
+machine-diff job (OtherMap number) p = absurd p
+machine-diff job (OtherObject why name) p = absurd p
 
 -- of two runs, or of a run along a trace
 runs-diff : (job : Job) (a : Print) → job.options.other_is_trace ≡ false → RunsPrint job a → Prints Diff job a
@@ -63,25 +68,97 @@ other-refuses job refusal e is = subst (λ (b : Bool). RefusesEither b job refus
 pub against-refuses : (job : Job) (refusal : JobRefusal) → job.options.other_is_trace ≡ true → RefusesAgainst job refusal → RefusesDiff job refusal
 against-refuses job refusal e is = subst (λ (b : Bool). RefusesEither b job refusal) (sym e) is
 
--- a refusal of the names in maps
-pub names-refused : (job other : Job) (x y : State) → job.options.other_is_trace ≡ false → (o : OpensAs job x) → IsOtherRun job other → OpensAs other y
-    → (fault : LinkFault) (name : Bor (List ℕ)) → job.options.alone ≡ false → RefusesNames o.0.object (section_of job) fault name.now
-    → RefusesDiff job (Object fault name)
-names-refused job other x y runs o is t fault name asked refuses =
-    runs-refuse job (Object fault name) runs (o.0, other, t.0, (o.1, is, t.1), asked, refuses)
+-- a machine that was opened, and the object of its program
+pub side-is : (job : Job) (object : Option LinkedObject) (x : State) (o : OpensOf job object x) → loaded_of x.program object ≡ o.0
+side-is job object x o = ap₂ loaded_of (ap (λ (z : State). z.program) o.2) (sym o.3)
+
+-- the other run has what is asked of the first
+asked-alike : (on_context : Bool) (job other : Job) → RunsOn on_context job other → other.options ≡ job.options
+asked-alike true job other is = ap (λ (j : Job). j.options) is.1
+asked-alike false job other is = ap (λ (j : Job). j.options) is.1
+
+same-options : (job other : Job) → IsOtherRun job other → other.options ≡ job.options
+same-options job other is = asked-alike job.options.other_is_context job other is
+
+-- two of them, of programs with these maps
+module _ (job other : Job) (x y : State) (one another : Option LinkedObject) (runs : job.options.other_is_trace ≡ false) (is : IsOtherRun job other)
+    (o : OpensOf job one x) (t : OpensOf other another y) where
+  abbrev alike : AreSameMaps (loaded_of x.program one) (loaded_of y.program another) → AreSameMaps o.0 t.0
+  alike maps = subst (λ (loaded : Loaded). AreSameMaps loaded t.0) (side-is job one x o)
+      (subst (λ (second : Loaded). AreSameMaps (loaded_of x.program one) second) (side-is other another y t) maps)
+
+  pub maps-refused : (number : ℕ) → IsOtherMap (loaded_of x.program one) (loaded_of y.program another) number
+      → RefusesDiff job (OtherMap number)
+  maps-refused number differs = runs-refuse job (OtherMap number) runs (
+    o.0,
+    other,
+    t.0,
+    (o.1, is, t.1),
+    subst (λ (loaded : Loaded). IsOtherMap loaded t.0 number) (side-is job one x o)
+        (subst (λ (second : Loaded). IsOtherMap (loaded_of x.program one) second number) (side-is other another y t) differs),
+  )
+
+  module _ (maps : AreSameMaps (loaded_of x.program one) (loaded_of y.program another)) where
+    -- a refusal of the names in maps
+    pub names-refused : (fault : LinkFault) (name : Bor (List ℕ)) → job.options.alone ≡ false → RefusesNames one (section_of job) fault name.now
+        → RefusesDiff job (Object fault name)
+    names-refused fault name asked refuses = runs-refuse job (Object fault name) runs (
+      o.0,
+      other,
+      t.0,
+      ((o.1, is, t.1), alike maps),
+      asked,
+      subst (λ (object : Option LinkedObject). RefusesNames object (section_of job) fault name.now) (sym o.3) refuses,
+    )
+
+    pub others-refused : (fault : LinkFault) (name : Bor (List ℕ)) → other.options.alone ≡ false → RefusesNames another (section_of other) fault name.now
+        → RefusesDiff job (OtherObject fault name)
+    others-refused fault name asked refuses = runs-refuse job (OtherObject fault name) runs (
+      o.0,
+      other,
+      t.0,
+      ((o.1, is, t.1), alike maps),
+      subst (λ (o : Options). o.alone ≡ false) (same-options job other is) asked,
+      subst (λ (object : Option LinkedObject). RefusesNames object (section_of other) fault name.now) (sym t.3) refuses,
+    )
+
+    -- their runs, with names
+    pub opens-runs : (names others : Option Names) → AreNamesFor job.options.alone job one names → AreNamesFor other.options.alone other another others
+        → OpensRuns job other x y names others
+    opens-runs names others named told = record {
+      runs = runs;
+      first = (o.0, o.1, o.2);
+      is_other = is;
+      second = (t.0, t.1, t.2);
+      maps = alike maps;
+      named = subst (λ (object : Option LinkedObject). AreNamesFor job.options.alone job object names) (sym o.3) named;
+      named_other = subst (λ (object : Option LinkedObject). AreNamesFor job.options.alone other object others) (sym t.3) (subst (λ (o : Options). AreNamesFor o.alone other another others) (same-options job other is) told);
+    }
 
 -- what is printed, of the machines that were opened
-module _ (job other : Job) (x y : State) (names : Option Names) (o : OpensRuns job other x y names) where
-  pub compared-prints : Prints Diff job (compared_print names job other x y)
-  compared-prints = runs-diff job (compared_print names job other x y) o.runs
-      (o.first.0, other, o.second.0, names, o.first.1, o.is_other, o.second.1, o.named, ap₂ (compared_print names job other) o.first.2 o.second.2)
+module _ (job other : Job) (x y : State) (names others : Option Names) (o : OpensRuns job other x y names others) where
+  pub compared-prints : Prints Diff job (compared_print names others job other x y)
+  compared-prints = runs-diff job (compared_print names others job other x y) o.runs (
+    o.first.0,
+    other,
+    o.second.0,
+    names,
+    others,
+    o.first.1,
+    o.is_other,
+    o.second.1,
+    o.maps,
+    o.named,
+    o.named_other,
+    ap₂ (compared_print names others job other) o.first.2 o.second.2,
+  )
 
   pub found-prints : (text : List ℕ) (same : Bool) (first second : List ℕ) → text ≡ (comparison_of job other x y).text
-      → same ≡ (comparison_of job other x y).same → first ≡ (sources names job.options (comparison_of job other x y).values x y).0
-      → second ≡ (sources names job.options (comparison_of job other x y).values x y).1 → Prints Diff job (runs_told text same (first, second))
+      → same ≡ (comparison_of job other x y).same → first ≡ (sources names others job.options (comparison_of job other x y).values x y).0
+      → second ≡ (sources names others job.options (comparison_of job other x y).values x y).1 → Prints Diff job (runs_told text same (first, second))
   found-prints text same first second e f g h =
       let told = comparison_of job other x y in
-      let texts = sources names job.options told.values x y in
+      let texts = sources names others job.options told.values x y in
       subst (Prints Diff job)
       (sym (ap₂ (λ (t : List ℕ) (s : Bool). runs_told t s (first, second)) e f
       ∙ ap₂ (λ (p q : List ℕ). runs_told told.text told.same (p, q)) g h))
@@ -95,7 +172,7 @@ module _ (job other : Job) (x y : State) (names : Option Names) (o : OpensRuns j
         o.first.0,
         other,
         o.second.0,
-        (o.first.1, o.is_other, o.second.1),
+        ((o.first.1, o.is_other, o.second.1), o.maps),
         asked,
         ap₂ (λ (p q : State). is_some (comparison_of job other p q).values) (sym o.first.2) (sym o.second.2) ∙ some,
         refuses,
@@ -137,6 +214,8 @@ machine-against job (Tests fault line) p = p
 machine-against job (NoTest name) p = p
 machine-against job ManyTests p = p
 machine-against job (Kind why) p = p
+machine-against job (OtherMap number) p = p
+machine-against job (OtherObject why name) p = p
 
 -- what is printed of a run along a trace
 pub against-prints : (job : Job) (x : State) (form : Form) (file : List ℕ) → job.options.other_is_trace ≡ true

@@ -1,5 +1,5 @@
 -- What `load` prints of a program that was loaded.
-use Rattle.std.proofs.Common.{◌≡◌, ◌++◌, List, ℕ, Option, Some, None, refl, subst, sym}
+use Rattle.std.proofs.Common.{◌≡◌, ◌++◌, List, ℕ, Option, Some, refl, subst, sym}
 use Rattle.bpf_lines.specs.declared.objects.ObjectLines.{ObjectLines}
 use Rattle.bpf_load.specs.Targets.{Holds, LinksTo, Loads}
 use Rattle.bpf_load.specs.declared.loading.LinkedObject.{LinkedObject}
@@ -24,12 +24,6 @@ of-object job loaded linked loads is = held job.target.kind refl (subst (λ (o :
     held kind.Object same h = (same, h.0)
     held kind.Listing same h = absurd (cc h.0)
     held kind.Words same h = absurd (cc h.0)
-
--- and one that comes from none is of words or of a listing
-pub no-object : (job : Job) (loaded : Loaded) → Loads job.target job.file.now loaded → loaded.object ≡ None → job.target.kind ≡ kind.Object → ⊥
-no-object job loaded loads is object =
-    subst (λ (k : SourceKind). Holds k job.target job.file.now None loaded.program.bytes loaded.program.maps) object
-    (subst (λ (o : Option LinkedObject). Holds job.target.kind job.target job.file.now o loaded.program.bytes loaded.program.maps) is loads.holds)
 
 pub prints-rows : (job : Job) (loaded : Loaded) (rows : List ℕ) → Loads job.target job.file.now loaded
     → AreRows job.target.kind job loaded.object rows → Prints Load job (printed (program_text loaded ++ rows))

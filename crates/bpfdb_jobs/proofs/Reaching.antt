@@ -23,7 +23,7 @@ use Rattle.bpfdb_jobs.specs.Whynots.{IsRefusalOf, RefusesGoals}
 use Rattle.bpfdb_jobs.specs.declared.job.Job.{Job}
 use Rattle.bpfdb_jobs.specs.declared.known.Known.{Known}
 use Rattle.bpfdb_faults.specs.declared.refusal.JobRefusal.{JobRefusal}
-use Rattle.bpfdb_faults.specs.declared.refusal.JobRefusal.TheVariants.{Kind, Maps, Listing, Load, Open, OtherRun, TraceLine, Journal, What, Goal, NoPlace, Object, Functions, Tests, NoTest, ManyTests, Script}
+use Rattle.bpfdb_faults.specs.declared.refusal.JobRefusal.TheVariants.{OtherMap, OtherObject, Kind, Maps, Listing, Load, Open, OtherRun, TraceLine, Journal, What, Goal, NoPlace, Object, Functions, Tests, NoTest, ManyTests, Script}
 use Rattle.bpfdb_options.specs.declared.subcommand.Subcommand.TheVariants.{Whynot}
 
 -- how it is asked over a history behind so many moves
@@ -56,6 +56,8 @@ goal-refuses job known program slots fault (Tests why line) asked none r = absur
 goal-refuses job known program slots fault (NoTest name) asked none r = absurd r
 goal-refuses job known program slots fault ManyTests asked none r = absurd r
 goal-refuses job known program slots fault (Kind why) asked none r = absurd r
+goal-refuses job known program slots fault (OtherMap number) asked none r = absurd r
+goal-refuses job known program slots fault (OtherObject why name) asked none r = absurd r
 
 -- a machine where it is asked
 module _ (job : Job) (object : Option LinkedObject) (known : Known) (is_known : IsKnown job object known) (moment : Moment RingKeeper) (n : ℕ)
@@ -123,3 +125,5 @@ module _ (job : Job) (object : Option LinkedObject) (known : Known) (is_known : 
   whynot-refuses (NoTest name) r = absurd r
   whynot-refuses ManyTests r = absurd r
   whynot-refuses (Kind why) r = absurd r
+  whynot-refuses (OtherMap number) r = absurd r
+  whynot-refuses (OtherObject why name) r = absurd r

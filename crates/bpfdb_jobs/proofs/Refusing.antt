@@ -8,7 +8,7 @@ use Rattle.bpfdb_faults.specs.Machines.{RefusesOpening}
 use Rattle.bpfdb_jobs.specs.Refusals.{Refuses, RefusesArrival, RefusesMachine, RefusesOrigin, RefusesWhynot}
 use Rattle.bpfdb_jobs.specs.declared.job.Job.{Job}
 use Rattle.bpfdb_faults.specs.declared.refusal.JobRefusal.{JobRefusal}
-use Rattle.bpfdb_faults.specs.declared.refusal.JobRefusal.TheVariants.{Kind, Maps, Listing, Load, Open, OtherRun, TraceLine, Journal, What, Goal, NoPlace, Object, Functions, Tests, NoTest, ManyTests, Script}
+use Rattle.bpfdb_faults.specs.declared.refusal.JobRefusal.TheVariants.{OtherMap, OtherObject, Kind, Maps, Listing, Load, Open, OtherRun, TraceLine, Journal, What, Goal, NoPlace, Object, Functions, Tests, NoTest, ManyTests, Script}
 
 -- a refusal of a context is one of a machine on it, that one of a session
 pub opening-machine : (job : Job) (refusal : JobRefusal) → RefusesOpening job.context.now refusal → RefusesMachine job refusal
@@ -29,6 +29,8 @@ opening-machine job (Tests fault line) p = absurd p
 opening-machine job (NoTest name) p = absurd p
 opening-machine job ManyTests p = absurd p
 opening-machine job (Kind why) p = absurd p
+opening-machine job (OtherMap number) p = absurd p
+opening-machine job (OtherObject why name) p = absurd p
 
 pub opening-refuses : (job : Job) (refusal : JobRefusal) → RefusesOpening job.context.now refusal → Refuses job refusal
 opening-refuses job (Maps fault) p = absurd p
@@ -48,6 +50,8 @@ opening-refuses job (Tests fault line) p = absurd p
 opening-refuses job (NoTest name) p = absurd p
 opening-refuses job ManyTests p = absurd p
 opening-refuses job (Kind why) p = absurd p
+opening-refuses job (OtherMap number) p = absurd p
+opening-refuses job (OtherObject why name) p = absurd p
 
 pub machine-session : (job : Job) (refusal : JobRefusal) → RefusesMachine job refusal → Refuses job refusal
 machine-session job (Maps fault) p = p
@@ -67,6 +71,8 @@ machine-session job (Tests fault line) p = absurd p
 machine-session job (NoTest name) p = absurd p
 machine-session job ManyTests p = absurd p
 machine-session job (Kind why) p = absurd p
+machine-session job (OtherMap number) p = absurd p
+machine-session job (OtherObject why name) p = absurd p
 
 -- a refusal of a session is one on the way to where it is asked, and that one of `origin` and of `whynot`
 pub session-arrival : (job : Job) (refusal : JobRefusal) → Refuses job refusal → RefusesArrival job refusal
@@ -87,6 +93,8 @@ session-arrival job (Tests fault line) p = p
 session-arrival job (NoTest name) p = p
 session-arrival job ManyTests p = p
 session-arrival job (Kind why) p = p
+session-arrival job (OtherMap number) p = p
+session-arrival job (OtherObject why name) p = p
 
 pub arrival-origin : (job : Job) (refusal : JobRefusal) → RefusesArrival job refusal → RefusesOrigin job refusal
 arrival-origin job (Maps fault) p = p
@@ -106,6 +114,8 @@ arrival-origin job (Tests fault line) p = p
 arrival-origin job (NoTest name) p = p
 arrival-origin job ManyTests p = p
 arrival-origin job (Kind why) p = p
+arrival-origin job (OtherMap number) p = p
+arrival-origin job (OtherObject why name) p = p
 
 pub arrival-whynot : (job : Job) (refusal : JobRefusal) → RefusesArrival job refusal → RefusesWhynot job refusal
 arrival-whynot job (Maps fault) p = p
@@ -125,6 +135,8 @@ arrival-whynot job (Tests fault line) p = p
 arrival-whynot job (NoTest name) p = p
 arrival-whynot job ManyTests p = p
 arrival-whynot job (Kind why) p = p
+arrival-whynot job (OtherMap number) p = p
+arrival-whynot job (OtherObject why name) p = p
 
 -- what a session refuses has a line of the session's
 pub session-refused : (job : Job) (refusal : JobRefusal) → Refuses job refusal → refusal_line refusal ≡ session_line refusal
@@ -145,6 +157,8 @@ session-refused job (Tests fault line) p = absurd p
 session-refused job (NoTest name) p = absurd p
 session-refused job ManyTests p = absurd p
 session-refused job (Kind why) p = absurd p
+session-refused job (OtherMap number) p = absurd p
+session-refused job (OtherObject why name) p = absurd p
 
 -- Where a session was opened, memory for answers may be missing still.
 pub no-places : (job : Job) (refusal : JobRefusal) → length job.context.now ≤ context_limit → IsSize job.options.journal → refusal ≡ Journal OutOfMemory

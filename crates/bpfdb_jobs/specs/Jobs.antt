@@ -1,5 +1,5 @@
 -- What a job asks for: its machine and its session, and what each subcommand prints that reads no standard input.
-use Rattle.std.specs.Prelude.{◌≡◌, ◌≤◌, ◌/◌, ◌&&◌, ◌||◌, ℕ, Bool, true, false, List, [], ◌++◌, Option, Some, None, Result, Ok, is_some, length, map, option_map, codes, if◌then◌else◌}
+use Rattle.std.specs.Prelude.{◌≡◌, ◌≤◌, ◌/◌, ◌&&◌, ◌||◌, ℕ, Bool, true, false, List, [], ◌++◌, Option, Some, None, Result, Ok, length, map, option_map, codes, if◌then◌else◌}
 use Rattle.std.specs.Borrow.{Bor}
 use Rattle.bpf_entries.specs.Keeping.{IsSize}
 use Rattle.bpf_diff.specs.Values.{Comparison, by_steps, by_writes}
@@ -49,7 +49,7 @@ use Rattle.bpf_whynot.specs.declared.fault.GoalFault.{GoalFault}
 use Rattle.bpfdb_script.specs.declared.refusal.Refusal.{Refusal}
 use Rattle.bpfdb_script.specs.Texts.{place}
 use Rattle.bpfdb_jobs.specs.MapLines.{linked_told}
-use Rattle.bpfdb_jobs.specs.Programs.{check_line, program_text}
+use Rattle.bpfdb_jobs.specs.Programs.{AreSameMaps, check_line, program_text}
 use Rattle.bpfdb_jobs.specs.Origins.{Arrival, AreNamesOf, Asks, IsTail, answer_by, arrival, branches_by, followed_by, found_text, named_by, question_by, status_of_extent}
 use Rattle.bpfdb_jobs.specs.Sources.{both_marked, sources}
 use Rattle.bpfdb_jobs.specs.declared.job.Job.{Job}
@@ -230,12 +230,12 @@ comparison false limit c d x y = by_steps limit x y
 abbrev pub comparison_of : Job → Job → State → State → Comparison
 comparison_of job other x y = comparison job.options.compares_writes job.options.limit job.context.now other.context.now x y
 
--- Behind it stands where the values came from that differ, with the names of places in maps.
+-- Behind it stands where the values came from that differ, with the names of places in maps, of each run by its own object.
 abbrev pub runs_told : List ℕ → Bool → List ℕ × List ℕ → Print
 runs_told text same texts = record { out = Some (text ++ both_marked texts); err = None; status = diff_status same }
 
-abbrev pub runs_print : Option Names → Job → Comparison → State → State → Print
-runs_print names job told x y = runs_told told.text told.same (sources names job.options told.values x y)
+abbrev pub runs_print : Option Names → Option Names → Job → Comparison → State → State → Print
+runs_print names others job told x y = runs_told told.text told.same (sources names others job.options told.values x y)
 
 -- (With `--alone` no names are looked for.)
 abbrev pub AreNamesFor : Bool → Job → Option LinkedObject → Option Names → Type 0
@@ -250,13 +250,14 @@ against_print form limit x lines = record {
   status = diff_status (tells_run form limit x lines);
 }
 
-abbrev pub compared_print : Option Names → Job → Job → State → State → Print
-compared_print names job other x y = runs_print names job (comparison_of job other x y) x y
+abbrev pub compared_print : Option Names → Option Names → Job → Job → State → State → Print
+compared_print names others job other x y = runs_print names others job (comparison_of job other x y) x y
 
 abbrev pub RunsPrint : Job → Print → Type 0
-RunsPrint job a = (loaded : Loaded) × (other : Job) × (second : Loaded) × (names : Option Names)
-    × Opens job loaded × IsOtherRun job other × Opens other second × AreNamesFor job.options.alone job loaded.object names
-    × (a ≡ compared_print names job other (initial_of job loaded) (initial_of other second))
+RunsPrint job a = (loaded : Loaded) × (other : Job) × (second : Loaded) × (names : Option Names) × (others : Option Names)
+    × Opens job loaded × IsOtherRun job other × Opens other second × AreSameMaps loaded second
+    × AreNamesFor job.options.alone job loaded.object names × AreNamesFor job.options.alone other second.object others
+    × (a ≡ compared_print names others job other (initial_of job loaded) (initial_of other second))
 
 pub record AgainstPrints (job : Job) (a : Print) : Type 0 where
   pub loaded : Loaded

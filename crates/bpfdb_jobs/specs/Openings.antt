@@ -1,5 +1,5 @@
 -- Scaffolding: a session, or a machine with its journal, that was just opened for a job.
-use Rattle.std.specs.Prelude.{ℕ, ◌≡◌, Bool, List, [], Option, Ok, false, option_map}
+use Rattle.std.specs.Prelude.{ℕ, ◌≡◌, Bool, List, [], Option, Ok, false, option_map, true}
 use Rattle.std.specs.Borrow.{Bor}
 use Rattle.bpf_isa.specs.Programs.{Checked}
 use Rattle.bpf_journal.specs.Histories.{Record, StandsFor}
@@ -22,6 +22,7 @@ use Rattle.bpfdb_jobs.specs.Connections.{Begins}
 use Rattle.bpf_diff.specs.Values.{Pair, pair_of}
 use Rattle.bpf_entries.specs.Keeping.{IsSize}
 use Rattle.bpfdb_jobs.specs.Jobs.{AreNamesFor, HasRoom, IsKnown, IsOtherRun, Opens, OpensSession, arrival_of, comparison_of, initial_of}
+use Rattle.bpfdb_jobs.specs.Programs.{AreSameMaps}
 use Rattle.bpfdb_jobs.specs.Sources.{behind, sources}
 use Rattle.bpfdb_jobs.specs.declared.runs.ComparedRuns.{ComparedRuns}
 use Rattle.bpfdb_jobs.specs.declared.source.Sources.{Sources}
@@ -34,13 +35,24 @@ use Rattle.bpfdb_jobs.specs.declared.known.Known.{Known}
 abbrev pub OpensAs : Job → State → Type 0
 OpensAs job x = (loaded : Loaded) × Opens job loaded × (x ≡ initial_of job loaded)
 
+-- And the program comes from this object.
+abbrev pub OpensOf : Job → Option LinkedObject → State → Type 0
+OpensOf job object x = (loaded : Loaded) × Opens job loaded × (x ≡ initial_of job loaded) × (loaded.object ≡ object)
+
+-- The object of the other run: FILE's own on another context.
+abbrev pub beside : Bool → Option LinkedObject → Option LinkedObject → Option LinkedObject
+beside true file own = file
+beside false file own = own
+
 -- Two machines stand at the openings of two runs that are compared, whose names in maps these are.
-pub record OpensRuns (job other : Job) (x y : State) (names : Option Names) : Type 0 where
+pub record OpensRuns (job other : Job) (x y : State) (names others : Option Names) : Type 0 where
   pub runs : job.options.other_is_trace ≡ false
   pub first : OpensAs job x
   pub is_other : IsOtherRun job other
   pub second : OpensAs other y
+  pub maps : AreSameMaps first.0 second.0
   pub named : AreNamesFor job.options.alone job first.0.object names
+  pub named_other : AreNamesFor job.options.alone other second.0.object others
 
 -- They were compared, and each machine still has its program.
 pub record AreCompared (job other : Job) (x y : State) (found : ComparedRuns) : Type 0 where
@@ -51,10 +63,10 @@ pub record AreCompared (job other : Job) (x y : State) (found : ComparedRuns) : 
   pub second : found.second.program ≡ y.program
 
 -- Of some openings, and with these names.
-pub record WereCompared (job other : Job) (names : Option (Bor Names)) (found : ComparedRuns) : Type 0 where
+pub record WereCompared (job other : Job) (names others : Option (Bor Names)) (found : ComparedRuns) : Type 0 where
   pub x : State
   pub y : State
-  pub opens : OpensRuns job other x y (option_map (λ n. n.now) names)
+  pub opens : OpensRuns job other x y (option_map (λ n. n.now) names) (option_map (λ n. n.now) others)
   pub are : AreCompared job other x y found
 
 -- A machine has run so many steps from an opening, and its journal holds the history of that.
@@ -65,9 +77,9 @@ pub record HasRun (options : Options) (n : ℕ) (x : State) (moment : Moment Rin
   pub counted : moves ≡ (behind options n x).moves
 
 -- What is told of the values, in memory.
-pub record AreSources (names : Option (Bor Names)) (options : Options) (values : Option Pair) (x y : State) (found : Sources) : Type 0 where
-  pub first : found.first.items ≡ (sources (option_map (λ n. n.now) names) options values x y).0
-  pub second : found.second.items ≡ (sources (option_map (λ n. n.now) names) options values x y).1
+pub record AreSources (names others : Option (Bor Names)) (options : Options) (values : Option Pair) (x y : State) (found : Sources) : Type 0 where
+  pub first : found.first.items ≡ (sources (option_map (λ n. n.now) names) (option_map (λ n. n.now) others) options values x y).0
+  pub second : found.second.items ≡ (sources (option_map (λ n. n.now) names) (option_map (λ n. n.now) others) options values x y).1
 
 -- It has the program, and stands where one of the job begins.
 pub record IsOpening (job : Job) (program : Checked) (session : SessionValue RingKeeper) : Type 0 where

@@ -1,5 +1,6 @@
 -- What `load` prints of a program: its size, and its maps. bpfdb's own choice.
-use Rattle.std.specs.Prelude.{ℕ, List, [], ◌∷◌, ◌++◌, Option, Some, None, is_some, count_by, codes, decimal, length, slice_get}
+use Rattle.std.specs.Prelude.{ℕ, ◌≡◌, ◌==◌, ◌<◌, ◌&&◌, Bool, true, false, List, [], ◌∷◌, ◌++◌, Option, Some, None, is_some, count_by, codes, decimal, length, slice_get}
+use Rattle.std.specs.Str.{bytes_eq}
 use Rattle.std.specs.Option.{option_map_or}
 use Rattle.bpf_isa.specs.Programs.{Checked}
 use Rattle.bpf_isa.specs.declared.maps.MapShape.{MapShape}
@@ -46,3 +47,19 @@ map_rows loaded = built (with_row loaded) (length loaded.program.maps)
 
 abbrev pub program_text : Loaded → List ℕ
 program_text loaded = check_line loaded.program ++ map_rows loaded
+
+-- No map of one program is another one, by its shape or its name, than that of its number in the second; or this is the first number of such a map. Each
+-- has at most 16, and one that the other program lacks is no other one.
+abbrev pub are_same : Option MapShape → Option MapShape → Bool → Bool
+are_same (Some one) (Some another) named = one.value_size == another.value_size && (one.entries == another.entries && named)
+are_same one another named = true
+
+abbrev pub same_map : Loaded → Loaded → ℕ → Bool
+same_map one another number =
+    are_same (slice_get one.program.maps number) (slice_get another.program.maps number) (bytes_eq (name_of one number) (name_of another number))
+
+abbrev pub AreSameMaps : Loaded → Loaded → Type 0
+AreSameMaps one another = (number : ℕ) → number < 16 → same_map one another number ≡ true
+
+abbrev pub IsOtherMap : Loaded → Loaded → ℕ → Type 0
+IsOtherMap one another number = (same_map one another number ≡ false) × ((before : ℕ) → before < number → same_map one another before ≡ true)

@@ -32,12 +32,13 @@ use Rattle.bpf_diff.specs.Values.{Pair}
 use Rattle.bpf_steps.specs.Platform.{context_limit}
 use Rattle.bpfdb_jobs.specs.Jobs.{AsksGoals, IsKnown, IsOtherRun, Opens, OpensSession, arrival_of, asked_of, comparison_of, initial_of, is_listing, links_first, other_bytes, section_of}
 use Rattle.bpfdb_jobs.specs.Origins.{Arrival, Asks, RefusesNames, RefusesWhat}
+use Rattle.bpfdb_jobs.specs.Programs.{AreSameMaps, IsOtherMap}
 use Rattle.bpfdb_jobs.specs.declared.diff.OtherFault.{OtherFault}
 use Rattle.bpfdb_jobs.specs.declared.diff.OtherFault.TheVariants as of_other
 use Rattle.bpfdb_jobs.specs.declared.job.Job.{Job}
 use Rattle.bpfdb_jobs.specs.declared.known.Known.{Known}
 use Rattle.bpfdb_faults.specs.declared.refusal.JobRefusal.{JobRefusal}
-use Rattle.bpfdb_faults.specs.declared.refusal.JobRefusal.TheVariants.{Maps, Listing, Load, Open, OtherRun, TraceLine, Journal, What, Goal, NoPlace, Object, Functions, Tests, NoTest, Script}
+use Rattle.bpfdb_faults.specs.declared.refusal.JobRefusal.TheVariants.{Maps, Listing, Load, Open, OtherRun, OtherObject, OtherMap, TraceLine, Journal, What, Goal, NoPlace, Object, Functions, Tests, NoTest, Script}
 use Rattle.bpfdb_options.specs.declared.subcommand.Subcommand.{Subcommand}
 use Rattle.bpfdb_options.specs.declared.subcommand.Subcommand.TheVariants.{Run, Trace, Debug, Origin, Whynot, Diff, Gdb, Asm, Disasm, Lines, Check, Load, Link, Test, Batch}
 
@@ -89,7 +90,7 @@ RefusesWhynot job (Object fault name) = (loaded : Loaded) × (known : Known) × 
     × RefusesNames loaded.object (section_of job) fault name.now
 RefusesWhynot job refusal = RefusesArrival job refusal
 
--- `diff` looks at FILE's machine, and then at that of the other run; at the names in maps; and, where values differ, at the journal.
+-- `diff` looks at FILE's machine, and then at that of the other run; at their maps; at the names in these; and, where values differ, at the journal.
 abbrev pub RefusesOther : Job → Refusal → Type 0
 RefusesOther other (program.Maps fault) = IsTargetFault other.target other.file.now (of_target.Maps fault)
 RefusesOther other (program.Listing fault) = IsTargetFault other.target other.file.now (of_target.Listing fault)
@@ -107,19 +108,30 @@ differing job other loaded second = (comparison_of job other (initial_of job loa
 abbrev pub OpensBoth : Job → Job → Loaded → Loaded → Type 0
 OpensBoth job other loaded second = Opens job loaded × IsOtherRun job other × Opens other second
 
+abbrev pub OpensAlike : Job → Job → Loaded → Loaded → Type 0
+OpensAlike job other loaded second = OpensBoth job other loaded second × AreSameMaps loaded second
+
 -- The other run's machine isn't opened.
+abbrev pub TellsOtherObject : ObjectFault → JobRefusal → Type 0
+TellsOtherObject it (OtherObject fault name) = (fault ≡ it.fault) × (name.now ≡ name_of it)
+TellsOtherObject it refusal = ⊥
+
 abbrev pub TellsOther : OtherFault → JobRefusal → Type 0
 TellsOther (of_other.Program fault) refusal = refusal ≡ OtherRun fault
-TellsOther (of_other.Object it) refusal = TellsFault it.index it refusal
+TellsOther (of_other.Object it) refusal = TellsOtherObject it refusal
 
 abbrev pub RefusesOtherRun : Job → JobRefusal → Type 0
 RefusesOtherRun job refusal = (loaded : Loaded) × (other : Job) × (fault : OtherFault) × Opens job loaded × IsOtherRun job other
     × IsOtherFault other fault × TellsOther fault refusal
 
 abbrev pub RefusesRuns : Job → JobRefusal → Type 0
-RefusesRuns job (Object fault name) = (loaded : Loaded) × (other : Job) × (second : Loaded) × OpensBoth job other loaded second
+RefusesRuns job (OtherMap number) = (loaded : Loaded) × (other : Job) × (second : Loaded) × OpensBoth job other loaded second
+    × IsOtherMap loaded second number
+RefusesRuns job (Object fault name) = (loaded : Loaded) × (other : Job) × (second : Loaded) × OpensAlike job other loaded second
     × (job.options.alone ≡ false) × RefusesNames loaded.object (section_of job) fault name.now
-RefusesRuns job (Journal fault) = (loaded : Loaded) × (other : Job) × (second : Loaded) × OpensBoth job other loaded second
+RefusesRuns job (OtherObject fault name) = (loaded : Loaded) × (other : Job) × (second : Loaded) × OpensAlike job other loaded second
+    × (job.options.alone ≡ false) × RefusesNames second.object (section_of other) fault name.now
+RefusesRuns job (Journal fault) = (loaded : Loaded) × (other : Job) × (second : Loaded) × OpensAlike job other loaded second
     × (job.options.alone ≡ false) × (is_some (differing job other loaded second) ≡ true) × RefusesSize job.options.journal fault
 RefusesRuns job refusal = RefusesMachine job refusal
 

@@ -39,12 +39,12 @@ abbrev pub source : Option Names → Options → State → Value → List ℕ
 source names options x v = source_at names options v.parts (behind options v.steps x)
 
 -- Of those of two runs, unless that is left out.
-abbrev pub sources_by : Bool → Option Names → Options → Option Pair → State → State → List ℕ × List ℕ
-sources_by false names options (Some v) x y = (source names options x v.0, source names options y v.1)
-sources_by alone names options v x y = ([], [])
+abbrev pub sources_by : Bool → Option Names → Option Names → Options → Option Pair → State → State → List ℕ × List ℕ
+sources_by false names others options (Some v) x y = (source names options x v.0, source others options y v.1)
+sources_by alone names others options v x y = ([], [])
 
-abbrev pub sources : Option Names → Options → Option Pair → State → State → List ℕ × List ℕ
-sources names options v x y = sources_by options.alone names options v x y
+abbrev pub sources : Option Names → Option Names → Options → Option Pair → State → State → List ℕ × List ℕ
+sources names others options v x y = sources_by options.alone names others options v x y
 
 -- Each line has the mark of its run.
 abbrev pub both_marked : List ℕ × List ℕ → List ℕ

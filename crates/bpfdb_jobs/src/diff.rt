@@ -1,29 +1,32 @@
 //! What a job of `diff` does.
-ghost use Rattle.std.specs.Prelude.{◌≡◌, ◌≤◌, IfErr, IfOk, OnErr, OnOk, Option, false};
+ghost use Rattle.std.specs.Borrow.{Bor};
+ghost use Rattle.std.specs.Prelude.{◌≡◌, ◌≤◌, ℕ, IfErr, IfOk, List, OnErr, OnOk, false};
+ghost use Rattle.bpf_link.specs.Names.{fault_names};
 ghost use Rattle.bpf_load.specs.Faults.{IsTargetFault};
 ghost use Rattle.bpf_load.specs.Targets.{IsObjectOf, Loads, lent, loaded_of};
-ghost use Rattle.bpf_load.specs.declared.loading.LinkedObject.{LinkedObject as Linked};
 ghost use Rattle.bpfdb_jobs.specs.Endings.{EndsPrinted};
 ghost use Rattle.bpfdb_jobs.specs.Jobs.{AreNamesFor, IsOtherRun, Prints, diff_status, other_bytes, runs_told, section_of};
-ghost use Rattle.bpfdb_jobs.specs.Openings.{OpensAs, WereCompared};
+ghost use Rattle.bpfdb_jobs.specs.Openings.{OpensOf, WereCompared, beside};
 ghost use Rattle.bpfdb_jobs.specs.Origins.{LacksNames};
+ghost use Rattle.bpfdb_jobs.specs.Programs.{AreSameMaps};
 ghost use Rattle.bpfdb_jobs.specs.Refusals.{IsOtherFault, TellsOther};
 ghost use Rattle.bpfdb_faults.specs.declared.fault.JobFault.TheVariants.{Refused};
 ghost use Rattle.bpfdb_faults.specs.declared.refusal.JobRefusal.{JobRefusal as WhyRefused};
+ghost use Rattle.bpfdb_faults.specs.declared.refusal.JobRefusal.TheVariants.{OtherObject};
 ghost use Rattle.bpfdb_faults.specs.Faults.{line_of, output_line};
 ghost use Rattle.bpfdb_faults.specs.Streams.{Told, stream};
 ghost use Rattle.bpfdb_options.specs.declared.subcommand.Subcommand.TheVariants.{Diff};
 
 use crate::against::against_job;
 use crate::job::Job;
-use crate::object::{refuse, refuse_object};
+use crate::object::refuse;
 use crate::origin::{bytes_of as object_bytes, names_of};
+use crate::other_map::other_map;
 use crate::runs::{ComparedRuns, compare};
 use crate::source::{AskedRun, Sources, sources_of};
 use bpf_diff::put_marked;
-use bpf_isa::Program;
 use bpf_lines::Names;
-use bpf_link::LinkFault;
+use bpf_link::{LinkFault, fault_names};
 use bpf_load::{LinkedObject, Loaded, ObjectFault, Target, TargetFault, load, load_again};
 use bpf_machine::Cpu;
 use bpf_suite::Refusal;
@@ -63,6 +66,21 @@ pub fn diff_job<W: Write, E: Write>(
     }
 }
 
+/// A machine of a run that is compared, and the object that its program comes from.
+#[derive(Drop)]
+pub(crate) struct Side<'a> {
+    pub(crate) cpu: Cpu,
+    pub(crate) object: Option<&'a LinkedObject>,
+}
+
+/// The machine of the other run, and the object of its own that its program comes from, if there is
+/// one.
+#[derive(Drop)]
+struct OtherMachine {
+    cpu: Cpu,
+    object: Option<LinkedObject>,
+}
+
 /// Runs two programs, or one on two contexts, and tells where they part, or what they leave.
 fn runs_job<W: Write, E: Write>(
     alloc: Global,
@@ -78,23 +96,127 @@ fn runs_job<W: Write, E: Write>(
     ensures status { result ≤ 2 }
 {
     let Loaded { program, object } = loaded;
+    let file = object.as_ref();
     let first = match open_machine(alloc, program, job.context) {
         Ok(cpu) => cpu,
         Err(refusal) => return give_up(errors, &JobFault::Refused(refusal)),
     };
     let other = other_run(job);
-    let second = match other_machine(alloc, job, &other, object.as_ref()) {
-        Ok(cpu) => cpu,
+    let machine = match other_machine(alloc, job, &other, file) {
+        Ok(machine) => machine,
         Err(fault) => return refuse_other(&fault, errors),
     };
-    let names = match names_for(alloc, job, object.as_ref()) {
-        Ok(names) => names,
-        Err(why) => return refuse(job, object_bytes(object.as_ref()), errors, why),
+    let OtherMachine {
+        cpu: second,
+        object: own,
+    } = machine;
+    let beside = object_beside(job, file, own.as_ref());
+    let one = Side {
+        cpu: first,
+        object: file,
     };
-    match compare(alloc, job, &other, first, second) {
-        Ok(runs) => tell_runs(alloc, job, &other, names.as_ref(), runs, writer, errors),
+    let another = Side {
+        cpu: second,
+        object: beside,
+    };
+    sides_job(alloc, job, &other, one, another, writer, errors)
+}
+
+/// The object of the other run: that of FILE on another context.
+fn object_beside<'a>(
+    job: &Job<'_>,
+    file: Option<&'a LinkedObject>,
+    own: Option<&'a LinkedObject>,
+) -> Option<&'a LinkedObject>
+    ensures { lent result ≡ beside job.now.options.other_is_context (lent file.entry) (lent own.entry) }
+{
+    if job.options.other_is_context {
+        file
+    } else {
+        own
+    }
+}
+
+/// Runs two machines, and tells where they part, or what they leave, unless a map is another one in the
+/// other program.
+fn sides_job<W: Write, E: Write>(
+    alloc: Global,
+    job: &Job<'_>,
+    other: &Job<'_>,
+    first: Side<'_>,
+    second: Side<'_>,
+    writer: &mut Counted<W>,
+    errors: &mut Counted<E>,
+) -> u8
+    requires runs { (job.now.options.other_is_trace ≡ false) × IsOtherRun job.now other.now }
+    requires first { OpensOf job.now (lent first.object) first.cpu }
+    requires second { OpensOf other.now (lent second.object) second.cpu }
+    ensures does { EndsPrinted Diff job.now (stream W.contents writer.old writer.new)
+        (stream E.contents errors.old errors.new) result }
+    ensures status { result ≤ 2 }
+{
+    match other_map(&first, &second) {
+        Some(number) => give_up(errors, &JobFault::Refused(JobRefusal::OtherMap(number))),
+        None => alike_job(alloc, job, other, first, second, writer, errors),
+    }
+}
+
+/// Runs two machines that have the same maps, and tells where they part, or what they leave.
+fn alike_job<W: Write, E: Write>(
+    alloc: Global,
+    job: &Job<'_>,
+    other: &Job<'_>,
+    first: Side<'_>,
+    second: Side<'_>,
+    writer: &mut Counted<W>,
+    errors: &mut Counted<E>,
+) -> u8
+    requires runs { (job.now.options.other_is_trace ≡ false) × IsOtherRun job.now other.now }
+    requires opened { OpensOf job.now (lent first.object) first.cpu
+        × OpensOf other.now (lent second.object) second.cpu }
+    requires maps { AreSameMaps (loaded_of first.cpu.program (lent first.object))
+        (loaded_of second.cpu.program (lent second.object)) }
+    ensures does { EndsPrinted Diff job.now (stream W.contents writer.old writer.new)
+        (stream E.contents errors.old errors.new) result }
+    ensures status { result ≤ 2 }
+{
+    let names = match names_for(alloc, job, first.object) {
+        Ok(names) => names,
+        Err(why) => return refuse(job, object_bytes(first.object), errors, why),
+    };
+    let others = match names_for(alloc, other, second.object) {
+        Ok(names) => names,
+        Err(why) => return refuse_names(other, object_bytes(second.object), errors, why),
+    };
+    match compare(alloc, job, other, first.cpu, second.cpu) {
+        Ok(runs) => {
+            let known = (names.as_ref(), others.as_ref());
+            tell_runs(alloc, job, other, known, runs, writer, errors)
+        }
         Err(AllocError) => give_up(errors, &JobFault::Memory),
     }
+}
+
+/// Tells why the names in the maps of the other run's object aren't known, and answers the exit status,
+/// 2.
+#[inline(never)]
+fn refuse_names<E: Write>(
+    other: &Job<'_>,
+    object: &[u8],
+    errors: &mut Counted<E>,
+    fault: LinkFault,
+) -> u8
+    ensures value { result ≡ 2 }
+    ensures told { (name : Bor (List ℕ))
+        × (name.now ≡ fault_names object.now other.now.target.section.now fault)
+        × Told (stream E.contents errors.old errors.new) (line_of (Refused (OtherObject fault name))) }
+{
+    let names = fault_names(object, other.target.section, &fault);
+    let name = names.as_slice();
+    give_up(
+        errors,
+        &JobFault::Refused(JobRefusal::OtherObject(fault, name)),
+    )
 }
 
 /// The names in the maps of the object that FILE's program comes from, unless no values are asked
@@ -121,12 +243,12 @@ fn tell_runs<W: Write, E: Write>(
     alloc: Global,
     job: &Job<'_>,
     other: &Job<'_>,
-    names: Option<&Names<'_>>,
+    names: (Option<&Names<'_>>, Option<&Names<'_>>),
     runs: ComparedRuns,
     writer: &mut Counted<W>,
     errors: &mut Counted<E>,
 ) -> u8
-    requires { WereCompared job.now other.now names runs }
+    requires { WereCompared job.now other.now names.0 names.1 runs }
     ensures does { EndsPrinted Diff job.now (stream W.contents writer.old writer.new)
         (stream E.contents errors.old errors.new) result }
     ensures status { result ≤ 2 }
@@ -141,12 +263,14 @@ fn tell_runs<W: Write, E: Write>(
     let one = AskedRun {
         cpu: first,
         context: job.context,
+        names: names.0,
     };
     let another = AskedRun {
         cpu: second,
         context: other.context,
+        names: names.1,
     };
-    match sources_of(alloc, job, names, values, one, another) {
+    match sources_of(alloc, job, values, one, another) {
         Ok(sources) => {
             let told = text.as_slice();
             put_runs(job, told, is_same, &sources, writer, errors)
@@ -210,40 +334,45 @@ fn other_machine<'a>(
     job: &Job<'_>,
     other: &Job<'a>,
     object: Option<&LinkedObject>,
-) -> Result<Cpu, OtherFault<'a>>
+) -> Result<OtherMachine, OtherFault<'a>>
     requires other { IsOtherRun job.now other.now }
     requires object { IsObjectOf job.now.target.kind job.now.target job.now.file.now (lent object) }
-    ensures ok { IfOk result (OpensAs other.now) }
+    ensures ok { IfOk result (λ machine. OpensOf other.now
+        (beside job.now.options.other_is_context (lent object.entry) machine.object) machine.cpu) }
     ensures err { IfErr result (IsOtherFault other.now) }
 {
-    let program = match other_program(alloc, job, other, object) {
-        Ok(program) => program,
+    let Loaded { program, object } = match other_program(alloc, job, other, object) {
+        Ok(loaded) => loaded,
         Err(fault) => return Err(unloaded(other, fault)),
     };
     match Cpu::open(alloc, program, other.context) {
-        Ok(cpu) => Ok(cpu),
+        Ok(cpu) => Ok(OtherMachine { cpu, object }),
         Err(fault) => Err(OtherFault::Program(Refusal::Open(fault))),
     }
 }
 
-/// Its program: that of FILE once more, or that of the other file.
+/// Its program, and the object of its own that this comes from: that of FILE once more, which has none
+/// of its own, or that of the other file.
 fn other_program<'a>(
     alloc: Global,
     job: &Job<'_>,
     other: &Job<'a>,
     object: Option<&LinkedObject>,
-) -> Result<Program, TargetFault<'a>>
+) -> Result<Loaded, TargetFault<'a>>
     requires other { IsOtherRun job.now other.now }
     requires object { IsObjectOf job.now.target.kind job.now.target job.now.file.now (lent object) }
-    ensures ok { IfOk result (λ program. (of : Option Linked)
-        × Loads other.now.target other.now.file.now (loaded_of program of)) }
+    ensures ok { IfOk result (λ loaded. Loads other.now.target other.now.file.now
+        (loaded_of loaded.program (beside job.now.options.other_is_context (lent object.entry) loaded.object))) }
     ensures err { IfErr result (IsTargetFault other.now.target other.now.file.now) }
 {
-    if job.options.other_is_context {
-        return load_again(alloc, other.file, &other.target, object);
+    if !job.options.other_is_context {
+        return load(alloc, other.file, &other.target);
     }
-    match load(alloc, other.file, &other.target) {
-        Ok(loaded) => Ok(loaded.program),
+    match load_again(alloc, other.file, &other.target, object) {
+        Ok(program) => Ok(Loaded {
+            program,
+            object: None,
+        }),
         Err(fault) => Err(fault),
     }
 }
@@ -272,7 +401,10 @@ fn refuse_other<E: Write>(fault: &OtherFault<'_>, errors: &mut Counted<E>) -> u8
         OtherFault::Program(why) => {
             give_up(errors, &JobFault::Refused(JobRefusal::OtherRun(*why)))
         }
-        OtherFault::Object(fault) => refuse_object(fault, errors),
+        OtherFault::Object(fault) => {
+            let refusal = JobRefusal::OtherObject(fault.fault, fault.name());
+            give_up(errors, &JobFault::Refused(refusal))
+        }
     }
 }
 

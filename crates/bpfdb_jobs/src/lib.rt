@@ -21,6 +21,7 @@ mod object;
 mod object_lines;
 mod opening;
 mod origin;
+mod other_map;
 mod row;
 mod run;
 mod runs;

@@ -1,12 +1,12 @@
 //! What a job of `load` does.
 ghost use Rattle.std.specs.Prelude.{◌≡◌, ◌≤◌, ◌++◌, All, None, Some};
 ghost use Rattle.bpf_lines.specs.Objects.{HasPartLines, program_table};
-ghost use Rattle.bpf_load.specs.Targets.{Loads};
+ghost use Rattle.bpf_load.specs.Targets.{Loads, lent};
 ghost use Rattle.counted_io.specs.Writing.{Writes, WritesAfter};
 ghost use Rattle.bpfdb_faults.specs.Streams.{stream};
 ghost use Rattle.bpfdb_jobs.specs.Endings.{EndsPrinted};
 ghost use Rattle.bpfdb_jobs.specs.Jobs.{Prints, printed};
-ghost use Rattle.bpfdb_jobs.specs.Programs.{behind_address, map_row, map_rows, name_of, program_text, row_of};
+ghost use Rattle.bpfdb_jobs.specs.Programs.{behind_address, map_row, map_rows, name_in, program_text, row_of};
 ghost use Rattle.bpfdb_options.specs.declared.subcommand.Subcommand.TheVariants.{Load};
 
 use crate::check::put_size;
@@ -165,16 +165,19 @@ fn put_row<W: Write>(
     ensures { WritesAfter W.contents writer.old so_far writer.new result (row_of loaded.now number) }
 {
     match loaded.program.maps().shape(number) {
-        Some(shape) => put_map(writer, so_far, number, shape, name_of(loaded, number)),
+        Some(shape) => {
+            let name = name_in(loaded.object.as_ref(), number);
+            put_map(writer, so_far, number, shape, name)
+        }
         None => put(writer, so_far, b""),
     }
 }
 
 /// The name of a map in the object that a program comes from; empty where there is none.
-fn name_of(loaded: &Loaded, number: usize) -> &[u8]
-    ensures { result.now ≡ name_of loaded.now number }
+pub fn name_in(object: Option<&LinkedObject>, number: usize) -> &[u8]
+    ensures { result.now ≡ name_in (lent object.entry) number }
 {
-    match &loaded.object {
+    match object {
         Some(object) => match object.program.names.get(number) {
             Some(at) => short_at(object.sources.object(), *at),
             None => b"",

@@ -26,23 +26,24 @@ pub(crate) struct Sources {
     pub(crate) second: Vec<u8>,
 }
 
-/// A run whose values are asked about: a machine of its program, and its context.
+/// A run whose values are asked about: a machine of its program, its context, and the names in its
+/// maps.
 #[derive(Drop)]
 pub(crate) struct AskedRun<'a> {
     pub(crate) cpu: Cpu,
     pub(crate) context: &'a [u8],
+    pub(crate) names: Option<&'a Names<'a>>,
 }
 
 /// Tells where the values came from in which two runs differ, if they do and the job asks for it.
 pub(crate) fn sources_of(
     alloc: Global,
     job: &Job<'_>,
-    names: Option<&Names<'_>>,
     values: Option<(Values, Values)>,
     first: AskedRun<'_>,
     second: AskedRun<'_>,
 ) -> Result<Sources, JournalFault>
-    ensures ok { IfOk result (AreSources names.entry job.now.options (pair_of values)
+    ensures ok { IfOk result (AreSources first.entry.names second.entry.names job.now.options (pair_of values)
         (initial first.entry.cpu.program first.entry.context.now)
         (initial second.entry.cpu.program second.entry.context.now)) }
     ensures asked { IfErr result (λ fault. (job.now.options.alone ≡ false)
@@ -56,11 +57,11 @@ pub(crate) fn sources_of(
         Some((one, another)) => (one, another),
         None => return Ok(nothing(alloc)),
     };
-    let told = match source_of(alloc, job, names, first, one) {
+    let told = match source_of(alloc, job, first, one) {
         Ok(text) => text,
         Err(fault) => return Err(fault),
     };
-    match source_of(alloc, job, names, second, another) {
+    match source_of(alloc, job, second, another) {
         Ok(text) => Ok(Sources {
             first: told,
             second: text,
@@ -85,16 +86,20 @@ fn nothing(alloc: Global) -> Sources
 fn source_of(
     alloc: Global,
     job: &Job<'_>,
-    names: Option<&Names<'_>>,
     run: AskedRun<'_>,
     values: Values,
 ) -> Result<Vec<u8>, JournalFault>
-    ensures ok { IfOk result (λ text. text.items ≡ spec.source (option_map (λ n. n.now) names.entry)
+    ensures ok { IfOk result (λ text. text.items ≡ spec.source (option_map (λ n. n.now) run.entry.names)
         job.now.options (initial run.entry.cpu.program run.entry.context.now) (value_of values)) }
     ensures err { IfErr result (RefusesSize job.now.options.journal) }
 {
     let Values { steps, parts } = values;
-    let mut arrived = match rerun(alloc, job, run, steps) {
+    let AskedRun {
+        cpu,
+        context,
+        names,
+    } = run;
+    let mut arrived = match rerun(alloc, job, cpu, context, steps) {
         Ok(arrived) => arrived,
         Err(fault) => return Err(fault),
     };
@@ -126,14 +131,15 @@ fn source_of(
 fn rerun(
     alloc: Global,
     job: &Job<'_>,
-    run: AskedRun<'_>,
+    opened: Cpu,
+    context: &[u8],
     steps: u64,
 ) -> Result<Arrived, JournalFault>
     ensures ok { IfOk result (λ arrived. HasRun job.now.options steps
-        (initial run.entry.cpu.program run.entry.context.now) arrived.timeline arrived.moves) }
+        (initial opened.program context.now) arrived.timeline arrived.moves) }
     ensures err { IfErr result (RefusesSize job.now.options.journal) }
 {
-    let AskedRun { mut cpu, context } = run;
+    let mut cpu = opened;
     let keeper = match RingKeeper::open(alloc, job.options.journal as usize) {
         Ok(keeper) => keeper,
         Err(fault) => return Err(fault),

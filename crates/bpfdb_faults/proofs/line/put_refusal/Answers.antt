@@ -21,3 +21,6 @@ pub returns-in-TraceLine : goal.returns-in-TraceLine
 returns-in-TraceLine g c = λ first front known.
     rw c.in-TraceLine.is
     (rw (c.number-number.ensures, c.text-text.ensures) at (c.put_refused.ensures first front known))
+
+pub returns-in-OtherObject : goal.returns-in-OtherObject
+returns-in-OtherObject g c = rw c.in-OtherObject.is c.put_object-in-OtherObject.ensures

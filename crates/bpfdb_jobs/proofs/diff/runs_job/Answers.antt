@@ -1,8 +1,9 @@
-use Rattle.std.proofs.Common.{refl, sym}
-use Rattle.bpfdb_faults.specs.declared.refusal.JobRefusal.TheVariants.{Object}
-use Rattle.bpfdb_jobs.specs.Endings.{Exhausted, Refused}
-use Rattle.bpfdb_jobs.specs.Jobs.{compared_print}
-use Rattle.bpfdb_jobs.proofs.Diffing.{compared-prints, machine-diff, names-refused, opens-as, other-refuses, runs-refuse}
+use Rattle.std.proofs.Common.{◌∙◌, Option, ap, refl, subst, sym}
+use Rattle.bpf_load.specs.Targets.{lent}
+use Rattle.bpf_load.specs.declared.loading.LinkedObject.{LinkedObject}
+use Rattle.bpfdb_jobs.specs.Endings.{Refused}
+use Rattle.bpfdb_jobs.specs.Openings.{OpensOf, beside}
+use Rattle.bpfdb_jobs.proofs.Diffing.{machine-diff, opens-as, other-refuses, runs-refuse}
 use Rattle.bpfdb_jobs.proofs.Refusing.{opening-machine}
 use Rattle.bpfdb_jobs.proofs.Tables.{object-of}
 use Rattle.bpfdb_jobs.proofs.diff.runs_job.Goals as goal
@@ -22,41 +23,17 @@ returns-in-Err-other_machine-clause-does g c =
     (opened.0, c.other_run-other.result, c.in-Err-other_machine.fault, opened.1, c.other_run-other.ensures, c.in-Err-other_machine.ensures.err, told.1)) refl
     told.2 c.refuse_other.ensures.value
 
-pub returns-in-Err-names_for-clause-does : goal.returns-in-Err-names_for-clause-does
-returns-in-Err-names_for-clause-does g c =
-    let told = c.refuse.ensures.told in
-    let lacks = c.in-Err-names_for.ensures.err in
-    Refused (Object c.in-Err-names_for.why told.0)
-    (names-refused c.args.job.now c.other_run-other.result _ _ c.requires.runs
-    (opens-as c.args.job.now c.args.loaded c.in-Ok.cpu c.requires.loaded c.in-Ok.ensures.ok) c.other_run-other.ensures c.in-Ok-other_machine.ensures.ok
-    c.in-Err-names_for.why told.0 lacks.0 (rw (c.bytes_of.ensures, c.as_ref-in-Err-names_for.ensures.value) at told.1, rw c.as_ref-2.ensures.value at lacks.1))
-    refl told.2 c.refuse.ensures.value
-
-pub tell_runs-requires : goal.tell_runs-requires
-tell_runs-requires g c = record {
-  x = _;
-  y = _;
-  opens = record {
-    runs = c.requires.runs;
-    first = opens-as c.args.job.now c.args.loaded c.in-Ok.cpu c.requires.loaded c.in-Ok.ensures.ok;
-    is_other = c.other_run-other.ensures;
-    second = c.in-Ok-other_machine.ensures.ok;
-    named = rw (c.as_ref-2.ensures.value, sym c.as_ref-in-Ok-compare.ensures.value) at c.in-Ok-names_for.ensures.ok;
-  };
-  are = c.in-Ok-compare.ensures;
-}
-
-pub returns-clause-does : goal.returns-clause-does
-returns-clause-does g c =
-    Exhausted (compared_print c.in-Ok-names_for.names c.args.job.now c.other_run-other.result c.in-Ok.cpu c.in-Ok-other_machine.cpu)
-    (compared-prints c.args.job.now c.other_run-other.result _ _ c.in-Ok-names_for.names (record {
-      runs = c.requires.runs;
-      first = opens-as c.args.job.now c.args.loaded c.in-Ok.cpu c.requires.loaded c.in-Ok.ensures.ok;
-      is_other = c.other_run-other.ensures;
-      second = c.in-Ok-other_machine.ensures.ok;
-      named = rw c.as_ref-2.ensures.value at c.in-Ok-names_for.ensures.ok;
-    }))
-    tt refl c.give_up-in-Err-compare.ensures.told c.give_up-in-Err-compare.ensures.value
-
 pub other_machine-requires-clause-object : goal.other_machine-requires-clause-object
-other_machine-requires-clause-object g c = rw (sym c.as_ref.ensures.value) at (object-of c.args.job.now c.args.loaded c.requires.loaded)
+other_machine-requires-clause-object g c = rw (sym c.as_ref-file.ensures.value) at (object-of c.args.job.now c.args.loaded c.requires.loaded)
+
+pub sides_job-requires-clause-first : goal.sides_job-requires-clause-first
+sides_job-requires-clause-first g c =
+    let opened = opens-as c.args.job.now c.args.loaded c.in-Ok.cpu c.requires.loaded c.in-Ok.ensures.ok in
+    (opened.0, opened.1, opened.2, sym c.as_ref-file.ensures.value)
+
+pub sides_job-requires-clause-second : goal.sides_job-requires-clause-second
+sides_job-requires-clause-second g c =
+    let context = c.args.job.now.options.other_is_context in
+    subst (λ (o : Option LinkedObject). OpensOf c.other_run-other.result o c.in-Ok-other_machine.machine.cpu)
+    (sym (c.object_beside-beside.ensures ∙ ap (λ (o : Option LinkedObject). beside context (lent c.as_ref-file.result) o) c.as_ref.ensures.value))
+    c.in-Ok-other_machine.ensures.ok

@@ -14,7 +14,7 @@ use Rattle.bpfdb_jobs.specs.Suites.{AreAsked, fault_of_file}
 use Rattle.bpfdb_faults.specs.declared.fault.JobFault.TheVariants as fault
 use Rattle.bpfdb_jobs.specs.declared.job.Job.{Job}
 use Rattle.bpfdb_faults.specs.declared.refusal.JobRefusal.{JobRefusal}
-use Rattle.bpfdb_faults.specs.declared.refusal.JobRefusal.TheVariants.{Kind, Maps, Listing, Load, Open, Journal, OtherRun, TraceLine, Script, What, Goal, Object, Functions, Tests, NoTest, ManyTests, NoPlace}
+use Rattle.bpfdb_faults.specs.declared.refusal.JobRefusal.TheVariants.{OtherMap, OtherObject, Kind, Maps, Listing, Load, Open, Journal, OtherRun, TraceLine, Script, What, Goal, Object, Functions, Tests, NoTest, ManyTests, NoPlace}
 use Rattle.bpfdb_options.specs.declared.test_part.TestPart.{TestPart}
 use Rattle.bpfdb_jobs.proofs.show.show_job.Goals as goal
 
@@ -50,6 +50,8 @@ no-test part job (Functions fault index name) status same sound lacks told two =
 no-test part job (Tests fault line) status same sound lacks told two = absurd lacks
 no-test part job ManyTests status same sound lacks told two = absurd lacks
 no-test part job (Kind why) status same sound lacks told two = absurd lacks
+no-test part job (OtherMap number) status same sound lacks told two = absurd lacks
+no-test part job (OtherObject why name) status same sound lacks told two = absurd lacks
 
 pub returns-in-Err-asked_tests-clause-does : goal.returns-in-Err-asked_tests-clause-does
 returns-in-Err-asked_tests-clause-does g c =

@@ -9,7 +9,7 @@ use Rattle.bpfdb_jobs.specs.Suites.{AreTestsOf}
 use Rattle.bpfdb_faults.specs.declared.fault.JobFault.{JobFault}
 use Rattle.bpfdb_faults.specs.declared.fault.JobFault.TheVariants as fault
 use Rattle.bpfdb_jobs.specs.declared.job.Job.{Job}
-use Rattle.bpfdb_faults.specs.declared.refusal.JobRefusal.TheVariants.{Kind, Maps, Listing, Load, Open, Journal, OtherRun, TraceLine, Script, What, Goal, Object, Functions, Tests, NoTest, ManyTests, NoPlace}
+use Rattle.bpfdb_faults.specs.declared.refusal.JobRefusal.TheVariants.{OtherMap, OtherObject, Kind, Maps, Listing, Load, Open, Journal, OtherRun, TraceLine, Script, What, Goal, Object, Functions, Tests, NoTest, ManyTests, NoPlace}
 use Rattle.bpfdb_options.specs.declared.test_part.TestPart.{TestPart}
 use Rattle.bpfdb_jobs.proofs.show.show_test.Goals as goal
 
@@ -53,6 +53,8 @@ hidden part job test (fault.Refused (Tests why line)) status same asked hides to
 hidden part job test (fault.Refused (NoTest name)) status same asked hides told two = absurd hides
 hidden part job test (fault.Refused ManyTests) status same asked hides told two = absurd hides
 hidden part job test (fault.Refused (Kind why)) status same asked hides told two = absurd hides
+hidden part job test (fault.Refused (OtherMap number)) status same asked hides told two = absurd hides
+hidden part job test (fault.Refused (OtherObject why name)) status same asked hides told two = absurd hides
 
 pub returns-in-Err-clause-does : goal.returns-in-Err-clause-does
 returns-in-Err-clause-does g c =

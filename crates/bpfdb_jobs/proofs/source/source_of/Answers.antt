@@ -22,7 +22,7 @@ returns-in-Ok-written-clause-ok c =
     let written = rw (c.in-Ok-written.is, c.as_slice.ensures.value) at c.in-Ok-put_told.ensures.text _ ran.held in
     let history = (behind c.args.job.now.options c.args.values.steps (initial c.args.run.cpu.program c.args.run.context.now)).point.history in
     let text : c.into_inner.result.items
-    ≡ named_by (option_map (λ n. n.now) c.args.names)
+    ≡ named_by (option_map (λ n. n.now) c.args.run.names)
     (asked_text c.question_of-question.result c.asked_at-asked.result.items history c.in-Ok.arrived.timeline.state []) =
     rw c.into_inner.ensures (rw (c.new-writer.ensures, c.new-2.ensures.items) at written.ok) in
     text

@@ -9,7 +9,7 @@ use Rattle.bpfdb_jobs.specs.declared.job.Job.{Job}
 use Rattle.bpfdb_jobs.specs.Refusals.{LacksName}
 use Rattle.bpfdb_faults.specs.declared.fault.JobFault.TheVariants as fault
 use Rattle.bpfdb_faults.specs.declared.refusal.JobRefusal.{JobRefusal}
-use Rattle.bpfdb_faults.specs.declared.refusal.JobRefusal.TheVariants.{Kind, Maps, Listing, Load, Open, Journal, OtherRun, TraceLine, Script, What, Goal, Object, Functions, Tests, NoTest, ManyTests, NoPlace}
+use Rattle.bpfdb_faults.specs.declared.refusal.JobRefusal.TheVariants.{OtherMap, OtherObject, Kind, Maps, Listing, Load, Open, Journal, OtherRun, TraceLine, Script, What, Goal, Object, Functions, Tests, NoTest, ManyTests, NoPlace}
 use Rattle.bpfdb_jobs.proofs.suite.report_on.Goals as goal
 
 -- a file of which no test is run
@@ -41,6 +41,8 @@ no-test job (Functions fault index name) same sound lacks = absurd lacks
 no-test job (Tests fault line) same sound lacks = absurd lacks
 no-test job ManyTests same sound lacks = absurd lacks
 no-test job (Kind why) same sound lacks = absurd lacks
+no-test job (OtherMap number) same sound lacks = absurd lacks
+no-test job (OtherObject why name) same sound lacks = absurd lacks
 
 pub returns-in-Err-asked_tests-clause-reports : goal.returns-in-Err-asked_tests-clause-reports
 returns-in-Err-asked_tests-clause-reports g c =
