@@ -33,26 +33,30 @@ tenths() {
     echo "$(($1 / 10)).$(($1 % 10))"
 }
 
-# measure NAME: the line of a program.
+# measure NAME OPTION..: the line of a program.
 measure() {
+    name=$1
     program=$work/$1.s
-    line="$1: plain $(tenths "$(each '' run --listing --steps MOVES "$program")")"
-    line="$line, a line of trace $(tenths "$(each '' trace --listing --steps MOVES "$program")")"
+    shift
+    line="$name: plain $(tenths "$(each '' run --listing --steps MOVES "$@" "$program")")"
+    line="$line, a line of trace $(tenths "$(each '' trace --listing --steps MOVES "$@" "$program")")"
     for size in 1024 65536 16777216; do
-        kept=$(each 'stepi MOVES\n' debug --listing --journal "$size" "$program")
+        kept=$(each 'stepi MOVES\n' debug --listing --journal "$size" "$@" "$program")
         line="$line, kept in $size $(tenths "$kept")"
     done
     for command in reverse-stepi\ MOVES undo reverse-continue 'last-write 0x2000000ff'; do
-        line="$line, ${command% *} $(tenths $(($(each "stepi MOVES\\n$command\\n" debug --listing --journal "$size" "$program") - kept)))"
+        line="$line, ${command% *} $(tenths $(($(each "stepi MOVES\\n$command\\n" debug --listing --journal "$size" "$@" "$program") - kept)))"
     done
-    line="$line, origin $(tenths $(($(each '' origin --listing --journal "$size" --steps MOVES "$program" r9) - kept)))"
-    back=$(each 'stepi MOVES\nreverse-stepi MOVES\n' debug --listing --journal "$size" "$program")
-    echo "$line, redo $(tenths $(($(each 'stepi MOVES\nreverse-stepi MOVES\nredo MOVES\n' debug --listing --journal "$size" "$program") - back)))"
+    line="$line, origin $(tenths $(($(each '' origin --listing --journal "$size" --steps MOVES "$@" "$program" r9) - kept)))"
+    back=$(each 'stepi MOVES\nreverse-stepi MOVES\n' debug --listing --journal "$size" "$@" "$program")
+    echo "$line, redo $(tenths $(($(each 'stepi MOVES\nreverse-stepi MOVES\nredo MOVES\n' debug --listing --journal "$size" "$@" "$program") - back)))"
 }
 
 printf '%s\n' 'lddw r1, 10000000' 'loop: add r0, 1' 'jlt r0, r1, loop' exit > "$work/counting.s"
 printf '%s\n' 'lddw r1, 10000000' 'loop: add r0, 1' 'stxdw [r10-8], r0' 'ldxdw r2, [r10-8]' 'jlt r2, r1, loop' exit > "$work/memory.s"
 printf '%s\n' 'lddw r6, 10000000' 'loop: callf f' 'add r6, -1' 'jne r6, 0, loop' exit 'f: mov r0, 1' exit > "$work/calls.s"
-for name in counting memory calls; do
-    measure "$name"
-done
+printf '%s\n' 'ldmapval r6, 0, 0' 'lddw r1, 10000000' 'loop: ldxdw r2, [r6+0]' 'add r0, 1' 'stxdw [r6+0], r0' 'jlt r0, r1, loop' exit > "$work/map.s"
+measure counting
+measure memory
+measure calls
+measure map --maps 8x1
