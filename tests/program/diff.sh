@@ -496,8 +496,8 @@ fi
 # order. How many steps there are is the compiler's own matter.
 find_compilers 'diff of two objects'
 
-# parts STATUS LINES ARGUMENT..: `diff` has this status, and among its lines, without their numbers of steps and slots, are these and no others that tell of maps.
-parts() {
+# tells_maps STATUS LINES ARGUMENT..: `diff` has this status, and among its lines, without their numbers of steps and slots, are these and no others that tell of maps.
+tells_maps() {
     echo "$1" > wanted/status
     printf '%b' "$2" > wanted/out
     : > wanted/err
@@ -508,25 +508,32 @@ parts() {
     mv told found/out
     compare "bpfdb diff $*"
 }
+
+# built NAME OPTION..: the object of tests/program/diff/maps.c that these options make.
+built() {
+    name=$1
+    shift
+    "$compiler" -g -O2 -target bpf "$@" -c "$parts/diff/maps.c" -o "$name.o" 2> found/err || complain "$compiler: $name.o: $(cat found/err)"
+}
 for compiler in $compilers; do
-    for name in old new more turned; do
-        "$compiler" -g -O2 -target bpf -c "$parts/diff/$name.c" -o $name.o 2> found/err || complain "$compiler: $name.c: $(cat found/err)"
-    done
-    parts 0 'same steps\n' old.o old.o
-    parts 0 'same writes\n' --writes old.o old.o
-    parts 1 '0x300100000:1 ends otherwise: 0x7, 0x9\n< 0x300100000:8 = 0x7 in late[0]\n> 0x300100000:8 = 0x9 in late[0]\n' --writes old.o new.o
-    parts 1 '0x300200000:1 ends otherwise: none, 0x8\n< not written\n> 0x300200000:8 = 0x8 in other[0]\n' --writes old.o more.o
-    parts 1 '0x300200000:1 ends otherwise: 0x8, none\n> not written\n< 0x300200000:8 = 0x8 in other[0]\n' --writes more.o old.o
+    built old
+    built new -DSTORED=9
+    built more -DMORE
+    built unwritten -DUNWRITTEN
+    built turned -DTURNED
+    tells_maps 0 'same steps\n' old.o old.o
+    tells_maps 0 'same writes\n' --writes old.o old.o
+    tells_maps 1 '0x300100000:1 ends otherwise: 0x7, 0x9\n< 0x300100000:8 = 0x7 in late[0]\n> 0x300100000:8 = 0x9 in late[0]\n' --writes old.o new.o
+    tells_maps 1 '0x300200000:1 ends otherwise: none, 0x8\n< not written\n> 0x300200000:8 = 0x8 in other[0]\n' --writes old.o more.o
+    tells_maps 1 '0x300200000:1 ends otherwise: 0x8, none\n> not written\n< 0x300200000:8 = 0x8 in other[0]\n' --writes more.o old.o
     for options in '' --writes '--writes --alone' --json; do
         # (the options are without blanks)
         refused 'refused F3: map 0 is another one in OTHER' diff $options old.o turned.o
         refused 'refused F3: map 0 is another one in OTHER' diff $options turned.o more.o
     done
     # A map that one lacks, and the other doesn't write to, is nothing that it leaves.
-    sed '/value = 8/,/update(&other/d' "$parts/diff/more.c" > unwritten.c
-    "$compiler" -g -O2 -target bpf -c unwritten.c -o unwritten.o 2> found/err || complain "$compiler: unwritten.c: $(cat found/err)"
-    parts 0 'same writes\n' --writes old.o unwritten.o
-    parts 0 'same writes\n' --writes unwritten.o old.o
+    tells_maps 0 'same writes\n' --writes old.o unwritten.o
+    tells_maps 0 'same writes\n' --writes unwritten.o old.o
     # What is wrong with OTHER is told as OTHER's.
     head -c 100 old.o > cut.o
     refused 'refused E6: malformed section table (the other run)' diff old.o cut.o
