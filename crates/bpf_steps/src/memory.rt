@@ -99,22 +99,6 @@ impl Memory {
         run_index(self.context_len, &self.maps, frames, address, n)
     }
 
-    /// How many bytes the context has.
-    pub fn context_len(&self) -> usize
-        ensures value { result ≡ self.now.context_len }
-        ensures short { result ≤ context_limit }
-    {
-        self.context_len
-    }
-
-    /// How many bytes all regions have.
-    pub fn count(&self) -> usize
-        ensures value { result ≡ length self.now.bytes }
-        ensures frames { self.now.context_len + frame_len * frame_count ≤ result }
-    {
-        self.bytes.len()
-    }
-
     /// The n bytes from an index on.
     pub fn run(&self, at: usize, n: usize) -> &[u8]
         requires { at + n ≤ length self.now.bytes }
@@ -125,7 +109,7 @@ impl Memory {
     }
 
     /// The n bytes from an index on, lent for writing.
-    pub fn run_mut(&mut self, at: usize, n: usize) -> &mut [u8]
+    fn run_mut(&mut self, at: usize, n: usize) -> &mut [u8]
         requires { at + n ≤ length self.old.bytes }
         ensures* next { sem 𝓛 (LendsRun self.entry at result) }
         ensures value { result.now ≡ run self.old at n }
@@ -274,24 +258,31 @@ pub fn region_index(base: u64, len: usize, address: u64, n: usize) -> Option<usi
     }
 }
 
-/// Where the run of n bytes at an address in the frames below frame `frames` begins in the frames.
+/// Where the run of n bytes at an address from frame 0 on begins in the frames below frame
+/// `frames`.
 fn frame_index(frames: usize, address: u64, n: usize) -> Option<usize>
-    requires sought { AreSoughtFrom FRAME_BASE frames address n }
-    requires below { address < frame_base frames }
-    ensures value { result ≡ index_in (frames_from 0 frame_count) address n }
+    requires { AreSoughtFrom FRAME_BASE frames address n }
+    ensures value { result ≡ (if is_from_frame frames address then None
+        else index_in (frames_from 0 frame_count) address n) }
     ensures fits { IfSome result (λ at. at + n ≤ frame_len * frame_count) }
+    ensures near { IfSome result (λ at. address < frame_base frame_count) }
 {
     let frame = (address - FRAME_BASE) / FRAME_STRIDE;
+    if frame >= frames as u64 {
+        return None;
+    }
     match region_index(0, FRAME_LEN, (address - FRAME_BASE) % FRAME_STRIDE, n) {
         Some(at) => Some(FRAME_LEN * frame as usize + at),
         None => None,
     }
 }
 
-/// Where the run of n bytes at an address from frame 0 on begins that is in no frame: in a map or
-/// nowhere. (It is called, so that the loop of a run is no longer by it.)
+/// Where the run of n bytes at this address begins in the maps, as the bytes of all regions are
+/// counted; None below map 0. (It is called, and as a rare thing, so that the loop of a run keeps
+/// its registers for the other arms.)
 #[inline(never)]
-fn far_index(context_len: usize, maps: &MapLayout, address: u64, n: usize) -> Option<usize>
+#[cold]
+fn map_index(context_len: usize, maps: &MapLayout, address: u64, n: usize) -> Option<usize>
     requires { context_len ≤ context_limit }
     ensures below { address < map_base → result ≡ None }
     ensures past { map_base ≤ address → result ≡ option_map
@@ -329,10 +320,9 @@ pub fn run_index(
     if address < FRAME_BASE {
         return region_index(CONTEXT_BASE, context_len, address, n);
     }
-    if (address - FRAME_BASE) / FRAME_STRIDE < frames as u64 {
-        behind(context_len, frame_index(frames, address, n))
-    } else {
-        far_index(context_len, maps, address, n)
+    match behind(context_len, frame_index(frames, address, n)) {
+        Some(at) => Some(at),
+        None => map_index(context_len, maps, address, n),
     }
 }
 
