@@ -9,6 +9,7 @@ mod moves;
 
 pub use bpf_entries::{ByteString, Entry, Fault, FrameBytes, Status};
 pub use bpf_steps::platform::CONTEXT_LIMIT;
+pub use bpf_steps::run::Guard;
 pub use bpf_steps::{Change, Frame, Memory, OpenFault};
 pub use cpu::{Cpu, Kept};
 pub use edit::{Edit, EditFault};

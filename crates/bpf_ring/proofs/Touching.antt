@@ -1,6 +1,6 @@
 -- What a move touched, as its entry's text tells it.
-use Rattle.std.proofs.Common.{◌≡◌, ◌<◌, ◌≤◌, ◌-◌, ◌^◌, ℕ, Bool, Option, Some, None, List, [], ◌∷◌, ◌++◌, length, drop, refl, sym, ap, ◌∙◌, arith}
-use Rattle.std.specs.Prelude.{IfSome, nat_eq, slice_index, if◌then◌else◌}
+use Rattle.std.proofs.Common.{◌≡◌, ◌<◌, ◌≤◌, ◌-◌, ◌^◌, ℕ, Bool, Option, Some, None, List, [], ◌∷◌, ◌++◌, length, drop, refl, sym, ap, subst, ◌∙◌, arith}
+use Rattle.std.specs.Prelude.{IfSome, true, nat_eq, slice_index, if◌then◌else◌}
 use Rattle.std.proofs.lemmas.List.Elements.{All-head}
 use Rattle.byteorder.specs.Endian.{little_bytes}
 use Rattle.bpf_entries.specs.declared.entry.Entry.{Entry}
@@ -9,6 +9,9 @@ use Rattle.bpf_entries.specs.Fields.{FitsFields}
 use Rattle.bpf_entries.specs.Keeping.{Kept}
 use Rattle.bpf_entries.specs.Past.{Run, replaced}
 use Rattle.bpf_entries.specs.Texts.{kind, text}
+use Rattle.bpf_steps.proofs.Writing.{run_missed}
+use Rattle.bpf_steps.specs.Kept.{Misses, passes}
+use Rattle.bpf_steps.specs.declared.run.guard.Guard.{Guard}
 use Rattle.bpf_ring.specs.Blocks.{Content}
 use Rattle.bpf_ring.specs.Held.{IsHeld}
 use Rattle.bpf_ring.specs.Touched.{newest_touched, touched_by}
@@ -83,6 +86,54 @@ told_none entry.End d a b c f g i j l = refl
 told_none (entry.EditRegister r x) d a b c f g i j l = absurd (j refl)
 told_none (entry.EditBytes at old) d a b c f g i j l = absurd (l refl)
 told_none (entry.EditPc pc st) d a b c f g i j l = refl
+
+-- What touched no bytes misses every guard.
+abbrev pub IsQuiet : Touched → Type 0
+IsQuiet touched.Nothing = Unit {0}
+IsQuiet (touched.Register r) = Unit {0}
+IsQuiet touched.Word = Unit {0}
+IsQuiet _ = ⊥
+
+pub quiet : (guard : Guard) (e : Entry) (t : Touched) → t ≡ touched_by 0 e → IsQuiet t → Misses guard e
+quiet guard (entry.Register pc r x) t is q = λ d a from to. tt
+quiet guard (entry.Jump pc) t is q = λ d a from to. tt
+quiet guard (entry.Call pc old) t is q = absurd (subst IsQuiet is q)
+quiet guard (entry.Return pc saved) t is q = λ d a from to. tt
+quiet guard (entry.Store pc at old) t is q = absurd (subst IsQuiet is q)
+quiet guard (entry.Fetch pc r x at old) t is q = absurd (subst IsQuiet is q)
+quiet guard (entry.Cell pc x at old) t is q = absurd (subst IsQuiet is q)
+quiet guard (entry.Trace pc x) t is q = λ d a from to. tt
+quiet guard entry.End t is q = λ d a from to. tt
+quiet guard (entry.EditRegister r x) t is q = λ d a from to. tt
+quiet guard (entry.EditBytes at old) t is q = absurd (subst IsQuiet is q)
+quiet guard (entry.EditPc pc st) t is q = λ d a from to. tt
+
+-- So does what touched bytes that it lets pass.
+abbrev start_of : Touched → ℕ
+start_of (touched.Bytes a n) = a
+start_of _ = 0
+
+abbrev count_of : Touched → ℕ
+count_of (touched.Bytes a n) = n
+count_of _ = 0
+
+pub passed_by : (guard : Guard) (e : Entry) (a n : ℕ) → touched.Bytes a n ≡ touched_by 0 e → n ≤ 8 → passes guard a ≡ true → Misses guard e
+passed_by guard (entry.Register pc r x) a n is few free = absurd cc
+passed_by guard (entry.Jump pc) a n is few free = absurd cc
+passed_by guard (entry.Call pc old) a n is few free = absurd cc
+passed_by guard (entry.Return pc saved) a n is few free = absurd cc
+passed_by guard (entry.Store pc at old) a n is few free =
+    let count : n ≡ length old = ap count_of is in
+    λ d b from to. run_missed guard at (length old) b (omega (arith, count, few)) (subst (λ (k : ℕ). passes guard k ≡ true) (ap start_of is) free) from to
+passed_by guard (entry.Fetch pc r x at old) a n is few free = absurd cc
+passed_by guard (entry.Cell pc x at old) a n is few free = absurd cc
+passed_by guard (entry.Trace pc x) a n is few free = absurd cc
+passed_by guard entry.End a n is few free = absurd cc
+passed_by guard (entry.EditRegister r x) a n is few free = absurd cc
+passed_by guard (entry.EditBytes at old) a n is few free =
+    let count : n ≡ length old = ap count_of is in
+    λ d b from to. run_missed guard at (length old) b (omega (arith, count, few)) (subst (λ (k : ℕ). passes guard k ≡ true) (ap start_of is) free) from to
+passed_by guard (entry.EditPc pc st) a n is few free = absurd cc
 
 -- Where the number of the register stands: behind the slot, or behind the tag.
 abbrev pub NamesAt : ℕ → Entry → List ℕ → Type 0

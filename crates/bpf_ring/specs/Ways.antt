@@ -1,18 +1,18 @@
 -- Moves whose entries a ring holds, and what is left where the newest of them are taken back at once.
-use Rattle.std.specs.Prelude.{◌≡◌, ◌≤◌, ◌++◌, ◌-◌, ℕ, zero, suc, Bool, true, false, List, [], ◌∷◌, Some, None, length, drop, map}
+use Rattle.std.specs.Prelude.{◌≡◌, ◌≤◌, ◌++◌, ◌-◌, ℕ, zero, suc, Bool, true, false, List, [], ◌∷◌, Some, length, drop, map}
 use Rattle.std.specs.Option.{option_map}
 use Rattle.bpf_entries.specs.declared.entry.Entry.{Entry}
 use Rattle.bpf_entries.specs.Keeping.{Kept}
-use Rattle.bpf_entries.specs.Past.{Same, is_of_step, past, replaced}
+use Rattle.bpf_entries.specs.Past.{Same, is_of_step, past}
 use Rattle.bpf_entries.specs.Rings.{AllFit, ring}
 use Rattle.bpf_entries.specs.Texts.{text}
 use Rattle.bpf_entries.specs.Weights.{weight}
-use Rattle.bpf_steps.specs.Kept.{is_marked}
+use Rattle.bpf_steps.specs.Kept.{Misses, is_marked}
 use Rattle.bpf_machine.specs.declared.moves.Move.{Move}
 use Rattle.bpf_machine.specs.Moves.{Leads, overwritten}
 use Rattle.bpf_steps.specs.State.{State}
 use Rattle.bpf_ring.specs.declared.backward.Stays.{Stays}
-use Rattle.bpf_ring.specs.declared.backward.Stays.TheVariants.{Nothing, Depth, Memory}
+use Rattle.bpf_ring.specs.declared.backward.Stays.TheVariants.{Nothing, Depth, Bytes}
 use Rattle.bpf_ring.specs.declared.counts.Counts.{Counts}
 use Rattle.bpf_ring.specs.declared.keeper.RingKeeper.{RingKeeper}
 use Rattle.bpf_ring.specs.Blocks.{Content}
@@ -40,11 +40,11 @@ pub record HoldsWholeWay (content : Content) (counts : Counts) (y : State) : Typ
   pub held : IsHeld content counts (map kept_by ws)
   pub way : IsWay ws y
 
--- An entry's move left as it was what is named: maybe nothing, the depth of calls, or the bytes of memory.
+-- An entry's move left as it was what is named: maybe nothing, the depth of calls, or the bytes at the addresses of a guard.
 abbrev pub HasLeft : Stays → Entry → Type 0
 HasLeft Nothing e = Unit {0}
 HasLeft Depth e = (past 0 e).frames ≡ Same
-HasLeft Memory e = replaced 0 e ≡ None
+HasLeft (Bytes guard) e = Misses guard e
 
 -- An entry that may be taken back together with others: one of a step, without a mark, whose slot is not among those that a table marks, and
 -- whose move left as it was what is named.

@@ -6,6 +6,7 @@ ghost use Rattle.bpf_entries.specs.declared.entry.Entry.{Entry};
 ghost use Rattle.bpf_entries.specs.Fields.{FitsFields};
 ghost use Rattle.bpf_entries.specs.Texts.{kind, text as text_of};
 ghost use Rattle.bpf_machine.specs.Moves.{HasComeBy, Leads, overwritten};
+ghost use Rattle.bpf_steps.specs.Kept.{Misses};
 ghost use Rattle.bpf_steps.specs.State.{State};
 ghost use Rattle.bpf_machine.specs.declared.moves.Move.{Move};
 ghost use Rattle.bpf_ring.specs.Moments.{beside};
@@ -14,8 +15,9 @@ ghost use Rattle.bpf_ring.specs.Ways.{EndsPlain, EndsWay, HandsBack, HandsSteps,
 use crate::block::copy;
 use crate::keeper::{RingKeeper, text_len};
 use crate::ring::number;
+use crate::touched::Touched;
 use bpf_entries::slot_in;
-use bpf_machine::Cpu;
+use bpf_machine::{Cpu, Guard};
 
 /// What moves that are taken back together have left as it was.
 #[derive(Clone, Copy)]
@@ -24,8 +26,8 @@ pub enum Stays {
     Nothing,
     /// The depth of calls.
     Depth,
-    /// The bytes of memory.
-    Memory,
+    /// The bytes at the addresses of a guard.
+    Bytes(Guard),
 }
 
 /// How many moves were taken back together.
@@ -176,22 +178,36 @@ fn is_plain(text: &[u8], marks: &[bool; 8192], stays: Stays) -> bool
         IsPlain marks.now stays (e, mark) }
 {
     let tag = text[2];
-    if tag > 8 || changes(stays, tag) {
+    if tag > 8 || changes(stays, tag, text) {
         return false;
     }
     !marks[usize::from(slot_in(text) % 8192)]
 }
 
-/// Whether the move of an entry with this tag, of a step and without a mark, may have changed what
-/// is named.
+/// Whether the move of an entry with this tag and text, of a step and without a mark, may have changed
+/// what is named.
 #[inline(always)]
-fn changes(stays: Stays, tag: u8) -> bool
+fn changes(stays: Stays, tag: u8, text: &[u8]) -> bool
     requires { tag ≤ 8 }
-    ensures { result ≡ false → (e : Entry) → tag ≡ kind e → HasLeft stays e }
+    ensures { result ≡ false → (e : Entry) (mark : Bool) → tag ≡ kind e → FitsFields e →
+        text.now ≡ text_of e mark → HasLeft stays e }
 {
     match stays {
         Stays::Nothing => false,
         Stays::Depth => tag == 3 || tag == 4,
-        Stays::Memory => tag == 3 || (tag >= 5 && tag <= 7),
+        Stays::Bytes(guard) => may_replace(guard, text),
+    }
+}
+
+/// Whether the move of an entry with this text may have replaced a byte that a guard has.
+#[inline(always)]
+fn may_replace(guard: Guard, text: &[u8]) -> bool
+    ensures { result ≡ false → (e : Entry) (mark : Bool) → FitsFields e → text.now ≡ text_of e mark →
+        Misses guard e }
+{
+    match Touched::in_text(text, 0) {
+        Touched::Nothing | Touched::Register { .. } | Touched::Word => false,
+        Touched::Bytes { address, len } => len > 8 || !guard.passes(address),
+        Touched::Both { .. } | Touched::Frame { .. } => guard.is_some(),
     }
 }

@@ -16,8 +16,8 @@ ghost use Rattle.bpf_ring.specs.Runs.{GoesOn, kept_on};
 
 use crate::keeper::RingKeeper;
 use crate::run::StopTest;
-use bpf_machine::Cpu;
 use bpf_machine::laws::entries_fit;
+use bpf_machine::{Cpu, Guard};
 
 /// The most steps of a piece.
 const STEPS: u64 = 128;
@@ -129,11 +129,17 @@ impl RingKeeper {
     {
         entries_fit();
         self.invariant();
+        let Some(guard) = test.guard(cpu) else {
+            return Piece {
+                count: 0,
+                is_rare: true,
+            };
+        };
         let size = (self.ring.size() - SPARE).min(room.len());
         let kept = cpu.keep(
             most,
             test.marks(),
-            test.overlooks_stores(),
+            guard,
             test.overlooks_calls(),
             &mut room[..size],
         );
@@ -257,8 +263,9 @@ impl<'a> StopTest for Unstopped<'a> {
     }
 
     #[inline(always)]
-    fn overlooks_stores(&self) -> bool {
-        true
+    fn guard(&self, cpu: &Cpu) -> Option<Guard> {
+        let _cpu = cpu;
+        Some(Guard::none())
     }
 
     #[inline(always)]

@@ -1,14 +1,15 @@
 -- Moves that a backward command goes over at once.
-use Rattle.std.specs.Prelude.{if◌then◌else◌, is_some, nat_le, nat_lt}
+use Rattle.std.specs.Prelude.{◌⊎◌, IfSome, if◌then◌else◌, nat_le, nat_lt, slice_index}
 use Rattle.std.specs.Option.{option_map}
 use Rattle.std.proofs.Common.{◌≡◌, ◌+◌, ◌-◌, ◌%◌, ◌<◌, ◌≤◌, ◌==◌, ◌&&◌, ◌||◌, ℕ, zero, suc, Bool, true, false, List, [], ◌∷◌, Option, Some, None, length, drop, take, reverse, ◌++◌, refl, sym, ap, subst, ◌∙◌, arith, inl, inr}
 use Rattle.std.proofs.lemmas.Bool.{cases_lt}
 use Rattle.std.proofs.lemmas.Bool.Decides.{nat_tests}
 use Rattle.std.proofs.lemmas.List.{drop_all}
+use Rattle.bpf_entries.specs.Before.{byte_in}
 use Rattle.bpf_entries.specs.Keeping.{Kept}
-use Rattle.bpf_entries.specs.Past.{is_of_step, past}
+use Rattle.bpf_entries.specs.Past.{Run, is_of_step, past, replaced}
 use Rattle.bpf_journal.proofs.Histories.{of_move}
-use Rattle.bpf_journal.proofs.Telling.{kept_bytes, level_by, tells_before}
+use Rattle.bpf_journal.proofs.Telling.{level_by, tells_before}
 use Rattle.bpf_journal.specs.GoingBack.{GoesBackBy}
 use Rattle.bpf_journal.specs.Histories.{IsRun, Record, is_step, kept_of}
 use Rattle.bpf_journal.specs.Lookups.{Test, latest, state_before}
@@ -21,21 +22,22 @@ use Rattle.bpf_steps.specs.Entries.{entry_of}
 use Rattle.bpf_machine.specs.Moves.{Leads, overwritten}
 use Rattle.bpf_steps.specs.Next.{change as change_of}
 use Rattle.bpf_steps.specs.Kept.{is_marked}
+use Rattle.bpf_steps.specs.ByAddress.{byte}
 use Rattle.bpf_steps.specs.State.{State, depth}
 use Rattle.bpf_ring.specs.Ways.{HasLeft, IsPlain}
 use Rattle.bpf_ring.specs.declared.backward.Stays.{Stays}
-use Rattle.bpf_ring.specs.declared.backward.Stays.TheVariants.{Nothing, Depth, Memory}
+use Rattle.bpf_ring.specs.declared.backward.Stays.TheVariants.{Nothing, Depth, Bytes}
 use Rattle.bpf_session.specs.Backward.{back_by, before_last, passes}
 use Rattle.bpf_session.specs.Points.{Point}
 use Rattle.bpf_session.specs.Searches.{GoAtOnce, GoesOver, is_each}
 use Rattle.bpf_session.specs.Sessions.{HasPast, SessionValue, point_of, track_at}
 use Rattle.bpf_session.specs.SlotTables.{IsTableOf}
 use Rattle.bpf_session.specs.Stops.{has, some_differs}
-use Rattle.bpf_session.specs.Watched.{bytes_at}
+use Rattle.bpf_session.specs.Watched.{LeavesWatched, bytes_at}
 use Rattle.bpf_session.proofs.Backwards.{Seeking, latest_miss, latest_next, passes_same, put_in_front, record_at, shifted}
 use Rattle.bpf_session.proofs.Breaks.{not_there}
 use Rattle.bpf_session.proofs.Forwards.{OnlyMoment}
-use Rattle.bpf_session.proofs.Watching.{compares_none}
+use Rattle.bpf_session.proofs.Watching.{some_same}
 use Rattle.bpfdb_script.specs.declared.command.Target.{Target}
 use Rattle.bpfdb_script.specs.declared.command.Target.TheVariants.{Commands, Steps, Next, Continue, Finish}
 
@@ -77,29 +79,35 @@ deeper a b more = grind (arith, nat_tests)
 as_deep : (a b : ℕ) → b ≤ a → nat_lt a b ≡ false
 as_deep a b more = grind (arith, nat_tests)
 
-pub each_alike : (target : Target) (first : State) (breaks watches : List ℕ) (marks : List Bool) (unwatched : Bool) (now : ℕ) (stays : Stays) → IsTableOf breaks marks → (unwatched ≡ true → watches ≡ [])
-    → GoAtOnce target unwatched (depth first) now stays
+-- A byte outside of what a move replaced is as it was.
+byte_outside : (o : Option Run) (a other : ℕ) → IfSome o (λ run. (a < run.address) ⊎ (run.address + length run.bytes ≤ a)) → byte_in o a other ≡ other
+byte_outside None a other out = refl
+byte_outside (Some run) a other out =
+    let off : (nat_le run.address a && nat_lt a (run.address + length run.bytes)) ≡ false = elim out [ inl below ↦ grind (arith, nat_tests, below) | inr above ↦ grind (arith, nat_tests, above) ] in
+    ap (λ (b : Bool). if b then slice_index run.bytes (a - run.address) else other) off
+
+-- So moves that left what they are to have left changed no watched byte.
+unseen : (r : Record) (z : State) → Leads r.before r.move z → (watched : Stays) (watches : List ℕ) → LeavesWatched watches watched → HasLeft watched (overwritten r.before r.move) → some_differs watches r.before z ≡ false
+unseen r z leads Nothing watches none left = ap (λ (ws : List ℕ). some_differs ws r.before z) none
+unseen r z leads Depth watches none left = absurd none
+unseen r z leads (Bytes guard) watches all left =
+    some_same watches guard r.before z all (λ a from to.
+    (tells_before r.before z r.move leads).bytes a ∙ byte_outside (replaced (depth z) (overwritten r.before r.move)) a (byte z a) (left (depth z) a from to))
+
+pub each_alike : (target : Target) (first : State) (breaks watches : List ℕ) (marks : List Bool) (watched : Stays) (now : ℕ) (stays : Stays) → IsTableOf breaks marks → LeavesWatched watches watched
+    → GoAtOnce target watched (depth first) now stays
     → (r : Record) (z : State) → IsPlain marks stays (kept_of r) → Leads r.before r.move z → (stays ≡ Depth → depth z ≡ now)
     → passes target (record { history = []; ahead = []; state = first; breaks = breaks; watches = watches }) r z ≡ is_each target
-each_alike (Commands count) first breaks watches marks unwatched now stays table none may r z plain leads level = plain.unmarked
-each_alike (Steps count) first breaks watches marks unwatched now stays table none may r z plain leads level = sym (of_move r.before r.move) ∙ plain.step
-each_alike Continue first breaks watches marks unwatched now stays table none may r z plain leads level =
+each_alike (Commands count) first breaks watches marks watched now stays table none may r z plain leads level = plain.unmarked
+each_alike (Steps count) first breaks watches marks watched now stays table none may r z plain leads level = sym (of_move r.before r.move) ∙ plain.step
+each_alike Continue first breaks watches marks watched now stays table none may r z plain leads level =
     neither (is_step r.move) (has breaks r.before.pc) (some_differs watches r.before z)
     (sym (not_there breaks marks r.before.pc (r.before.pc % 8192) table refl (omega arith) (plain_slot marks r.before r.move plain.step plain.slot)))
-    (unseen unwatched refl)
-  where
-    left : (b : Bool) → unwatched ≡ b → HasLeft (if b then Nothing else Memory) (overwritten r.before r.move)
-    left b is = subst (λ (s : Stays). HasLeft s (overwritten r.before r.move)) (may ∙ ap (λ (b : Bool). if b then Nothing else Memory) is) plain.spared
-
-    unseen : (b : Bool) → unwatched ≡ b → some_differs watches r.before z ≡ false
-    unseen true is = ap (λ (ws : List ℕ). some_differs ws r.before z) (none is)
-    unseen false is =
-        sym (compares_none watches (bytes_at watches r.before) r.before z refl
-        (kept_bytes r.before z r.move leads (ap is_some (left false is)))).since
-each_alike Next first breaks watches marks unwatched now stays table none may r z plain leads level =
+    (unseen r z leads watched watches none (subst (λ (s : Stays). HasLeft s (overwritten r.before r.move)) may plain.spared))
+each_alike Next first breaks watches marks watched now stays table none may r z plain leads level =
     let at : depth r.before ≡ now = kept_level r z stays may.0 plain.spared leads ∙ level may.0 in
     not_both (is_step r.move) (nat_le (depth r.before) (depth first)) (deeper (depth r.before) (depth first) (omega (arith, at, may.1)))
-each_alike Finish first breaks watches marks unwatched now stays table none may r z plain leads level =
+each_alike Finish first breaks watches marks watched now stays table none may r z plain leads level =
     let at : depth r.before ≡ now = kept_level r z stays may.0 plain.spared leads ∙ level may.0 in
     as_deep (depth r.before) (depth first) (omega (arith, at, may.1))
 

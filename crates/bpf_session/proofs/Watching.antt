@@ -1,13 +1,14 @@
 -- Watched bytes: what was seen of a state before, and the bytes now.
 use Rattle.std.specs.Prelude.{map, not, ◌==◌, ◌||◌, ◌&&◌}
 use Rattle.std.specs.Str.{bytes_eq}
-use Rattle.std.proofs.Common.{◌≡◌, ◌+◌, ◌<◌, ◌≤◌, ℕ, Bool, true, false, List, [], ◌∷◌, ◌++◌, take, get_or, length, refl, sym, ap, ◌∙◌, arith}
+use Rattle.std.proofs.Common.{◌≡◌, ◌+◌, ◌<◌, ◌≤◌, ℕ, suc, Bool, true, false, List, [], ◌∷◌, ◌++◌, take, get_or, length, refl, sym, ap, ◌∙◌, arith}
 use Rattle.std.proofs.lemmas.Bool.Decides.{nat_tests}
 use Rattle.std.proofs.lemmas.List.{map_push, take_all, take_more}
 use Rattle.bpf_steps.specs.ByAddress.{byte}
 use Rattle.bpf_steps.specs.State.{State}
+use Rattle.bpf_steps.specs.declared.run.guard.Guard.{Guard}
 use Rattle.bpf_session.specs.Stops.{some_differs}
-use Rattle.bpf_session.specs.Watched.{Compares, bytes_at}
+use Rattle.bpf_session.specs.Watched.{Compares, Guards, bytes_at}
 
 -- one more byte
 pub one_more : (addresses bytes : List ℕ) (x : State) (i value : ℕ) → i < length addresses → bytes ≡ bytes_at (take i addresses) x → value ≡ byte x (get_or addresses i 0) → bytes ++ value ∷ [] ≡ bytes_at (take (i + 1) addresses) x
@@ -60,6 +61,14 @@ none_differ [] x y same = refl
 none_differ (a ∷ addresses) x y same =
     let e : (byte x a == byte y a) ≡ true = let s = same a in grind (arith, nat_tests) in
     rw e (none_differ addresses x y same)
+
+-- None of those that a guard has, where its bytes are the same.
+pub some_same : (addresses : List ℕ) (guard : Guard) (x y : State) → Guards guard addresses → ((a : ℕ) → guard.first ≤ a → a ≤ guard.last → byte x a ≡ byte y a) → some_differs addresses x y ≡ false
+some_same [] guard x y all same = refl
+some_same (a ∷ addresses) guard x y all same =
+    let here = all 0 (omega arith) in
+    let e : (byte x a == byte y a) ≡ true = let s = same a here.0 here.1 in grind (arith, nat_tests) in
+    rw e (some_same addresses guard x y (λ i low. all (suc i) (omega (arith, low))) same)
 
 -- a move that replaced bytes
 pub compares : (addresses seen : List ℕ) (x y : State) (result : Bool) → seen ≡ bytes_at addresses x → result ≡ not (bytes_eq (bytes_at addresses y) seen) → Compares addresses seen x y result

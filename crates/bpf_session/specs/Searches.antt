@@ -9,7 +9,7 @@ use Rattle.bpf_machine.specs.Moves.{Leads}
 use Rattle.bpf_steps.specs.State.{State, depth}
 use Rattle.bpf_ring.specs.Ways.{IsPlain}
 use Rattle.bpf_ring.specs.declared.backward.Stays.{Stays}
-use Rattle.bpf_ring.specs.declared.backward.Stays.TheVariants.{Nothing, Depth, Memory}
+use Rattle.bpf_ring.specs.declared.backward.Stays.TheVariants.{Depth}
 use Rattle.bpf_journal.specs.Lookups.{Test, latest}
 use Rattle.bpf_session.specs.Backward.{back_by, kept_steps, passes}
 use Rattle.bpf_session.specs.Points.{Point}
@@ -36,12 +36,12 @@ is_each Finish = false
 
 -- What the moves have left as it was that a command goes over at once, where nothing is watched or something is, by the depth that it was
 -- given at and the present one: one that looks for a depth goes over moves that left the depth as it was, where it isn't the one.
-abbrev pub GoAtOnce : Target → Bool → ℕ → ℕ → Stays → Type 0
-GoAtOnce (Commands count) unwatched start now stays = Unit {0}
-GoAtOnce (Steps count) unwatched start now stays = Unit {0}
-GoAtOnce Continue unwatched start now stays = stays ≡ (if unwatched then Nothing else Memory)
-GoAtOnce Next unwatched start now stays = (stays ≡ Depth) × (start < now)
-GoAtOnce Finish unwatched start now stays = (stays ≡ Depth) × (start ≤ now)
+abbrev pub GoAtOnce : Target → Stays → ℕ → ℕ → Stays → Type 0
+GoAtOnce (Commands count) watched start now stays = Unit {0}
+GoAtOnce (Steps count) watched start now stays = Unit {0}
+GoAtOnce Continue watched start now stays = stays ≡ watched
+GoAtOnce Next watched start now stays = (stays ≡ Depth) × (start < now)
+GoAtOnce Finish watched start now stays = (stays ≡ Depth) × (start ≤ now)
 
 -- The newest n records of a course were taken back at once: a test, which may be told by their entries, where they led and the depth there,
 -- passes each of them or none.

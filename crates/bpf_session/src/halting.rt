@@ -5,7 +5,7 @@ ghost use Rattle.bpf_session.specs.Halting.{floor_of as floor, most_of as most};
 use crate::breakpoints::Breakpoints;
 use crate::watches::{Seen, Watches};
 use bpf_journal::StopTest;
-use bpf_machine::Cpu;
+use bpf_machine::{Cpu, Guard};
 use bpfdb_script::Goal;
 
 /// What stops a run beside its number of steps: a breakpoint, a depth of calls below a floor, and a
@@ -29,10 +29,13 @@ impl<'a> StopTest for Halting<'a> {
         self.breaks.table()
     }
 
-    #[tactic(auto, using(crate::proofs::Halts::overlooked))]
     #[inline(always)]
-    fn overlooks_stores(&self) -> bool {
-        self.watches.sees_nothing(self.seen)
+    fn guard(&self, cpu: &Cpu) -> Option<Guard> {
+        if self.watches.differ_from(cpu, self.seen) {
+            None
+        } else {
+            Some(self.watches.guard())
+        }
     }
 
     #[tactic(auto, using(crate::proofs::Halts::forgot))]

@@ -5,13 +5,14 @@ ghost use Rattle.bpf_steps.specs.ByAddress.{byte};
 ghost use Rattle.bpf_steps.specs.State.{State};
 ghost use Rattle.bpf_session.specs.Limits.{most_watches};
 ghost use Rattle.bpf_session.specs.Stops.{has};
-ghost use Rattle.bpf_session.specs.Watched.{Compares, bytes_at};
+ghost use Rattle.bpf_session.specs.Watched.{Compares, Guards, LeavesWatched, bytes_at};
 
 mod run;
 mod sight;
 
 use arrayvec::ArrayVec;
-use bpf_machine::Cpu;
+use bpf_machine::{Cpu, Guard};
+use bpf_ring::Stays;
 pub use run::Run;
 pub use sight::Sight;
 use std::marker::Model;
@@ -112,12 +113,22 @@ impl Watches {
         !bytes.is_same(seen)
     }
 
-    /// Whether nothing is watched, and nothing was seen.
-    #[inline(always)]
-    pub fn sees_nothing(&self, seen: &Seen) -> bool
-        ensures { IsTrue result ↔ ((self.now ≡ []) × (seen.now ≡ [])) }
+    /// What moves have left as it was that changed none of the bytes.
+    pub(crate) fn stays(&self) -> Stays
+        ensures { LeavesWatched self.now result }
     {
-        self.is_empty() && seen.bytes.is_empty()
+        if self.is_empty() {
+            Stays::Nothing
+        } else {
+            Stays::Bytes(self.guard())
+        }
+    }
+
+    /// Those from the lowest to the highest address, of which a store may change one.
+    pub(crate) fn guard(&self) -> Guard
+        ensures { Guards result self.now }
+    {
+        guard_of(self.addresses.as_slice())
     }
 
     /// Whether a byte at one of the addresses differs now from what was seen before a move that
@@ -156,6 +167,19 @@ impl Seen {
     {
         self.bytes.as_slice() == other.bytes.as_slice()
     }
+}
+
+/// From the lowest to the highest of some addresses.
+fn guard_of(addresses: &[u64]) -> Guard
+    ensures { Guards result addresses.now }
+{
+    let mut first = u64::MAX;
+    let mut last = 0;
+    for address in addresses {
+        first = first.min(*address);
+        last = last.max(*address);
+    }
+    Guard { first, last }
 }
 
 /// The bytes at some addresses.

@@ -143,9 +143,9 @@ impl<K: Keeper> Session<K> {
         ensures { GoesBackOver (known_by K.holds K.refused K.room) target.now start left most
             result self.old self.new }
     {
-        let unwatched = self.watches.is_empty();
+        let watched = self.watches.stays();
         let depth = self.cpu().depth();
-        let (many, stays) = at_once(target, left, most, unwatched, start, depth);
+        let (many, stays) = at_once(target, left, most, watched, start, depth);
         if many == 0 {
             return 0;
         }
@@ -175,26 +175,25 @@ impl<K: Keeper> Session<K> {
 }
 
 /// How many moves are gone over at once at most, where a command looks for so many more and they are
-/// to be no more than so many; and what each of them has to have left as it was. There are watches or
-/// not, the command was given at a depth, and there is another depth now.
+/// to be no more than so many; and what each of them has to have left as it was. There is what moves
+/// have left that changed no watched byte, the depth at which the command was given, and the one now.
 fn at_once(
     target: &Target,
     left: u64,
     most: u64,
-    unwatched: bool,
+    watched: Stays,
     start: usize,
     now: usize,
 ) -> (u64, Stays)
     requires { 1 ≤ left }
     ensures within { result.0 ≤ most }
     ensures fewer { is_each target.now ≡ true → result.0 < left }
-    ensures may { 1 ≤ result.0 → GoAtOnce target.now unwatched start now result.1 }
+    ensures may { 1 ≤ result.0 → GoAtOnce target.now watched start now result.1 }
 {
     match target {
         Target::Commands(_) => (most, Stays::Nothing),
         Target::Steps(_) => (most.min(left - 1), Stays::Nothing),
-        Target::Continue if unwatched => (most, Stays::Nothing),
-        Target::Continue => (most, Stays::Memory),
+        Target::Continue => (most, watched),
         Target::Next if now > start => (most, Stays::Depth),
         Target::Finish if now >= start => (most, Stays::Depth),
         Target::Next | Target::Finish => (0, Stays::Depth),

@@ -33,8 +33,8 @@ returns g c =
         stays = c.at_once-many.result.1;
         back = c.back_steps.ensures.back h past;
         each = λ some r z plain leads level.
-            each_alike c.args.target.now first c.self.inside.breaks c.self.inside.watches c.table.result.now c.is_empty-unwatched.result c.depth-depth.result c.at_once-many.result.1 c.table.ensures c.is_empty-unwatched.ensures.0
-            (subst (λ (n : ℕ). GoAtOnce c.args.target.now c.is_empty-unwatched.result n c.depth-depth.result c.at_once-many.result.1) began
+            each_alike c.args.target.now first c.self.inside.breaks c.self.inside.watches c.table.result.now c.stays-watched.result c.depth-depth.result c.at_once-many.result.1 c.table.ensures c.stays-watched.ensures
+            (subst (λ (n : ℕ). GoAtOnce c.args.target.now c.stays-watched.result n c.depth-depth.result c.at_once-many.result.1) began
             (c.at_once-many.ensures.may (omega (arith, some, c.back_steps.ensures.within)))) r z plain leads (λ is. level is ∙ sym deep);
       };
       stops = (refl, refl);
