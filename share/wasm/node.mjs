@@ -12,6 +12,7 @@
 import fs from "node:fs";
 import tty from "node:tty";
 import { fileURLToPath } from "node:url";
+import v8 from "node:v8";
 import { ERRORS, MemoryHost, MOST_MEMORY, start } from "./host.mjs";
 
 let compiled;
@@ -126,4 +127,15 @@ function isCommand() {
   return command !== undefined && fs.realpathSync(command) === fs.realpathSync(fileURLToPath(import.meta.url));
 }
 
-if (isCommand()) process.exit(execute(process.argv.slice(2), { memory: allowed() }));
+// The engine makes better code of a function that has run for some time, which it tells by the bytes of the loops that were gone over. Those of a step are many: a run of a
+// hundred steps, over at once, had it begin half a second's work, for which node waits at its end. A hundred times as many bytes are some thousand steps. (Of versions that
+// aren't known to have this option nothing is asked: they would write that they don't know it.)
+function delayBetterCode() {
+  const version = parseInt(process.versions.node);
+  if (version >= 18 && version <= 24) v8.setFlagsFromString("--wasm-tiering-budget=200000000");
+}
+
+if (isCommand()) {
+  delayBetterCode();
+  process.exit(execute(process.argv.slice(2), { memory: allowed() }));
+}

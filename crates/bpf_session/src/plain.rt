@@ -42,11 +42,23 @@ pub fn run_plain<W: Write>(
     }
 }
 
+/// The most steps that are taken by one call. (An engine of WebAssembly that has made faster code of a
+/// function takes it where the function is called anew, and not within a call.)
+const STEPS_OF_A_CALL: u64 = 65_536;
+
 /// Takes steps until the machine has ended, at most the limit.
 fn take_steps(cpu: &mut Cpu, limit: u64)
     ensures { cpu.new ≡ plain_end limit cpu.old }
 {
-    cpu.run(limit);
+    let mut taken = 0;
+    while taken < limit {
+        let most = (limit - taken).min(STEPS_OF_A_CALL);
+        let count = cpu.run(most);
+        taken += count;
+        if count < most {
+            return;
+        }
+    }
 }
 
 /// Writes a result and a line feed, and flushes.
