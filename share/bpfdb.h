@@ -1,6 +1,6 @@
 /* Compiles a program for XDP or tc as it stands, with the kernel's and libbpf's headers, for bpfdb:
      clang -include bpfdb.h -DBPFDB_XDP=NAME .. (or -DBPFDB_TC=NAME), with the name of the program's function
-     bpfdb link --section xdp --entry bpfdb .. (or --section tc)
+     bpfdb link --entry bpfdb ..
    The entry `bpfdb` gives the program the context's bytes as its packet. It has to lie in the program's section: where
    that isn't `xdp` or `tc`, -DBPFDB_SECTION=xdp.frags names it. A program that includes "vmlinux.h" wants
    -DBPFDB_VMLINUX, and -I with the folder of that file. `data`, `data_end` and `data_meta` have 64 bits here, as

@@ -633,6 +633,28 @@ C
         printf "\\$key\\000\\000\\000" > context
         result "$([ $key = 001 ] && echo 0x3 || echo 0x2)\n" run $(told_maps) -m context keys
     done
+    # Of several sections with code the one is linked in which the entry lies, if it lies in one: a variable is no function, and two functions of a name in two
+    # sections are none of either.
+    cat > homes.c <<'C'
+__attribute__((section("a"))) int first(void) { return 1; }
+__attribute__((section("b"))) int second(void) { return 2; }
+static __attribute__((section("a"), noinline, used)) int a_twice(void) { return 3; }
+static __attribute__((section("b"), noinline, used)) int b_twice(void) { return 4; }
+__attribute__((section("c"))) int variable = 5;
+C
+    clang -O1 -target bpf -c -o homes.o homes.c
+    LC_ALL=C sed 's/b_twice/a_twice/' homes.o > twice.o
+    for row in 1:first:a 2:second:b 3:a_twice:a 4:b_twice:b; do
+        entry=${row#*:} section=${row##*:}
+        entry=${entry%:*}
+        result "0x${row%%:*}\n" run --entry "$entry" homes.o
+        result "0x${row%%:*}\n" run --entry "$entry" --section "$section" homes.o
+    done
+    for row in variable:homes.o third:homes.o :homes.o a_twice:twice.o; do
+        refused 'refused E9: more than one code section: --section NAME chooses one: a, b' run --entry "${row%:*}" "${row#*:}"
+    done
+    result '0x4\n' run --section b --entry a_twice twice.o
+    refused 'refused E31: no such function in the code section: b_twice, second' run --section b --entry first homes.o
     # Of two programs in a section the one that is asked for runs; without a name both are refused.
     cat > entries.c <<'C'
 __attribute__((section("prog"))) int first(void) { return 1; }

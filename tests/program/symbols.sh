@@ -212,6 +212,14 @@ C
         python3 "$objects" sections apart.sym | grep -v ' .debug' > found/sections
         printf '%s\n' '0 ' '8 prog' '400000000 maps' '300100000 .data.own' '0 _start' '48 _setup' '0 .symtab' '0 .strtab' '0 .shstrtab' > wanted/sections
         same 'the sections of apart.sym' wanted/sections found/sections
+        # (without its name the section is the one in which the entry lies)
+        converted --section prog/other --entry second apart.o named.sym
+        converted --entry second apart.o apart.sym
+        python3 "$objects" sections apart.sym | grep ' prog' > found/sections
+        echo '8 prog/other' > wanted/sections
+        same 'the section of an entry' wanted/sections found/sections
+        cmp -s apart.sym named.sym || complain 'an entry has other symbols with its section than without'
+        count=$((count + 1))
 
         # What the link asks for is said to it: helpers that a constant answers, and entries of maps.
         printf 'static long (*f)(void) = (void *)14; __attribute__((section("prog"))) long entry(void) { return f(); }\n' > stubbed.c

@@ -124,8 +124,10 @@ exit'
     # (by the source: the second line of each is told, and no other)
     count=$((count + 1))
     [ "$(lines_of fields --as-compiled --entry fields --entry store | sed 's/.*pair.c:\([0-9]*\) .*/\1/')" = "$(grep -n 'it->one + 10' "$parts/turns/pair.c" | cut -d : -f 1)" ] || complain "line of fields: $(lines_of fields --as-compiled --entry fields --entry store)"
-    # With one entry and no place nothing is new: the section is asked for as ever.
-    refused 'refused E9: more than one code section: --section NAME chooses one: .text, prog/one, prog/two, prog/three, prog/timed, prog/timed too, prog/field, prog/fields' link --entry store pair.o
+    # One entry and no place make no turn: its section is the one in which it lies.
+    "$program" link --section prog/one --entry store pair.o > found/wanted 2> told || complain "one entry: $(cat told)"
+    "$program" link --entry store pair.o > found/out 2> told || complain "one entry, without its section: $(cat told)"
+    same 'the section of one entry' found/wanted found/out
     "$program" link --section prog/two --entry count pair.o > words 2> told || complain "one entry: $(cat told)"
     count=$((count + 1))
     "$program" disasm --object --section prog/two --entry count pair.o | grep -q '^mov r6, r1$' && complain 'one entry is called'

@@ -23,6 +23,7 @@ pub mod Undefined
 pub mod Refusals
 pub mod Names
 pub mod Helpers
+pub mod Homes
 pub mod FieldRelocations
 pub mod Contexts
 pub mod Packets

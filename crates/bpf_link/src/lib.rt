@@ -8,6 +8,7 @@ mod fault;
 mod field_relocations;
 mod fields;
 mod helpers;
+mod home;
 mod image;
 pub mod laws;
 mod layout;
@@ -40,6 +41,7 @@ pub use fault::{LinkFault, RelocationFault};
 pub use field_relocations::fields_as_compiled;
 pub use fields::{u16_at, u32_at};
 pub use helpers::helper_name;
+pub use home::home_of;
 pub use image::filled;
 pub use layout::{
     MapDefinition, RelocationEntry, SectionHeader, SymbolEntry, map_definition, symbol_entry,

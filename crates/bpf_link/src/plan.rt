@@ -1,5 +1,5 @@
 //! What a program is put together from.
-ghost use Rattle.std.specs.Prelude.{◌≡◌, ◌≤◌, ◌<◌, ◌+◌, ◌*◌, ◌/◌, ◌==◌, ◌⊎◌, length, IfOk, ℕ, Bool};
+ghost use Rattle.std.specs.Prelude.{◌≡◌, ◌≤◌, ◌<◌, ◌+◌, ◌*◌, ◌/◌, ◌==◌, ◌⊎◌, length, min, IfOk, ℕ, Bool};
 ghost use Rattle.bpf_link.specs.Parts.{slots_in};
 ghost use Rattle.bpf_link.specs.Plans.{entries_of, symbols_of, maps_in, chosen_in, is_only, relocations_in, part_in, symbol_place, part_place, is_reference, refers_below, text_in, is_closed, has_definitions, definitions_in, names_in, no_part, parts_in, plan_of, HasRoles};
 ghost use Rattle.bpf_link.specs.Sections.{AreFound, FoundBelow};
@@ -53,7 +53,8 @@ fn entries_of<'a>(
     })
 }
 
-fn symbols_of<'a>(object: &Object<'a>, found: Found) -> Result<Symbols<'a>, LinkFault>
+/// The symbols of an object, by the section that holds them.
+pub(crate) fn symbols_of<'a>(object: &Object<'a>, found: Found) -> Result<Symbols<'a>, LinkFault>
     requires { FoundBelow (length object.now.sections) found }
     ensures { result ≡ symbols_of object.now found }
 {
@@ -178,11 +179,19 @@ pub fn symbol_place(plan: &Plan<'_>, symbol: &SymbolEntry) -> usize
     ensures value { result ≡ symbol_place plan.now symbol.now }
     ensures inside { result ≤ length plan.now.object.bytes }
 {
-    let len = plan.object.bytes().len();
-    if plan.names > len as u64 {
+    place_of_name(&plan.object, plan.names, symbol)
+}
+
+/// The same, by where the names of symbols begin in the file.
+pub(crate) fn place_of_name(object: &Object<'_>, names: u64, symbol: &SymbolEntry) -> usize
+    ensures value { result ≡ min (names + symbol.now.name) (length object.now.bytes) }
+    ensures inside { result ≤ length object.now.bytes }
+{
+    let len = object.bytes().len();
+    if names > len as u64 {
         return len;
     }
-    let at = plan.names + u64::from(symbol.name);
+    let at = names + u64::from(symbol.name);
     if at > len as u64 {
         return len;
     }
@@ -301,7 +310,7 @@ fn definitions_in<'a>(object: &Object<'a>, found: Found) -> Bytes<'a>
 }
 
 /// Where the names of symbols begin: in the section to which the one of the symbols links.
-fn names_in(object: &Object<'_>, found: Found) -> u64
+pub(crate) fn names_in(object: &Object<'_>, found: Found) -> u64
     requires { FoundBelow (length object.now.sections) found }
     ensures { result ≡ names_in object.now found }
 {

@@ -1,6 +1,7 @@
 -- The job of a plan.
 use Rattle.std.specs.Prelude.{ℕ, ◌≡◌, ◌==◌, if◌then◌else◌, List, [], length, map, Option, Some, None}
 use Rattle.std.specs.Borrow.{Bor}
+use Rattle.bpf_link.specs.Homes.{home_of}
 use Rattle.bpf_load.specs.Targets.{contents, texts}
 use Rattle.bpf_load.specs.declared.target.Target.{Target}
 use Rattle.bpfdb_cli.specs.declared.plans.Plan.{Plan}
@@ -24,11 +25,19 @@ name_or_empty name = text_or_empty name
 abbrev pub entry_of : TargetWords → List ℕ
 entry_of words = if length words.turns.items == 0 then name_or_empty words.entry else []
 
+-- The section that is named, or that in which the entry lies of an object with several.
+abbrev pub section_from : Option (Bor (List ℕ)) → List ℕ → List ℕ
+section_from None home = home
+section_from (Some name) home = name.now
+
+abbrev pub section_of : TargetWords → List ℕ → List ℕ
+section_of words file = section_from words.section (home_of file (entry_of words))
+
 -- What FILE is, and which program runs: what the plan says of that.
 pub record IsTargetOf (plan : Plan) (of : Contents) (target : Target) : Type 0 where
   pub kind : target.kind ≡ source_kind plan plan.file.now of.file
   pub maps : target.maps ≡ plan.target.maps
-  pub section : target.section.now ≡ name_or_empty plan.target.section
+  pub section : target.section.now ≡ section_of plan.target of.file
   pub entry : target.entry.now ≡ entry_of plan.target
   pub counts : texts target.counts.now ≡ texts plan.target.counts.items
   pub turns : texts target.turns.now ≡ texts plan.target.turns.items

@@ -1,9 +1,10 @@
 //! The job of a plan.
 ghost use Rattle.std.specs.Prelude.{◌≡◌};
 ghost use Rattle.bpfdb.specs.Files.{contents_in};
-ghost use Rattle.bpfdb.specs.Jobs.{IsJobOf, IsTargetOf, entry_of, name_or_empty};
+ghost use Rattle.bpfdb.specs.Jobs.{IsJobOf, IsTargetOf, entry_of, name_or_empty, section_of};
 
 use crate::kind::source_kind;
+use bpf_link::home_of;
 use bpf_load::Target;
 use bpfdb_cli::{Plan, TargetWords};
 use bpfdb_jobs::Job;
@@ -48,7 +49,7 @@ fn target_of<'a>(plan: &'a Plan<'a>, bytes: &Bytes<'a>) -> Target<'a>
     Target {
         kind: source_kind(plan, plan.file.as_bytes(), bytes.file),
         maps: words.maps,
-        section: name_or_empty(words.section),
+        section: section_of(words, bytes.file),
         entry: entry_of(words),
         counts: words.counts.as_slice(),
         turns: words.turns.as_slice(),
@@ -56,6 +57,17 @@ fn target_of<'a>(plan: &'a Plan<'a>, bytes: &Bytes<'a>) -> Target<'a>
         stubs: words.stubs,
         as_compiled: words.as_compiled,
         packet: words.packet,
+    }
+}
+
+/// The name of the section: the one that is named, or that in which the entry lies of an object with
+/// several. Empty where neither is known.
+fn section_of<'a>(words: &TargetWords<'a>, file: &'a [u8]) -> &'a [u8]
+    ensures { result.now ≡ section_of words.now file.now }
+{
+    match words.section {
+        Some(name) => name.as_bytes(),
+        None => home_of(file, entry_of(words)),
     }
 }
 

@@ -439,7 +439,8 @@ shown under their own names, too. Example: --registers riscv";
 pub const SECTION: &str = "Code section to be linked; without it the only one";
 
 pub const SECTION_LONG: &str = "Name of the code section to be linked, at most 255 bytes. Without it
-that is the only one besides .text, or else .text.
+that is the only one besides .text, or else .text; of several the one
+that has the function of --entry.
 Example: --section xdp";
 
 /// `--entry`.

@@ -1,8 +1,9 @@
 -- The program that a section asks for of an object: which one it is, as `link` takes such options, and the table of its lines.
-use Rattle.std.specs.Prelude.{ℕ, ◌≡◌, Bool, true, false, List, [], codes, Option, Some, None, unwrap_or}
+use Rattle.std.specs.Prelude.{ℕ, ◌≡◌, Bool, true, false, List, [], codes, Option, Some, None}
 use Rattle.bpf_lines.specs.Objects.{AreProgramLines, program_table}
 use Rattle.bpf_lines.specs.declared.objects.LinesFault.{LinesFault}
 use Rattle.bpf_lines.specs.declared.objects.ObjectLines.{ObjectLines}
+use Rattle.bpf_link.specs.Homes.{home_of}
 use Rattle.bpf_link.specs.Names.{fault_names}
 use Rattle.bpf_load.specs.Targets.{contents, texts}
 use Rattle.bpf_load.specs.declared.loading.LinkedObject.{LinkedObject}
@@ -10,13 +11,17 @@ use Rattle.bpf_load.specs.declared.target.Target.{Target}
 use Rattle.suite_files.specs.Asks.{entry_in, turns_in}
 use Rattle.suite_files.specs.declared.asked.Asked.{Asked}
 
--- A name, empty where there is none.
-abbrev pub name_of : Option (List ℕ) → List ℕ
-name_of text = unwrap_or text []
+-- The section that is named, or that in which the entry lies of an object with several.
+abbrev pub section_from : Option (List ℕ) → List ℕ → List ℕ
+section_from None home = home
+section_from (Some name) home = name
 
--- Which program is asked for, with these objects joined to its own.
-pub record IsTargetOf (asked : Asked) (others : List (List ℕ)) (target : Target) : Type 0 where
-  pub section : target.section.now ≡ name_of asked.section
+abbrev pub section_of : Asked → List ℕ → List ℕ
+section_of asked object = section_from asked.section (home_of object (entry_in (texts asked.entries.items)))
+
+-- Which program is asked for of an object, with these others joined to it.
+pub record IsTargetOf (asked : Asked) (object : List ℕ) (others : List (List ℕ)) (target : Target) : Type 0 where
+  pub section : target.section.now ≡ section_of asked object
   pub entry : target.entry.now ≡ entry_in (texts asked.entries.items)
   pub counts : texts target.counts.now ≡ []
   pub turns : texts target.turns.now ≡ turns_in (texts asked.entries.items)

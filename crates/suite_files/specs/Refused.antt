@@ -104,7 +104,7 @@ pub record HasNoProgram (bytes_at : List ℕ → Option (List ℕ)) (place : Pla
   pub with : List (List ℕ)
   pub others : ReadFirst bytes_at place asked.with.items (length asked.with.items) with
   pub target : Target
-  pub is_target : IsTargetOf asked with target
+  pub is_target : IsTargetOf asked object with target
   pub why : IsUnmade place.lines target object fault
 
 abbrev pub IsOthersFault : (List ℕ → Option (List ℕ)) → Place → List (List ℕ) → Asked → PutFault → Type 0

@@ -64,7 +64,7 @@ pub record IsAskedProgram (bytes_at : List ℕ → Option (List ℕ)) (place : P
   pub with : List (List ℕ)
   pub others : ReadFirst bytes_at place asked.with.items (length asked.with.items) with
   pub target : Target
-  pub is_target : IsTargetOf asked with target
+  pub is_target : IsTargetOf asked object with target
   pub loads : LinksTo target object made.loaded
   pub is_table : IsTableOf place.lines target made.loaded made.table.items
 

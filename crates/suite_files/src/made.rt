@@ -6,13 +6,13 @@ ghost use Rattle.bpf_load.specs.Faults.{name_of as fault_name};
 ghost use Rattle.bpf_load.specs.Targets.{LinksTo, contents, texts};
 ghost use Rattle.input_texts.specs.Turns.{has_place};
 ghost use Rattle.suite_files.specs.Asks.{entry_in, names_one, turns_in};
-ghost use Rattle.suite_files.specs.Links.{AreLines, IsTableOf, IsTargetOf, name_of, names_told, section_told};
+ghost use Rattle.suite_files.specs.Links.{AreLines, IsTableOf, IsTargetOf, names_told, section_of, section_told};
 ghost use Rattle.suite_files.specs.Refused.{HasNoTable, IsKept, IsUnmade, IsUntold};
 
 use crate::asked::Asked;
 use crate::fault::{KeptFault, PutFault};
 use bpf_lines::{LinesFault, ObjectLines, program_lines, write_table};
-use bpf_link::{LinkFault, fault_names};
+use bpf_link::{LinkFault, fault_names, home_of};
 use bpf_load::{LinkedObject, ObjectFault, SourceKind, Target, link_object};
 use bpf_packet::Packet;
 use counted_io::{Counted, WriteFault};
@@ -25,16 +25,6 @@ use std::alloc::{AllocError, Global};
 pub struct Made {
     pub loaded: LinkedObject,
     pub table: Vec<u8>,
-}
-
-/// A name, empty where there is none.
-fn name_of<'a>(text: &Option<Text<'a>>) -> &'a [u8]
-    ensures { result.now ≡ name_of text.now }
-{
-    match text {
-        Some(text) => text.bytes,
-        None => b"",
-    }
 }
 
 /// Whether none of some texts has a place of the context.
@@ -79,15 +69,26 @@ fn turns_in<'a>(entries: &'a [&'a str]) -> &'a [&'a str]
     if names_one(entries) { &[] } else { entries }
 }
 
-/// Which program a section asks for, with these objects joined to its own.
-pub fn target_of<'a>(asked: &'a Asked<'a>, with: &'a [Vec<u8>]) -> Target<'a>
-    ensures { IsTargetOf asked.now (contents with.now) result }
+/// The name of the section of an object that is asked for: the one that is named, or that in which the
+/// entry lies of one with several. Empty where neither is known.
+fn section_of<'a>(asked: &'a Asked<'a>, object: &'a [u8]) -> &'a [u8]
+    ensures { result.now ≡ section_of asked.now object.now }
+{
+    match &asked.section {
+        Some(name) => name.bytes,
+        None => home_of(object, entry_in(asked.entries.as_slice())),
+    }
+}
+
+/// Which program a section asks for of an object, with these others joined to it.
+pub fn target_of<'a>(asked: &'a Asked<'a>, object: &'a [u8], with: &'a [Vec<u8>]) -> Target<'a>
+    ensures { IsTargetOf asked.now object.now (contents with.now) result }
 {
     let entries = asked.entries.as_slice();
     Target {
         kind: SourceKind::Object,
         maps: None,
-        section: name_of(&asked.section),
+        section: section_of(asked, object),
         entry: entry_in(entries),
         counts: &[],
         turns: turns_in(entries),
