@@ -504,23 +504,24 @@ tells_maps() {
     shift 2
     : > script
     run diff "$@"
-    grep -e ' ends otherwise: ' -e '^[<>].* in [a-z]*\[0\]$' -e '^[<>] not written$' -e '^same ' found/out | sed 's/; [0-9]*: call 2;.* in / in /; s/^same for [0-9]* steps$/same steps/; s/^\([<>]\) -1 r0 = 0x0; /\1 /' > told
+    grep -e ' ends otherwise: ' -e '^[<>].* in [a-z]*\[[0-9]\]$' -e '^[<>] not written$' -e '^same ' found/out | sed 's/; [0-9]*: \(call 2\|stxdw\)[^;]*;.* in / in /; s/^same for [0-9]* steps$/same steps/; s/^\([<>]\) -1 \(r0 = 0x0; \)*/\1 /' > told
     mv told found/out
     compare "bpfdb diff $*"
 }
 
-# built NAME OPTION..: the object of tests/program/diff/maps.c that these options make.
+# built SOURCE NAME OPTION..: the object of tests/program/diff/SOURCE.c that these options make.
 built() {
-    name=$1
-    shift
-    "$compiler" -g -O2 -target bpf "$@" -c "$parts/diff/maps.c" -o "$name.o" 2> found/err || complain "$compiler: $name.o: $(cat found/err)"
+    source=$1
+    name=$2
+    shift 2
+    "$compiler" -g -O2 -target bpf "$@" -c "$parts/diff/$source.c" -o "$name.o" 2> found/err || complain "$compiler: $name.o: $(cat found/err)"
 }
 for compiler in $compilers; do
-    built old
-    built new -DSTORED=9
-    built more -DMORE
-    built unwritten -DUNWRITTEN
-    built turned -DTURNED
+    built maps old
+    built maps new -DSTORED=9
+    built maps more -DMORE
+    built maps unwritten -DUNWRITTEN
+    built maps turned -DTURNED
     tells_maps 0 'same steps\n' old.o old.o
     tells_maps 0 'same writes\n' --writes old.o old.o
     tells_maps 1 '0x300100000:1 ends otherwise: 0x7, 0x9\n< 0x300100000:8 = 0x7 in late[0]\n> 0x300100000:8 = 0x9 in late[0]\n' --writes old.o new.o
@@ -534,6 +535,15 @@ for compiler in $compilers; do
     # A map that one lacks, and the other doesn't write to, is nothing that it leaves.
     tells_maps 0 'same writes\n' --writes old.o unwritten.o
     tells_maps 0 'same writes\n' --writes unwritten.o old.o
+    # Data of another size, and the bytes that one of them lacks.
+    built data few
+    built data many -DMANY=8 -DLAST=9
+    built data wide -DMANY=8
+    tells_maps 1 '0x300000038:1 ends otherwise: none, 0x9\n< not written\n> 0x300000038:8 = 0x9 in counted[7]\n' --writes few.o many.o
+    tells_maps 1 '0x300000038:1 ends otherwise: 0x9, none\n> not written\n< 0x300000038:8 = 0x9 in counted[7]\n' --writes many.o few.o
+    tells_maps 0 'same writes\n' --writes few.o wide.o
+    tells_maps 0 'same writes\n' --writes wide.o few.o
+    tells_maps 0 'same steps\n' few.o wide.o
     # What is wrong with OTHER is told as OTHER's.
     head -c 100 old.o > cut.o
     refused 'refused E6: malformed section table (the other run)' diff old.o cut.o

@@ -23,7 +23,7 @@ use Rattle.bpf_trace.specs.Runs.{steps_of}
 use Rattle.bpf_trace.proofs.Stepping.{Steps-none, drop_steps, next-program, none_ended, none_left, one_more_step, whole_run}
 use Rattle.bpf_diff.specs.Differences.{side}
 use Rattle.bpf_diff.specs.Outputs.{last_write, later, writer_line}
-use Rattle.bpf_diff.specs.Seen.{ends_otherwise, map_places, more_maps, word_places, words_from}
+use Rattle.bpf_diff.specs.Seen.{ends_otherwise, longer, longest, map_places, word_places, words_from}
 use Rattle.bpf_diff.specs.declared.seen.Sides.{Sides}
 
 -- the first of some places, place by place
@@ -133,9 +133,31 @@ pub words-whole : (s : Sides) (n : ℕ) → n ≡ max (length s.first.now.trace)
     → among_words s 0 n ≡ find (test_of s) (word_places s.first.now s.second.now)
 words-whole s n e = ap (λ (m : ℕ). among_words s 0 m) e
 
-pub maps-whole : (s : Sides) (ms : List MapShape) → ms ≡ more_maps s.first.now s.second.now
-    → among_maps s 0 ms ≡ find (test_of s) (map_places 0 (more_maps s.first.now s.second.now))
-maps-whole s ms e = ap (λ (xs : List MapShape). among_maps s 0 xs) e
+-- the maps of two programs
+pub longest-len : (xs ys : List MapShape) → length (longest xs ys) ≡ max (length xs) (length ys)
+longest-len [] ys = omega arith
+longest-len (x ∷ xs) [] = omega arith
+longest-len (x ∷ xs) (y ∷ ys) = let rest = longest-len xs ys in omega (arith, rest)
+
+abbrev pub longer_of : Option MapShape → Option MapShape → Option MapShape
+longer_of None other = other
+longer_of (Some shape) None = Some shape
+longer_of (Some shape) (Some other) = Some (longer shape other)
+
+pub longest-at : (xs ys : List MapShape) (i : ℕ) → slice_get (longest xs ys) i ≡ longer_of (slice_get xs i) (slice_get ys i)
+longest-at [] ys i = refl
+longest-at (x ∷ xs) [] zero = refl
+longest-at (x ∷ xs) [] (suc i) = sym (alone (slice_get xs i))
+  where
+    alone : (o : Option MapShape) → longer_of o None ≡ o
+    alone None = refl
+    alone (Some shape) = refl
+longest-at (x ∷ xs) (y ∷ ys) zero = refl
+longest-at (x ∷ xs) (y ∷ ys) (suc i) = longest-at xs ys i
+
+pub longest-of : (xs ys : List MapShape) (i : ℕ) (a b : Option MapShape) → a ≡ slice_get xs i → b ≡ slice_get ys i → slice_get (longest xs ys) i ≡ longer_of a b
+longest-of xs ys i a b e f =
+    longest-at xs ys i ∙ ap (λ (o : Option MapShape). longer_of o (slice_get ys i)) (sym e) ∙ ap (longer_of a) (sym f)
 
 -- the last of some steps, k of which were taken
 abbrev pub behind : ℕ → ℕ → ℕ → ℕ

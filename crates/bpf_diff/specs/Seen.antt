@@ -34,8 +34,8 @@ unfoldable pub ends_otherwise : List ℕ → List ℕ → State → State → Pl
 ends_otherwise c d x y p = not (same_value (seen x p) (seen y p))
     && not (same_value (seen x p) (given c x p) && same_value (seen y p) (given d y p))
 
--- The places that are seen, in their order: the longer context, the maps from map i on, of the program that has more of them, the traced words from
--- word i on.
+-- The places that are seen, in their order: the longer context, the maps from map i on, of two with one number the one with more bytes, the traced
+-- words from word i on.
 abbrev pub context_places : List ℕ → List ℕ → List Place
 context_places c d = bytes_from context_base (max (length c) (length d))
 
@@ -43,8 +43,16 @@ unfoldable pub map_places : ℕ → List MapShape → List Place
 map_places i [] = []
 map_places i (shape ∷ shapes) = bytes_from (map_address i) (map_len shape) ++ map_places (suc i) shapes
 
-abbrev pub more_maps : State → State → List MapShape
-more_maps x y = if nat_lt (length x.program.maps) (length y.program.maps) then y.program.maps else x.program.maps
+abbrev pub longer : MapShape → MapShape → MapShape
+longer shape other = if nat_lt (map_len shape) (map_len other) then other else shape
+
+abbrev pub longest : List MapShape → List MapShape → List MapShape
+longest [] others = others
+longest (shape ∷ shapes) [] = shape ∷ shapes
+longest (shape ∷ shapes) (other ∷ others) = longer shape other ∷ longest shapes others
+
+abbrev pub longest_maps : State → State → List MapShape
+longest_maps x y = longest x.program.maps y.program.maps
 
 unfoldable pub words_from : ℕ → ℕ → List Place
 words_from i zero = []
@@ -70,5 +78,5 @@ result_otherwise x y =
 abbrev pub first_place : List ℕ → List ℕ → State → State → Option Place
 first_place c d x y =
     option_or (find (ends_otherwise c d x y) (context_places c d))
-    (option_or (find (ends_otherwise c d x y) (map_places 0 (more_maps x y)))
+    (option_or (find (ends_otherwise c d x y) (map_places 0 (longest_maps x y)))
     (option_or (find (ends_otherwise c d x y) (word_places x y)) (result_otherwise x y)))

@@ -5,7 +5,7 @@ ghost use Rattle.bpf_steps.specs.Platform.{map_address};
 ghost use Rattle.bpf_steps.specs.Regions.{map_len};
 ghost use Rattle.bpf_origin.specs.Places.{bytes_from};
 ghost use Rattle.bpf_diff.specs.Seen as spec;
-ghost use Rattle.bpf_diff.specs.Seen.{context_places, ends_otherwise, map_places, more_maps, result_otherwise, word_places};
+ghost use Rattle.bpf_diff.specs.Seen.{context_places, ends_otherwise, longer, longest, longest_maps, map_places, result_otherwise, word_places};
 
 use bpf_isa::{MapShape, MapTable};
 use bpf_machine::{Cpu, Status};
@@ -48,7 +48,7 @@ pub fn first_place<'a>(
 fn first_behind_contexts(sides: &Sides<'_>) -> Option<Place>
     ensures { result ≡ option_or (find (ends_otherwise sides.now.context.now
         sides.now.other.now sides.now.first.now sides.now.second.now)
-        (map_places 0 (more_maps sides.now.first.now sides.now.second.now)))
+        (map_places 0 (longest_maps sides.now.first.now sides.now.second.now)))
         (option_or (find (ends_otherwise sides.now.context.now
         sides.now.other.now sides.now.first.now sides.now.second.now)
         (word_places sides.now.first.now sides.now.second.now))
@@ -73,15 +73,16 @@ fn first_of_contexts(sides: &Sides<'_>) -> Option<Place>
     first_of_bytes(sides, CONTEXT_BASE, len)
 }
 
-/// The first byte of a map, of the program that has more of them.
+/// The first byte of a map, of two with one number that with more bytes.
 fn first_of_maps(sides: &Sides<'_>) -> Option<Place>
     ensures { result ≡ find (ends_otherwise sides.now.context.now
         sides.now.other.now sides.now.first.now sides.now.second.now)
-        (map_places 0 (more_maps sides.now.first.now sides.now.second.now)) }
+        (map_places 0 (longest_maps sides.now.first.now sides.now.second.now)) }
 {
-    let maps = more_maps(sides);
-    for i in 0..maps.len() {
-        match first_of_map(sides, i, shape_at(maps, i)) {
+    let one = sides.first.program().maps();
+    let other = sides.second.program().maps();
+    for i in 0..greater(one.len(), other.len()) {
+        match first_of_map(sides, i, longest_at(one, other, i)) {
             Some(place) => return Some(place),
             None => {}
         }
@@ -89,24 +90,35 @@ fn first_of_maps(sides: &Sides<'_>) -> Option<Place>
     None
 }
 
-/// The maps of the program that has more of them.
-fn more_maps<'a>(sides: &Sides<'a>) -> &'a MapTable
-    ensures { result.now ≡ more_maps sides.now.first.now sides.now.second.now }
+/// The map with a number, of two with this number that with more bytes.
+fn longest_at(maps: &MapTable, others: &MapTable, number: usize) -> MapShape
+    requires { number < max (length maps.now) (length others.now) }
+    ensures { slice_get (longest maps.now others.now) number ≡ Some result }
 {
-    let one = sides.first.program().maps();
-    let other = sides.second.program().maps();
-    if one.len() < other.len() { other } else { one }
+    match (maps.shape(number), others.shape(number)) {
+        (Some(shape), Some(other)) => longer(shape, other),
+        (Some(shape), None) => shape,
+        (None, Some(other)) => other,
+        (None, None) => unreachable!(),
+    }
 }
 
-/// The shape of the map with a number.
-fn shape_at(maps: &MapTable, map: usize) -> MapShape
-    requires { map < length maps.now }
-    ensures { slice_get maps.now map ≡ Some result }
+/// Of two maps that with more bytes.
+fn longer(shape: MapShape, other: MapShape) -> MapShape
+    ensures { result ≡ longer shape other }
 {
-    match maps.shape(map) {
-        Some(shape) => shape,
-        None => unreachable!(),
+    if len_of(shape) < len_of(other) {
+        other
+    } else {
+        shape
     }
+}
+
+/// How many bytes a map has.
+fn len_of(shape: MapShape) -> u64
+    ensures { result ≡ map_len shape }
+{
+    u64::from(shape.value_size) * u64::from(shape.entries)
 }
 
 /// The first byte of the map with a number and a shape.
@@ -117,8 +129,7 @@ fn first_of_map(sides: &Sides<'_>, map: usize, shape: MapShape) -> Option<Place>
         (bytes_from (map_address map) (map_len shape)) }
 {
     let address = MAP_BASE + MAP_STRIDE * map as u64;
-    let len = u64::from(shape.value_size) * u64::from(shape.entries);
-    first_of_bytes(sides, address, len as usize)
+    first_of_bytes(sides, address, len_of(shape) as usize)
 }
 
 /// The first of so many bytes from an address on.

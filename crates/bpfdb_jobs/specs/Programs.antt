@@ -48,10 +48,10 @@ map_rows loaded = built (with_row loaded) (length loaded.program.maps)
 abbrev pub program_text : Loaded → List ℕ
 program_text loaded = check_line loaded.program ++ map_rows loaded
 
--- No map of one program is another one, by its shape or its name, than that of its number in the second; or this is the first number of such a map. Each
+-- No map of one program is another one, by the size of its values or its name, than that of its number in the second; or this is the first number of such a map. Each
 -- has at most 16, and one that the other program lacks is no other one.
 abbrev pub are_same : Option MapShape → Option MapShape → Bool → Bool
-are_same (Some one) (Some another) named = one.value_size == another.value_size && (one.entries == another.entries && named)
+are_same (Some one) (Some another) named = one.value_size == another.value_size && named
 are_same one another named = true
 
 abbrev pub same_map : Loaded → Loaded → ℕ → Bool

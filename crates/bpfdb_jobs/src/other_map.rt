@@ -7,8 +7,8 @@ use crate::diff::Side;
 use crate::load::name_in;
 use bpf_isa::{MOST_MAPS, MapShape};
 
-/// The first number of which two programs have another map each, by its name or its shape, if there is
-/// one.
+/// The first number of which two programs have another map each, by its name or the size of its
+/// values, if there is one.
 pub(crate) fn other_map(first: &Side<'_>, second: &Side<'_>) -> Option<usize>
     ensures some { IfSome result (IsOtherMap (loaded_of first.now.cpu.program (lent first.now.object))
         (loaded_of second.now.cpu.program (lent second.now.object))) }
@@ -39,9 +39,7 @@ fn are_same(one: Option<MapShape>, another: Option<MapShape>, named: bool) -> bo
     ensures { result ≡ are_same one another named }
 {
     match (one, another) {
-        (Some(one), Some(another)) => {
-            one.value_size == another.value_size && one.entries == another.entries && named
-        }
+        (Some(one), Some(another)) => one.value_size == another.value_size && named,
         _ => true,
     }
 }
