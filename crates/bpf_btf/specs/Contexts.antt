@@ -1,5 +1,5 @@
 -- The struct by which the kernel gives a program its packet, as the type of the program's first parameter tells it.
-use Rattle.std.specs.Prelude.{ℕ, ◌+◌, ◌==◌, nat_le, nat_lt, Bool, false, ◌&&◌, ◌||◌, if◌then◌else◌, List, Option, Some, None, length, codes}
+use Rattle.std.specs.Prelude.{ℕ, ◌+◌, ◌==◌, nat_le, nat_lt, Bool, false, ◌&&◌, if◌then◌else◌, List, Option, Some, None, length, codes}
 use Rattle.bpf_isa.specs.Words.{u32_at}
 use Rattle.bpf_btf.specs.Layout.{is_called}
 use Rattle.bpf_btf.specs.Maps.{last_below, member_at, member_of, pointed}
@@ -22,11 +22,11 @@ first_parameter types id =
     let entry = type_of types id in
     if (entry.kind == 13) && nat_lt 0 entry.count then u32_at types.bytes (start_of types id + 16) else 0
 
--- The two structs of packets, STRUCT, 4.
-abbrev pub is_packet : Types → ℕ → Bool
-is_packet types id =
+-- The struct of a name, STRUCT, 4.
+abbrev pub is_struct : Types → List ℕ → ℕ → Bool
+is_struct types of id =
     let entry = type_of types id in
-    (entry.kind == 4) && (is_called types.strings entry.name (codes "xdp_md") || is_called types.strings entry.name (codes "__sk_buff"))
+    (entry.kind == 4) && is_called types.strings entry.name of
 
 -- A type of 4 bytes, and a member that has one.
 abbrev pub has_four : Option ℕ → Bool
@@ -37,18 +37,18 @@ abbrev pub is_narrow : Types → ℕ → Option ℕ → Bool
 is_narrow types definition None = false
 is_narrow types definition (Some i) = has_four (size_of types (member_at types definition i).of)
 
--- The kernel's own have a member `data` of 32 bits.
-abbrev pub is_kernels : Types → ℕ → Bool
-is_kernels types id = is_packet types id && is_narrow types id (member_of types id (codes "data"))
+-- The kernel's own structs of packets have a member `data` of 32 bits.
+abbrev pub is_kernels : Types → List ℕ → ℕ → Bool
+is_kernels types of id = is_struct types of id && is_narrow types id (member_of types id (codes "data"))
 
-abbrev pub points_to_kernels : Types → Option ℕ → Bool
-points_to_kernels types None = false
-points_to_kernels types (Some id) = is_kernels types (resolved types id)
+abbrev pub points_to : Types → List ℕ → Option ℕ → Bool
+points_to types of None = false
+points_to types of (Some id) = is_kernels types of (resolved types id)
 
-abbrev pub function_takes : Types → Option ℕ → Bool
-function_takes types None = false
-function_takes types (Some i) = points_to_kernels types (pointed types (first_parameter types (type_of types (i + 1)).of))
+abbrev pub function_takes : Types → List ℕ → Option ℕ → Bool
+function_takes types of None = false
+function_takes types of (Some i) = points_to types of (pointed types (first_parameter types (type_of types (i + 1)).of))
 
--- The function of a name, of at most 255 bytes, takes one of them.
-abbrev pub takes_kernels : Types → List ℕ → Bool
-takes_kernels types name = nat_le (length name) 255 && function_takes types (function_of types name)
+-- The function of a name, of at most 255 bytes, takes the one that is called so.
+abbrev pub takes : Types → List ℕ → List ℕ → Bool
+takes types of name = nat_le (length name) 255 && function_takes types of (function_of types name)

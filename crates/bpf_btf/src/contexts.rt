@@ -1,6 +1,6 @@
 //! The struct by which the kernel gives a program its packet.
 ghost use Rattle.std.specs.Prelude.{◌≡◌, ◌≤◌, ◌<◌, ◌+◌, IfSome};
-ghost use Rattle.bpf_btf.specs.Contexts.{first_parameter, function_of, function_takes, has_four, is_function, is_kernels, is_narrow, is_packet, points_to_kernels, takes_kernels};
+ghost use Rattle.bpf_btf.specs.Contexts.{first_parameter, function_of, function_takes, has_four, is_function, is_kernels, is_narrow, is_struct, points_to, takes};
 
 use crate::members::{latest, member_of, pointed};
 use crate::section::Btf;
@@ -41,13 +41,12 @@ fn first_parameter(btf: &Btf<'_>, id: usize) -> usize
     }
 }
 
-/// Whether a type is a struct of packets.
-fn is_packet(btf: &Btf<'_>, id: usize) -> bool
-    ensures { result ≡ is_packet btf.now id }
+/// Whether a type is the struct of a name.
+fn is_struct(btf: &Btf<'_>, of: &[u8], id: usize) -> bool
+    ensures { result ≡ is_struct btf.now of.now id }
 {
     let entry = btf.type_of(id);
-    entry.kind == 4
-        && (btf.is_called(entry.name, b"xdp_md") || btf.is_called(entry.name, b"__sk_buff"))
+    entry.kind == 4 && btf.is_called(entry.name, of)
 }
 
 /// Whether a type has four bytes.
@@ -71,40 +70,40 @@ fn is_narrow(btf: &Btf<'_>, definition: usize, member: Option<usize>) -> bool
     }
 }
 
-/// Whether a type is the kernel's own struct of packets.
-fn is_kernels(btf: &Btf<'_>, id: usize) -> bool
-    ensures { result ≡ is_kernels btf.now id }
+/// Whether a type is the kernel's own struct of packets of a name.
+fn is_kernels(btf: &Btf<'_>, of: &[u8], id: usize) -> bool
+    ensures { result ≡ is_kernels btf.now of.now id }
 {
-    is_packet(btf, id) && is_narrow(btf, id, member_of(btf, id, b"data"))
+    is_struct(btf, of, id) && is_narrow(btf, id, member_of(btf, id, b"data"))
 }
 
 /// Whether what a pointer points to is that struct.
-fn points_to_kernels(btf: &Btf<'_>, target: Option<usize>) -> bool
-    ensures { result ≡ points_to_kernels btf.now target }
+fn points_to(btf: &Btf<'_>, of: &[u8], target: Option<usize>) -> bool
+    ensures { result ≡ points_to btf.now of.now target }
 {
     match target {
-        Some(id) => is_kernels(btf, resolved(btf, id)),
+        Some(id) => is_kernels(btf, of, resolved(btf, id)),
         None => false,
     }
 }
 
 /// Whether a function takes that struct.
-fn function_takes(btf: &Btf<'_>, function: Option<usize>) -> bool
+fn function_takes(btf: &Btf<'_>, of: &[u8], function: Option<usize>) -> bool
     requires { IfSome function (λ i. i < 18446744073709551615) }
-    ensures { result ≡ function_takes btf.now function }
+    ensures { result ≡ function_takes btf.now of.now function }
 {
     match function {
         Some(i) => {
             let proto = btf.type_of(i + 1).of as usize;
-            points_to_kernels(btf, pointed(btf, first_parameter(btf, proto)))
+            points_to(btf, of, pointed(btf, first_parameter(btf, proto)))
         }
         None => false,
     }
 }
 
 /// Whether the function of a name takes that struct.
-pub fn takes_kernels(btf: &Btf<'_>, name: &[u8]) -> bool
-    ensures { result ≡ takes_kernels btf.now name.now }
+pub fn takes(btf: &Btf<'_>, of: &[u8], name: &[u8]) -> bool
+    ensures { result ≡ takes btf.now of.now name.now }
 {
-    name.len() <= LONGEST_NAME && function_takes(btf, function_of(btf, name))
+    name.len() <= LONGEST_NAME && function_takes(btf, of, function_of(btf, name))
 }

@@ -1,7 +1,7 @@
 //! A section `.BTF` that was read.
 ghost use Rattle.std.specs.Prelude.{◌≡◌, ◌≤◌, ◌<◌, ◌+◌, IfOk, IfErr, IfSome, length, Ok, Err, slice_index_or};
 ghost use Rattle.bpf_btf.specs.Layout.{array_entry, btf_header, is_called, member_entry};
-ghost use Rattle.bpf_btf.specs.Contexts.{takes_kernels};
+ghost use Rattle.bpf_btf.specs.Contexts.{takes};
 ghost use Rattle.bpf_btf.specs.CoreRelocations.{AreRelocations, IsExtFault};
 ghost use Rattle.bpf_btf.specs.Maps.{map_description, map_shape, member_at, value_type, variable_at, variable_of};
 ghost use Rattle.bpf_btf.specs.Sizes.{size_of};
@@ -11,7 +11,7 @@ ghost use Rattle.bpf_btf.specs.Sections.{header_of, types_in, strings_in, IsRead
 ghost use Rattle.bpf_btf.specs.Types.{start_of, type_of, AreTypes, HasBadType};
 ghost use Rattle.bpf_btf.specs.declared.fault.BtfFault.TheVariants.{Memory};
 
-use crate::contexts::takes_kernels;
+use crate::contexts::takes;
 use crate::core_relocations::{CoreRelocations, relocations_of};
 use crate::fault::BtfFault;
 use crate::fields::{is_called, u32_at};
@@ -155,15 +155,16 @@ impl<'a> Btf<'a> {
         relocations_of(self.strings, ext, name)
     }
 
-    /// Whether the function of a name takes the kernel's own struct of a packet: whether its first
-    /// parameter is a pointer to a struct `xdp_md` or `__sk_buff` whose member `data` has 4 bytes.
+    /// Whether the function of a name takes the kernel's own struct of a packet that is called `of`,
+    /// `xdp_md` or `__sk_buff`: whether its first parameter is a pointer to one whose member `data`
+    /// has 4 bytes.
     ///
     /// The last function of the name counts; one of a name of more than 255 bytes takes none. Takes
     /// time in proportion to the length of the section.
-    pub fn takes_kernels(&self, name: &[u8]) -> bool
-        ensures { result ≡ takes_kernels self.now name.now }
+    pub fn takes(&self, of: &[u8], name: &[u8]) -> bool
+        ensures { result ≡ takes self.now of.now name.now }
     {
-        takes_kernels(self, name)
+        takes(self, of, name)
     }
 
     /// The type of the values of the map of a name: what the member `value` of its definition points

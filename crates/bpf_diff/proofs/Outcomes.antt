@@ -3,7 +3,9 @@ use Rattle.std.proofs.Common.{◌≡◌, ℕ, false, List, ◌++◌, codes, appe
 use Rattle.std.specs.Prelude.{◌&&◌, is_none}
 use Rattle.bpf_entries.specs.Status.{has_ended}
 use Rattle.bpf_steps.specs.Runs.{Advances}
-use Rattle.bpf_steps.specs.State.{State, initial}
+use Rattle.bpf_steps.specs.State.{State}
+use Rattle.bpf_diff.specs.Starts.{Starts, begun_by}
+use Rattle.bpf_diff.specs.declared.start.Start.{Start}
 use Rattle.bpf_origin.specs.declared.place.Place.{Place}
 use Rattle.bpf_session.specs.Plain.{plain_end}
 use Rattle.bpf_trace.specs.Runs.{steps_of}
@@ -26,8 +28,8 @@ unfolding place_line
 line-is p v w = six (place_text p) (codes " ends otherwise: ") (value_text v) (codes ", ") (value_text w) (codes "\n")
 
 -- a machine that was opened again stands where it began
-pub again : (limit n : ℕ) (context : List ℕ) (x z : State) → x ≡ initial x.program context → Advances limit x z n → initial z.program context ≡ x
-again limit n context x z start run = ap (λ p. initial p context) (Steps-program x z n run.steps) ∙ sym start
+pub again : (limit n : ℕ) (at : Start) (x z : State) → Starts at x → Advances limit x z n → begun_by at z.program ≡ x
+again limit n at x z starts run = ap (begun_by at) (Steps-program x z n run.steps) ∙ sym starts
 
 module _ (limit n m : ℕ) (x y z w : State) (first : Advances limit x z n) (second : Advances limit y w m) where
   -- two runs that ended so

@@ -9,3 +9,4 @@ pub mod Laws
 pub mod Writers
 pub mod Against
 pub mod Noted
+pub mod Starts

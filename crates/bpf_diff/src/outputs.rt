@@ -2,13 +2,13 @@
 ghost use Rattle.std.specs.Prelude.{◌≡◌, ◌≤◌, ◌&&◌, ◌++◌, IfErr, IfOk, None, codes, false};
 ghost use Rattle.bpf_entries.specs.Status.{has_ended};
 ghost use Rattle.bpf_session.specs.Plain.{plain_end};
-ghost use Rattle.bpf_steps.specs.State.{initial};
 ghost use Rattle.bpf_trace.specs.Runs.{steps_of};
 ghost use Rattle.bpf_trace.specs.Traces.{end_line};
 ghost use Rattle.bpf_diff.specs.Differences.{ends_text};
 ghost use Rattle.bpf_diff.specs.Ends.{same_status as same_status_of};
 ghost use Rattle.bpf_diff.specs.Outputs as spec;
 ghost use Rattle.bpf_diff.specs.Outputs.{writer_line};
+ghost use Rattle.bpf_diff.specs.Starts.{Starts};
 ghost use Rattle.bpf_diff.specs.Values.{Finds, by_writes};
 ghost use Rattle.counted_io.specs.Writing.{WritesAfter};
 
@@ -16,6 +16,7 @@ use crate::diff::Compared;
 use crate::end::same_status;
 use crate::lines::put_ends;
 use crate::seen::{first_place, seen};
+use crate::start::Start;
 use crate::values::value_left;
 use crate::writer::{find_writer, put_writer};
 use bpf_machine::Cpu;
@@ -33,7 +34,7 @@ struct Difference {
     writers: (u64, u64),
 }
 
-/// Runs two machines, which were opened on these contexts, each to its end or to a limit of steps, and
+/// Runs two machines, which stand where they were opened so, each to its end or to a limit of steps, and
 /// writes the first place that is seen from outside at which they ended otherwise, which step of each
 /// wrote it last, and how they ended. If memory runs out, nothing is written.
 ///
@@ -44,30 +45,30 @@ pub fn put_writes<W: Write>(
     so_far: Result<(), WriteFault>,
     first: &mut Cpu,
     second: &mut Cpu,
-    context: &[u8],
-    other: &[u8],
+    start: &Start<'_>,
+    other: &Start<'_>,
     limit: u64,
 ) -> Result<Compared, AllocError>
-    requires first { first.old ≡ initial first.old.program context.now }
-    requires second { second.old ≡ initial second.old.program other.now }
+    requires first { Starts start.now first.old }
+    requires second { Starts other.now second.old }
     ensures text { IfOk result (λ compared. WritesAfter W.contents writer.old so_far writer.new
         compared.written
-        (by_writes limit context.now other.now first.old second.old).text) }
+        (by_writes limit start.now.context.now other.now.context.now first.old second.old).text) }
     ensures finds { IfOk result (λ compared. Finds compared
-        (by_writes limit context.now other.now first.old second.old)) }
+        (by_writes limit start.now.context.now other.now.context.now first.old second.old)) }
     ensures programs { IfOk result (λ compared. (first.new.program ≡ first.old.program)
         × (second.new.program ≡ second.old.program)) }
     ensures err { IfErr result (λ fault. writer.new ≡ writer.old) }
 {
     let _one = first.run(limit);
     let _another = second.run(limit);
-    let place = match first_place(first, second, context, other) {
+    let place = match first_place(first, second, start.context, other.context) {
         Some(place) => place,
         None => return Ok(put_same(writer, so_far, first, second, limit)),
     };
     let value = seen(first, place);
     let other_value = seen(second, place);
-    let one = match find_writer(alloc, first, context, place, limit) {
+    let one = match find_writer(alloc, first, start, place, limit) {
         Ok(number) => number,
         Err(fault) => return Err(fault),
     };

@@ -4,55 +4,58 @@ ghost use Rattle.std.specs.List.{list_any};
 ghost use Rattle.bpf_steps.specs.Entries.{step_entry};
 ghost use Rattle.bpf_steps.specs.Next.{next};
 ghost use Rattle.bpf_steps.specs.Runs.{Advances};
-ghost use Rattle.bpf_steps.specs.State.{State, initial};
+ghost use Rattle.bpf_steps.specs.State.{State};
 ghost use Rattle.bpf_origin.specs.Places.{has};
 ghost use Rattle.bpf_origin.specs.Writes.{writes};
 ghost use Rattle.bpf_trace.specs.Runs.{steps_of};
 ghost use Rattle.bpf_trace.specs.Taken.{Took};
 ghost use Rattle.bpf_diff.specs.Following.{part_of, parts_of};
+ghost use Rattle.bpf_diff.specs.Starts.{begun_by};
 ghost use Rattle.bpf_diff.specs.Outputs.{last_write as last_write_of, writer_line};
 ghost use Rattle.counted_io.specs.Writing.{WritesAfter};
 
 use crate::follow::take_step;
 use crate::parting::put_rest;
+use crate::start::Start;
 use crate::wrote::{Piece, Wrote, depth_in, wrote_by};
 use bpf_machine::Cpu;
+use bpf_opening::reopen;
 use bpf_origin::Place;
 use bpf_trace::Taken;
 use counted_io::{Counted, WriteFault, put};
 use std::alloc::{AllocError, Global};
 use std::io::Write;
 
-/// The number of the last step that writes a place, of a run on a context with the program of a
+/// The number of the last step that writes a place, of a run that begins so with the program of a
 /// machine, which then stands before its first step; 0 where none does.
 pub fn find_writer(
     alloc: Global,
     cpu: &mut Cpu,
-    context: &[u8],
+    start: &Start<'_>,
     place: Place,
     limit: u64,
 ) -> Result<u64, AllocError>
-    ensures start { IfOk result (λ number. cpu.new ≡ initial cpu.old.program context.now) }
+    ensures start { IfOk result (λ number. cpu.new ≡ begun_by start.now cpu.old.program) }
     ensures value { IfOk result (λ number. number
-        ≡ last_write_of place (steps_of limit (initial cpu.old.program context.now))) }
+        ≡ last_write_of place (steps_of limit (begun_by start.now cpu.old.program))) }
     ensures within { IfOk result (λ number. number ≤ limit) }
 {
-    match start(alloc, cpu, context) {
+    match open_again(alloc, cpu, start) {
         Ok(()) => {}
         Err(fault) => return Err(fault),
     }
     let number = last_write(cpu, place, limit);
-    match start(alloc, cpu, context) {
+    match open_again(alloc, cpu, start) {
         Ok(()) => Ok(number),
         Err(why) => Err(why),
     }
 }
 
 /// Opens a machine again.
-fn start(alloc: Global, cpu: &mut Cpu, context: &[u8]) -> Result<(), AllocError>
-    ensures { IfOk result (λ done. cpu.new ≡ initial cpu.old.program context.now) }
+fn open_again(alloc: Global, cpu: &mut Cpu, start: &Start<'_>) -> Result<(), AllocError>
+    ensures { IfOk result (λ done. cpu.new ≡ begun_by start.now cpu.old.program) }
 {
-    match cpu.reopen(alloc, context) {
+    match reopen(alloc, cpu, start.context, start.opening) {
         Ok(()) => Ok(()),
         Err(_) => Err(AllocError),
     }

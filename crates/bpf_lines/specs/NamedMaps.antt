@@ -21,6 +21,7 @@ use Rattle.bpf_lines.specs.Globals.{global_at}
 use Rattle.bpf_lines.specs.Spots.{index_text, path_text, rest_text}
 use Rattle.bpf_lines.specs.declared.globals.Global.{Global}
 use Rattle.bpf_lines.specs.declared.named_maps.NamedMap.{NamedMap}
+use Rattle.bpf_packet.specs.declared.packet.Packet.{Packet}
 use Rattle.bpf_lines.specs.declared.place_names.Names.{Names}
 use Rattle.bpf_lines.specs.declared.place_names.Located.{Located}
 
@@ -73,12 +74,13 @@ AreTypesOf bytes types =
     IsRead bytes types ⊎ ((fault : BtfFault) × (fault ≢ btf.Memory) × IsReadFault bytes fault × IsRead no_types types)
 
 -- What is known of the names of a section's program, which has so many maps of its own, and maps of these shapes, whose names stand there.
-pub record AreNames (object section : List ℕ) (own : ℕ) (shapes : List MapShape) (places : List ℕ) (names : Names) : Type 0 where
+pub record AreNames (object section : List ℕ) (own : ℕ) (shapes : List MapShape) (places : List ℕ) (packet : Option Packet) (names : Names) : Type 0 where
   pub plans : planned object section ≡ Ok names.plan
   pub sections : List ℕ
   pub referred : data_of names.plan ≡ Ok sections
   pub types : AreTypesOf (types_bytes names.plan.object (types_found names.plan.object)) names.types
   pub maps : names.maps.items ≡ named_maps names.plan names.types own sections shapes places
+  pub given : names.packet ≡ packet
 
 -- Why nothing is known of them: the section isn't linked, or memory ran out.
 abbrev pub IsNamesRefusal : List ℕ → List ℕ → LinkFault → Type 0

@@ -7,8 +7,8 @@ use Rattle.counted_io.specs.Lines.{lines, onto_line}
 use Rattle.counted_io.specs.Numerals.{as_u64, natural}
 use Rattle.bpf_isa.specs.Checker.{most_slots}
 use Rattle.bpf_link.specs.Parts.{slots_in}
-use Rattle.bpf_link.specs.declared.plan.Plan.{Plan}
 use Rattle.bpf_lines.specs.NamedMaps.{located, name_text}
+use Rattle.bpf_lines.specs.Objects.{entry_slots}
 use Rattle.bpf_lines.specs.declared.place_names.Located.{Located}
 use Rattle.bpf_lines.specs.declared.place_names.Names.{Names}
 
@@ -51,10 +51,14 @@ told_in names line =
 abbrev pub told_slot : List ℕ → Option ℕ
 told_slot line = number (before 58 (after 32 (after 59 line)))
 
--- The stores that give variables their bytes at the start stand behind the program's code, which then begins at slot 1.
-abbrev pub is_setup : Plan → Option ℕ → Bool
-is_setup plan None = false
-is_setup plan (Some slot) = nat_lt (slots_in plan.parts.code + slots_in plan.parts.text) slot && nat_lt slot most_slots
+-- The stores that give variables their bytes at the start stand behind the program's code, which then begins at slot 1, or one behind the words that
+-- give it its packet.
+abbrev pub code_end : Names → ℕ
+code_end names = entry_slots names.packet + (slots_in names.plan.parts.code + slots_in names.plan.parts.text)
+
+abbrev pub is_setup : Names → Option ℕ → Bool
+is_setup names None = false
+is_setup names (Some slot) = nat_lt (code_end names) slot && nat_lt slot most_slots
 
 -- The name stands behind the line: as where bytes lie, or as what one of those stores gives its bytes.
 abbrev pub way_text : Bool → List ℕ
@@ -62,7 +66,7 @@ way_text setup = if setup then codes "; initial value of " else codes "; in "
 
 abbrev pub told_text : Names → List ℕ → Option Located → List ℕ
 told_text names line None = []
-told_text names line (Some at) = way_text (is_setup names.plan (told_slot line)) ++ name_text names at
+told_text names line (Some at) = way_text (is_setup names (told_slot line)) ++ name_text names at
 
 unfoldable pub named_line : Names → List ℕ → List ℕ
 named_line names line = line ++ told_text names line (told_in names line) ++ codes "\n"

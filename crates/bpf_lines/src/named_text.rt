@@ -4,9 +4,9 @@ ghost use Rattle.counted_io.specs.Lines.{lines};
 ghost use Rattle.counted_io.specs.Writing.{WritesAfter};
 ghost use Rattle.bpf_lines.specs.NamedTexts as spec;
 
+use crate::objects::entry_slots;
 use crate::place_names::{Located, Names, put_name};
 use bpf_isa::MOST_SLOTS;
-use bpf_link::Plan;
 use counted_io::{Counted, WriteFault, cut, natural, put, sides};
 use std::io::Write;
 
@@ -81,11 +81,12 @@ fn slot_in(line: &[u8]) -> Option<u64>
 }
 
 /// Whether a slot is of the stores that give variables their bytes at the start.
-fn is_setup(plan: &Plan<'_>, slot: Option<u64>) -> bool
-    ensures { result ≡ spec.is_setup plan.now slot }
+fn is_setup(names: &Names<'_>, slot: Option<u64>) -> bool
+    ensures { result ≡ spec.is_setup names.now slot }
 {
+    let end = entry_slots(names.packet) + names.plan.parts.len();
     match slot {
-        Some(slot) => slot > plan.parts.len() as u64 && slot < MOST_SLOTS as u64,
+        Some(slot) => slot > end as u64 && slot < MOST_SLOTS as u64,
         None => false,
     }
 }
@@ -115,7 +116,7 @@ fn put_told<W: Write>(
 {
     match told {
         Some(at) => {
-            let way = way_of(is_setup(&names.plan, slot_in(line)));
+            let way = way_of(is_setup(names, slot_in(line)));
             let parted = put(writer, so_far, way);
             put_name(writer, parted, names, at)
         }

@@ -226,7 +226,7 @@ fn is_all(all: &[ObjectLines<'_>], bytes: usize) -> bool
 }
 
 /// How many slots stand before a program that takes a packet by such a struct, which give it that.
-fn entry_slots(packet: Option<Packet>) -> usize
+pub(crate) fn entry_slots(packet: Option<Packet>) -> usize
     ensures value { result ≡ entry_slots packet }
     ensures few { result ≤ 26 }
 {

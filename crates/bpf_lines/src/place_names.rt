@@ -16,6 +16,7 @@ use arrayvec::ArrayVec;
 use bpf_btf::{Btf, BtfFault};
 use bpf_isa::{MOST_MAPS, MapShape};
 use bpf_link::{LinkFault, Plan, data_of, planned, short_at, types_in};
+use bpf_packet::Packet;
 use bpf_steps::platform::{MAP_BASE, MAP_STRIDE};
 use bpfdb_script::put_shown;
 use counted_io::{Counted, Piece, WriteFault, put_all};
@@ -34,6 +35,8 @@ pub struct Names<'a> {
     pub types: Btf<'a>,
     /// The maps, in the order of their numbers.
     pub maps: ArrayVec<NamedMap, MOST_MAPS>,
+    /// The kernel's struct that the program is given, by words before its own.
+    pub packet: Option<Packet>,
 }
 
 /// A byte of a map.
@@ -61,8 +64,8 @@ fn types_of(heap: Heap, bytes: &[u8]) -> Result<Btf<'_>, LinkFault>
 }
 
 /// What is known of the names of the maps of a program to which a section of an object was linked
-/// (named as for `link_with`): how many of them the object defines itself, the shapes of all, and
-/// where their names stand there, as `Linked` has them.
+/// (named as for `link_with`) for an entry that takes this struct: how many of them the object defines
+/// itself, the shapes of all, and where their names stand there, as `Linked` has them.
 ///
 /// Takes time in proportion to the length of the object.
 pub fn map_names<'a>(
@@ -72,10 +75,11 @@ pub fn map_names<'a>(
     own: usize,
     shapes: &[MapShape],
     places: &[usize],
+    packet: Option<Packet>,
 ) -> Result<Names<'a>, LinkFault>
     requires { length shapes.now ≤ most_maps }
     ensures ok { IfOk result (λ names.
-        spec.AreNames object.now section.now own shapes.now places.now names) }
+        spec.AreNames object.now section.now own shapes.now places.now packet names) }
     ensures err { IfErr result (spec.IsNamesRefusal object.now section.now) }
 {
     let plan = match planned(object, section) {
@@ -91,7 +95,12 @@ pub fn map_names<'a>(
         Err(fault) => return Err(fault),
     };
     let maps = named_maps(&plan, &types, own, sections.as_slice(), shapes, places);
-    Ok(Names { plan, types, maps })
+    Ok(Names {
+        plan,
+        types,
+        maps,
+        packet,
+    })
 }
 
 impl<'a> Names<'a> {

@@ -39,6 +39,11 @@ types_bytes object Nothing = []
 types_bytes object (Only i) = section_bytes object (section_at object i)
 types_bytes object Several = []
 
+-- Those of the only section of a name, where an object was opened.
+abbrev pub named_bytes : Result Elf LinkFault → List ℕ → List ℕ
+named_bytes (Ok object) name = types_bytes object (found_named object name)
+named_bytes (Err fault) name = []
+
 abbrev pub is_something : Found → Bool
 is_something Nothing = false
 is_something (Only i) = true

@@ -1,5 +1,5 @@
 -- The words of a program by what context its entry takes: the machine's, or a packet's struct of the kernel's.
-use Rattle.std.specs.Prelude.{◌≡◌, ◌⊎◌, ◌<◌, ◌≤◌, ℕ, ◌*◌, false, List, Option, Some, None, Result, Ok, Err, length}
+use Rattle.std.specs.Prelude.{◌≡◌, ◌⊎◌, ◌<◌, ◌≤◌, ℕ, ◌*◌, List, Option, Some, None, Result, Ok, Err, length}
 use Rattle.bpf_isa.specs.Checker.{most_slots}
 use Rattle.bpf_packet.specs.Packets.{IsOnPacket, IsPacketFault}
 use Rattle.bpf_packet.specs.declared.fault.PacketFault.{PacketFault}
@@ -36,7 +36,7 @@ IsPacketRefusal kind object name own fault =
 
 -- The words of a program: its own, whose entry doesn't take the kernel's own struct; or, where that is asked for, those that make the struct and go by it, if these are not too many.
 abbrev pub HasWords : Option Packet → List ℕ → List ℕ → List ℕ → List ℕ → List ℕ → Type 0
-HasWords None object name entry own words = (words ≡ own) × HasContext object name entry false
+HasWords None object name entry own words = (words ≡ own) × HasContext object name entry None
 HasWords (Some kind) object name entry own words = IsOnPacket kind own words × (length words ≤ 8 * most_slots)
 
 -- Why there are none.

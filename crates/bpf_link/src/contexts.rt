@@ -1,6 +1,6 @@
 //! Programs that the kernel gives a packet by a struct of its own.
-ghost use Rattle.std.specs.Prelude.{◌≡◌, ◌≤◌, ◌<◌, ◌⊎◌, true, false, IfOk, IfErr, OnOk, Ok, length};
-ghost use Rattle.bpf_link.specs.Contexts.{HasContext, HasKernelContext, HasUnreadTypes, IsContextFault, PlanContext, ReadContext, entry_place, found_place};
+ghost use Rattle.std.specs.Prelude.{◌≡◌, ◌≤◌, ◌<◌, ◌⊎◌, true, IfOk, IfErr, OnOk, Ok, None, length};
+ghost use Rattle.bpf_link.specs.Contexts.{HasContext, IsContextFault, IsUnknownContext, PlanContext, ReadContext, entry_place, found_place, packet_in};
 ghost use Rattle.bpf_link.specs.FieldRelocations.{ext_found};
 ghost use Rattle.bpf_link.specs.Links.{planned};
 ghost use Rattle.bpf_link.specs.MapTypes.{is_something};
@@ -16,6 +16,7 @@ use crate::map_types::{is_something, name_from, told_of_types, types_in};
 use crate::plan::{Plan, symbol_place};
 use crate::sections::Found;
 use bpf_btf::Btf;
+use bpf_packet::Packet;
 use std::alloc::Global;
 
 /// Where the name of a symbol that was found stands in the file.
@@ -40,8 +41,21 @@ fn entry_place(plan: &Plan<'_>, entry: &[u8]) -> usize
     found_place(plan, entry_found(plan, entry))
 }
 
-/// Whether BTF says that the entry takes the kernel's own struct.
-fn read_context(alloc: Global, plan: &Plan<'_>, entry: &[u8]) -> Result<bool, LinkFault>
+/// Which of the kernel's own structs of a packet the function of a name takes, if it takes one.
+fn packet_in(types: &Btf<'_>, name: &[u8]) -> Option<Packet>
+    ensures { result ≡ packet_in types.now name.now }
+{
+    if types.takes(b"xdp_md", name) {
+        Some(Packet::Xdp)
+    } else if types.takes(b"__sk_buff", name) {
+        Some(Packet::Tc)
+    } else {
+        None
+    }
+}
+
+/// Which of them BTF says that the entry takes.
+fn read_context(alloc: Global, plan: &Plan<'_>, entry: &[u8]) -> Result<Option<Packet>, LinkFault>
     ensures ok { IfOk result (ReadContext plan.now entry.now) }
     ensures err { IfErr result (λ fault. (fault ≡ Memory) ⊎ HasReadFault plan.now fault) }
 {
@@ -50,19 +64,40 @@ fn read_context(alloc: Global, plan: &Plan<'_>, entry: &[u8]) -> Result<bool, Li
         Err(fault) => return Err(told_of_types(fault)),
     };
     let name = name_from(plan.object.bytes(), entry_place(plan, entry));
-    Ok(types.takes_kernels(name))
+    Ok(packet_in(&types, name))
 }
 
-/// Whether the entry of a plan takes the kernel's own struct.
-fn plan_context(alloc: Global, plan: &Plan<'_>, entry: &[u8]) -> Result<bool, LinkFault>
+/// Which of them the entry of a plan takes.
+fn plan_context(alloc: Global, plan: &Plan<'_>, entry: &[u8]) -> Result<Option<Packet>, LinkFault>
     ensures ok { IfOk result (PlanContext (is_something (ext_found plan.now)) plan.now entry.now) }
     ensures listed { IfErr result (λ fault. is_something (ext_found plan.now) ≡ true) }
     ensures err { IfErr result (λ fault. (fault ≡ Memory) ⊎ HasReadFault plan.now fault) }
 {
     if !is_something(ext_found(plan)) {
-        return Ok(false);
+        return Ok(None);
     }
     read_context(alloc, plan, entry)
+}
+
+/// Which of the kernel's own structs of a packet the entry of a section takes, by the object's BTF;
+/// none where that says nothing of one. Where nothing is known of it, `link_with` refuses the object,
+/// too.
+///
+/// Takes time in proportion to the length of the object.
+pub fn packet_of(
+    alloc: Global,
+    object: &[u8],
+    section: &[u8],
+    entry: &[u8],
+) -> Result<Option<Packet>, LinkFault>
+    ensures ok { IfOk result (HasContext object.now section.now entry.now) }
+    ensures err { IfErr result (IsUnknownContext object.now section.now) }
+{
+    let plan = match planned(object, section) {
+        Ok(plan) => plan,
+        Err(fault) => return Err(fault),
+    };
+    plan_context(alloc, &plan, entry)
 }
 
 /// Refuses an entry that takes the kernel's own struct of a packet.
@@ -76,7 +111,7 @@ pub fn own_context(
     section: &[u8],
     entry: &[u8],
 ) -> Result<(), LinkFault>
-    ensures ok { OnOk result (HasContext object.now section.now entry.now false) }
+    ensures ok { OnOk result (HasContext object.now section.now entry.now None) }
     ensures err { IfErr result (IsContextFault object.now section.now entry.now) }
 {
     let plan = match planned(object, section) {
@@ -84,10 +119,10 @@ pub fn own_context(
         Err(fault) => return Err(fault),
     };
     match plan_context(alloc, &plan, entry) {
-        Ok(true) => Err(LinkFault::Context {
+        Ok(Some(_)) => Err(LinkFault::Context {
             at: entry_place(&plan, entry),
         }),
-        Ok(false) => Ok(()),
+        Ok(None) => Ok(()),
         Err(fault) => Err(fault),
     }
 }

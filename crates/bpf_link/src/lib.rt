@@ -35,6 +35,7 @@ mod tables;
 mod undefined;
 mod words;
 
+pub use contexts::packet_of;
 pub use data_sections::{data_of, is_among};
 pub use entry::is_program;
 pub use fault::{LinkFault, RelocationFault};
@@ -46,11 +47,12 @@ pub use image::filled;
 pub use layout::{
     MapDefinition, RelocationEntry, SectionHeader, SymbolEntry, map_definition, symbol_entry,
 };
-pub use linker::{LinkOptions, Linked, link, link_with, planned};
+pub use linker::{LinkOptions, Linked, link, link_with, planned, reached_code};
 pub use map_types::{
-    are_in_maps, name_from, name_place, section_bytes, symbol_of, told_of_types, types_in,
+    are_in_maps, name_from, name_place, named_bytes, section_bytes, symbol_of, told_of_types,
+    types_in,
 };
-pub use missing::ALL_HELPERS;
+pub use missing::{ALL_HELPERS, is_called};
 pub use names::{fault_names, short_at};
 pub use object::Object;
 pub use parts::{Part, Parts, Side};

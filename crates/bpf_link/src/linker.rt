@@ -1,8 +1,9 @@
 //! The linker: from an object to the words of a program.
-ghost use Rattle.std.specs.Prelude.{◌≡◌, ◌≤◌, ◌<◌, ◌+◌, ◌*◌, List, length, IfOk, IfErr, Ok};
+ghost use Rattle.std.specs.Prelude.{◌≡◌, ◌≤◌, ◌<◌, ◌+◌, ◌*◌, ◌⊎◌, List, length, IfOk, IfErr, Ok};
 ghost use Rattle.bpf_isa.specs.Checker.{IsRefused, most_slots};
 ghost use Rattle.bpf_isa.specs.declared.maps.MapShape.{MapShape};
 ghost use Rattle.bpf_isa.specs.Maps.{IsShape, most_maps};
+ghost use Rattle.bpf_link.specs.Begun.{BeginsNot, IsReachedCode};
 ghost use Rattle.bpf_link.specs.Data.{AllBelow, HasMaps, numbered};
 ghost use Rattle.bpf_link.specs.Links.{AllShapes, MemoryOr, planned, program_of, program_words, plain_maps, least_maps, data_shape, data_shapes, helper_fault, told_of};
 ghost use Rattle.bpf_link.specs.declared.fault.LinkFault.TheVariants.{Memory};
@@ -416,6 +417,39 @@ fn link_words(alloc: Global, object: &[u8], options: &LinkOptions<'_>) -> Result
     };
     match link_plan(alloc, &pruned(&plan, &kept), slot, &reach, options.stubs) {
         Ok(linked) => Ok(linked),
+        Err(fault) => Err(fault),
+    }
+}
+
+/// The words of an object's code as control goes through them from the entry of a section on: with
+/// calls in their places, and with `exit` in each slot that isn't reached.
+///
+/// Takes time in proportion to the length of the object.
+pub fn reached_code(
+    alloc: Global,
+    object: &[u8],
+    section: &[u8],
+    entry: &[u8],
+) -> Result<Vec<u8>, LinkFault>
+    ensures ok { IfOk result (λ words.
+        IsReachedCode object.now section.now entry.now words.items) }
+    ensures err { IfErr result (λ fault. (fault ≡ Memory)
+        ⊎ BeginsNot object.now section.now entry.now fault) }
+{
+    let plan = match planned(object, section) {
+        Ok(plan) => plan,
+        Err(fault) => return Err(fault),
+    };
+    let slot = match entry_of(&plan, entry) {
+        Ok(slot) => slot,
+        Err(fault) => return Err(fault),
+    };
+    let reach = match reach_of(alloc, &plan, slot) {
+        Ok(reach) => reach,
+        Err(fault) => return Err(fault),
+    };
+    match flow_of(alloc, &plan) {
+        Ok(flow) => Ok(blanked(&reach, flow)),
         Err(fault) => Err(fault),
     }
 }

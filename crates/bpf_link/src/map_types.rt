@@ -1,8 +1,9 @@
 //! The shapes of maps in `.maps`, by the BTF of an object.
 ghost use Rattle.std.specs.Prelude.{◌≡◌, ◌≤◌, ◌<◌, ◌⊎◌, IfOk, IfErr, IfSome, Ok, Err, length, position};
 ghost use Rattle.std.specs.List.{position_or_len};
-ghost use Rattle.bpf_link.specs.MapTypes.{are_in_maps, found_named, types_found, section_bytes, types_bytes, is_something, is_typed, is_zero_byte, name_from, is_map_at, symbol_of, name_place, told_of_map, typed_by_name, typed_at, typed_shapes};
+ghost use Rattle.bpf_link.specs.MapTypes.{are_in_maps, found_named, types_found, section_bytes, types_bytes, is_something, is_typed, is_zero_byte, name_from, is_map_at, named_bytes, symbol_of, name_place, told_of_map, typed_by_name, typed_at, typed_shapes};
 ghost use Rattle.bpf_isa.specs.Maps.{most_maps};
+ghost use Rattle.bpf_link.specs.Objects.{opened};
 ghost use Rattle.bpf_link.specs.Sections.{FoundBelow};
 ghost use Rattle.bpf_link.specs.Refusals.{IsTypeFault};
 ghost use Rattle.bpf_link.specs.Shapes.{AreTyped};
@@ -10,7 +11,7 @@ ghost use Rattle.bpf_link.specs.Shapes.{AreTyped};
 use crate::fault::LinkFault;
 use crate::fields::lies;
 use crate::layout::{SectionHeader, SymbolEntry};
-use crate::object::Object;
+use crate::object::{Object, open};
 use crate::patch::is_map;
 use crate::plan::{Plan, symbol_place};
 use crate::sections::{Found, is_named};
@@ -73,6 +74,19 @@ pub fn types_bytes<'a>(object: &Object<'a>, found: Found) -> &'a [u8]
         Found::Nothing => &[],
         Found::Only(i) => section_bytes(object, &object.section(i)),
         Found::Several => &[],
+    }
+}
+
+/// The bytes of an object's only section of a name; none where there isn't one, or it doesn't lie in
+/// the file, or the file isn't an object.
+///
+/// Takes time in proportion to the number of sections.
+pub fn named_bytes<'a>(file: &'a [u8], name: &[u8]) -> &'a [u8]
+    ensures { result.now ≡ named_bytes (opened file.now) name.now }
+{
+    match open(file) {
+        Ok(object) => types_bytes(&object, found_named(&object, name)),
+        Err(_) => &[],
     }
 }
 

@@ -18,7 +18,7 @@ fn calls(words: &[u8], helper: u32, slot: usize) -> bool
 }
 
 /// Whether words call the helper of a number.
-fn is_called(words: &[u8], helper: u32) -> bool
+pub fn is_called(words: &[u8], helper: u32) -> bool
     ensures { result ≡ is_called words.now helper }
 {
     let mut found = false;

@@ -1,6 +1,6 @@
 -- Why no program comes of FILE: the first step that isn't done. Of an object these are the entries of its maps, its programs in turn, the stubs, the
 -- others, the link; then its maps and the checker. And what is told of that.
-use Rattle.std.specs.Prelude.{ℕ, ◌≡◌, nat_lt, Bool, if◌then◌else◌, List, [], ◌∷◌, Option, Some, None, Ok, Err, get_or, length}
+use Rattle.std.specs.Prelude.{ℕ, ◌≡◌, nat_lt, Bool, true, false, if◌then◌else◌, List, [], ◌∷◌, Option, Some, None, Result, Ok, Err, get_or, length}
 use Rattle.std.specs.Borrow.{Bor}
 use Rattle.bpf_counts.specs.Counted.{IsCountFault, IsCounted}
 use Rattle.bpf_counts.specs.declared.told.CountFault.{CountFault}
@@ -97,6 +97,28 @@ pub data IsObjectFault (target : Target) (file : List ℕ) (it : ObjectFault) : 
   Ungathered : IsGatherFault target file it → IsObjectFault target file it
   Unlinked : (sources : Sources) → Gathers target file sources → (fault : LinkFault) → IsLinkRefusal (asked_of target sources) fault
       → Tells fault None (fault_names (object_of sources) target.section.now fault) it → IsObjectFault target file it
+
+-- What linking comes to.
+abbrev pub Links : Target → List ℕ → Result LinkedObject ObjectFault → Type 0
+Links target file (Ok linked) = LinksTo target file linked
+Links target file (Err it) = IsObjectFault target file it
+
+-- Objects with functions may answer a helper or a symbol that there isn't, and keep maps that the machine doesn't have.
+abbrev pub is_answerable : LinkFault → Bool
+is_answerable (link.Helper slot helper source others) = true
+is_answerable (link.Undefined slot count places) = true
+is_answerable (link.Map at fault) = true
+is_answerable link.TooManyMaps = true
+is_answerable _ = false
+
+abbrev pub has_answerable : Result LinkedObject ObjectFault → Bool
+has_answerable (Ok linked) = false
+has_answerable (Err it) = is_answerable it.fault
+
+pub record LacksFunctions (target : Target) (file : List ℕ) (lacks : Bool) : Type 0 where
+  pub linking : Result LinkedObject ObjectFault
+  pub links : Links target file linking
+  pub told : lacks ≡ has_answerable linking
 
 -- The text of a map table names none.
 abbrev pub IsMapsFault : Option (Bor (List ℕ)) → MapFault → Type 0

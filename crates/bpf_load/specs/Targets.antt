@@ -1,6 +1,6 @@
 -- What FILE comes to by what says which program runs: of an object its own object, what that comes to with others, and what is linked of this;
 -- and the program, which the checker accepts.
-use Rattle.std.specs.Prelude.{ℕ, ◌≡◌, Bool, List, [], ◌∷◌, Vec, Option, Some, None, Result, Ok, map, option_map}
+use Rattle.std.specs.Prelude.{ℕ, ◌≡◌, ◌⊎◌, Bool, List, [], ◌∷◌, Vec, Option, Some, None, Result, Ok, map, option_map}
 use Rattle.std.specs.declared.alloc.Global.{Global}
 use Rattle.std.specs.Borrow.{Bor}
 use Rattle.std.specs.Option.{option_map_or}
@@ -10,10 +10,12 @@ use Rattle.bpf_isa.specs.Programs.{Checked, IsProgram}
 use Rattle.bpf_isa.specs.declared.maps.MapShape.{MapShape}
 use Rattle.bpf_join.specs.Chains.{IsChain}
 use Rattle.bpf_join.specs.declared.joined.Joined.{Joined}
+use Rattle.bpf_link.specs.Contexts.{HasContext, IsUnknownContext}
 use Rattle.bpf_link.specs.Programs.{Asked, IsLinkedAs}
 use Rattle.bpf_link.specs.StubLists.{stubs_in}
 use Rattle.bpf_link.specs.declared.fault.LinkFault.{LinkFault}
 use Rattle.bpf_link.specs.declared.stubs.Stub.{Stub}
+use Rattle.bpf_packet.specs.declared.packet.Packet.{Packet}
 use Rattle.bpf_text.specs.Listing.{IsListing}
 use Rattle.bpf_turns.specs.Turned.{IsTurned}
 use Rattle.bpf_load.specs.declared.loading.LinkedObject.{LinkedObject}
@@ -37,6 +39,11 @@ listed_stubs None = Ok []
 
 abbrev pub stubs_of : Target → Result (List Stub) LinkFault
 stubs_of target = listed_stubs target.stubs
+
+-- The kernel's struct of a packet that the entry of an object takes, by the object's types; none where nothing is known of it.
+abbrev pub TellsPacket : List ℕ → List ℕ → List ℕ → Option Packet → Type 0
+TellsPacket object section entry packet = HasContext object section entry packet
+    ⊎ ((packet ≡ None) × (fault : LinkFault) × IsUnknownContext object section fault)
 
 -- Programs are called in turn where some are named.
 abbrev pub TurnsTo : List ℕ → List ℕ → List (List ℕ) → List ℕ → Type 0

@@ -2,7 +2,7 @@
 ghost use Rattle.std.specs.Prelude.{◌≡◌, IfErr, IfOk};
 ghost use Rattle.bpf_counts.specs.Counted.{IsCounted};
 ghost use Rattle.bpf_link.specs.Programs.{IsLinkRefusal, IsLinkedAs};
-ghost use Rattle.bpf_load.specs.Faults.{IsGatherFault, IsObjectFault, IsOwnFault, LacksOthers};
+ghost use Rattle.bpf_load.specs.Faults.{IsGatherFault, IsObjectFault, IsOwnFault, LacksFunctions, LacksOthers, is_answerable};
 ghost use Rattle.bpf_load.specs.Targets.{Gathers, IsOwn, JoinsTo, LinksTo, asked_of, fields_of, contents, object_of, texts};
 
 use crate::fault::{ObjectFault, in_object, of_count, of_others, of_turns};
@@ -94,7 +94,7 @@ fn turned_file<'a>(
 }
 
 /// FILE's own object.
-fn own_object<'a>(
+pub fn own_object<'a>(
     alloc: Global,
     file: &[u8],
     target: &Target<'a>,
@@ -195,5 +195,38 @@ pub fn link_object<'a>(
     match linked(alloc, target, &sources) {
         Ok(program) => Ok(LinkedObject { sources, program }),
         Err(fault) => Err(in_object(sources.object(), target.section, fault)),
+    }
+}
+
+/// Whether objects with functions may answer what a fault is about: a helper or a symbol that there
+/// isn't, or a map that the machine doesn't have.
+fn is_answerable(fault: &LinkFault) -> bool
+    ensures { result ≡ is_answerable fault.now }
+{
+    match fault {
+        LinkFault::Helper { .. } => true,
+        LinkFault::Undefined { .. } => true,
+        LinkFault::Map { .. } => true,
+        LinkFault::TooManyMaps => true,
+        _ => false,
+    }
+}
+
+/// Whether FILE, an object, is refused for what further objects with functions may answer.
+///
+/// Takes the time of `link_object`.
+pub fn lacks_functions<'a>(alloc: Global, file: &[u8], target: &Target<'a>) -> bool
+    ensures { LacksFunctions target.now file.now result }
+{
+    match link_object(alloc, file, target) {
+        Ok(linked) => {
+            drop(linked);
+            false
+        }
+        Err(fault) => {
+            let lacks = is_answerable(&fault.fault);
+            drop(fault);
+            lacks
+        }
     }
 }

@@ -1,10 +1,11 @@
 //! What says which program runs.
 ghost use Rattle.std.specs.Prelude.{◌≡◌, IfErr, IfOk, Err, Ok};
-ghost use Rattle.bpf_load.specs.Targets.{stubs_of};
+ghost use Rattle.bpf_load.specs.Targets.{TellsPacket, stubs_of};
 
 use arrayvec::ArrayVec;
-use bpf_link::{LinkFault, MOST_STUBS, Stub, stubs_in};
+use bpf_link::{LinkFault, MOST_STUBS, Stub, packet_of, stubs_in};
 use bpf_packet::Packet;
+use std::alloc::Global;
 
 /// What FILE is.
 #[derive(Clone, Copy)]
@@ -52,5 +53,18 @@ pub fn stubs_of(target: &Target<'_>) -> Result<ArrayVec<Stub, MOST_STUBS>, LinkF
     match target.stubs {
         Some(text) => stubs_in(text.as_bytes()),
         None => Ok(ArrayVec::new()),
+    }
+}
+
+/// The kernel's struct of a packet that the entry of an object takes, by the object's types; none
+/// where nothing is known of it, and then the object isn't linked.
+///
+/// Takes time in proportion to the length of the object.
+pub fn told_packet(alloc: Global, object: &[u8], section: &[u8], entry: &[u8]) -> Option<Packet>
+    ensures { TellsPacket object.now section.now entry.now result }
+{
+    match packet_of(alloc, object, section, entry) {
+        Ok(packet) => packet,
+        Err(_) => None,
     }
 }

@@ -12,20 +12,23 @@ use crate::slot::{Slot, goes_on, jumps, slot_at, target_of};
 use crate::tables::is_reached;
 use std::alloc::{AllocError, Global};
 
-/// A table that isn't finished, and the slots whose states have risen since they were looked at.
+/// A table that isn't finished, and the slots whose states have risen since they were looked at; and
+/// how many more rounds tell each piece of the frame from the next one.
 #[derive(Drop)]
 struct Draft {
     table: Vec<Held>,
     risen: Vec<usize>,
+    fine: usize,
 }
 
-/// An address of the frame that lies here or before: one of 16, so that a loop that goes down rises seldom.
-fn lowered(held: Held) -> Held
+/// An address of the frame that lies here or before: that of its piece; or one of 16, so that a loop
+/// that goes down rises seldom.
+fn lowered(held: Held, is_fine: bool) -> Held
     ensures { plain result ≡ plain held }
 {
     match held {
         Held::Frame(at) => {
-            if at < 64 {
+            if is_fine || at < 64 {
                 return Held::Frame(at - at % 8);
             }
             Held::Frame(at - at % 64)
@@ -36,14 +39,14 @@ fn lowered(held: Held) -> Held
 
 /// What covers both: the least, but for an address of the frame that lies before the other one.
 #[tactic(auto, unfolding(crate::specs::Least::reaches))]
-fn join(a: Held, b: Held) -> Held
+fn join(a: Held, b: Held, is_fine: bool) -> Held
     ensures { (other : Holding) → reaches other a ≡ true → reaches other b ≡ true → reaches other result ≡ true }
 {
     if covers(a, b) {
         return a;
     }
     if is_frame(a) && is_frame(b) {
-        return lowered(b);
+        return lowered(b, is_fine);
     }
     if covers(b, a) {
         return b;
@@ -52,7 +55,7 @@ fn join(a: Held, b: Held) -> Held
 }
 
 /// A place of a table raised by what is given for it, and whether it rose.
-fn raise_place(table: &mut [Held], at: usize, given: Held) -> bool
+fn raise_place(table: &mut [Held], at: usize, given: Held, is_fine: bool) -> bool
     requires { at < length table.old }
     ensures { (other : List Holding) → AllReach other table.old → reaches (held_in other at) given ≡ true
         → AllReach other table.new }
@@ -61,12 +64,12 @@ fn raise_place(table: &mut [Held], at: usize, given: Held) -> bool
     if covers(now, given) {
         return false;
     }
-    table[at] = join(now, given);
+    table[at] = join(now, given, is_fine);
     true
 }
 
 /// A table with a state raised by what is given for its places, and whether it rose.
-fn raise(table: &mut [Held], p: usize, given: &[Held]) -> bool
+fn raise(table: &mut [Held], p: usize, given: &[Held], is_fine: bool) -> bool
     requires inside { 75 * p + 75 ≤ length table.old }
     requires size { length given.now ≡ 75 }
     ensures { (other : List Holding) → AllReach other table.old → StateReaches other p given.now
@@ -74,7 +77,7 @@ fn raise(table: &mut [Held], p: usize, given: &[Held]) -> bool
 {
     let mut rose = false;
     for place in 0..75 {
-        rose = raise_place(table, 75 * p + place, given[place]) || rose;
+        rose = raise_place(table, 75 * p + place, given[place], is_fine) || rose;
     }
     rose
 }
@@ -90,7 +93,8 @@ fn raised(draft: Draft, p: usize, given: &[Held]) -> Result<Draft, AllocError>
     if p >= draft.table.len() / 75 {
         return Ok(draft);
     }
-    if !raise(&mut draft.table, p, given) {
+    let is_fine = 0 < draft.fine;
+    if !raise(&mut draft.table, p, given, is_fine) {
         return Ok(draft);
     }
     draft.risen.push(p)?;
@@ -204,12 +208,14 @@ fn begun(alloc: Global, words: &[u8]) -> Result<Draft, AllocError>
     ensures size { IfOk result (λ draft. length draft.table.items ≡ 75 * slots_in words.now) }
     ensures least { IfOk result (λ draft. IsLeast words.now draft.table.items) }
 {
-    let table = match unknown(alloc, words.len() / 8) {
+    let slots = words.len() / 8;
+    let table = match unknown(alloc, slots) {
         Ok(table) => table,
         Err(fault) => return Err(fault),
     };
     let risen = Vec::new(alloc);
-    match raised(Draft { table, risen }, 0, &first()) {
+    let fine = slots.saturating_mul(16).saturating_add(4096);
+    match raised(Draft { table, risen, fine }, 0, &first()) {
         Ok(draft) => Ok(draft),
         Err(fault) => Err(fault),
     }
@@ -218,18 +224,21 @@ fn begun(alloc: Global, words: &[u8]) -> Result<Draft, AllocError>
 /// A table for words: right, unless the words leave themselves, and no table that is right says less,
 /// where an address of the frame counts as any other number.
 ///
-/// A state rises at most 20 times a place, so the rounds are at most 1500 a slot.
+/// In the first rounds, 16 a slot and 4,096, an address of the frame is that of its piece: no more is
+/// needed for programs that compilers write. Behind these a state rises at most 20 times a place, so
+/// all rounds are at most 1,520 a slot and 4,096.
 pub fn solved(alloc: Global, words: &[u8]) -> Result<Vec<Held>, AllocError>
     requires { slots_in words.now ≤ 4294967296 }
     ensures { IfOk result (λ table. IsLeast words.now table.items) }
 {
     let slots = words.len() / 8;
     let mut draft = begun(alloc, words)?;
-    for _ in 0..slots.saturating_mul(1500).saturating_add(1) {
+    for _ in 0..slots.saturating_mul(1520).saturating_add(4097) {
         let p = match draft.risen.pop() {
             Some(p) => p,
             None => return Ok(draft.table),
         };
+        draft.fine = draft.fine.saturating_sub(1);
         if p < slots {
             draft = passed(words, p, draft)?;
         }

@@ -10,8 +10,9 @@ use Rattle.bpfdb_options.specs.declared.subcommand.Subcommand.TheVariants.{Debug
 use Rattle.bpfdb_jobs.specs.Done.{DoesJob}
 use Rattle.bpfdb.specs.declared.telling.Telling.{Telling}
 use Rattle.bpfdb.specs.Telling.{DoesTold, ErrLost, Exhausted, OutLost, Retells, Tells, Written, telling_of}
-use Rattle.bpfdb.specs.Files.{Contents}
-use Rattle.bpfdb.specs.Done.{DoesFitting, DoesPlan, DoesReplaced, Done, EndsPlanWith, Fits, Misfits, Replaced, Unread, Unreplaced}
+use Rattle.bpfdb.specs.Contents.{Contents}
+use Rattle.bpfdb.specs.Files.{World}
+use Rattle.bpfdb.specs.Done.{DoesFitting, DoesOr, DoesPlan, DoesReplaced, Done, EndsPlanWith, Fits, Like, Misfits, Replaced, Unlike, Unread, Unreplaced, refuses_unlike}
 
 -- It is that of the plan's job, unless it is 2, told as JSON or not.
 ends_retold_with : {R W E : Type 0} (reader : Stream R) (writer : Stream W) (errors : Stream E) (telling : Telling) (job : Job) (status : ℕ)
@@ -27,30 +28,33 @@ ends_told_with : {R W E : Type 0} (reader : Stream R) (writer : Stream W) (error
 ends_told_with reader writer errors None job status does other = ends_with reader writer errors job.subcommand job status does other
 ends_told_with reader writer errors (Some telling) job status does other = ends_retold_with reader writer errors telling job status does other
 
-ends_fitting_with : {R W E : Type 0} (reader : Stream R) (writer : Stream W) (errors : Stream E) (at_terminal : Bool) (plan : Plan) (job : Job) (status : ℕ)
-    → DoesFitting at_terminal plan job reader writer errors status → status ≢ 2 → EndsWith job.subcommand job status
-ends_fitting_with reader writer errors at_terminal plan job status (Misfits why is same kept told two) other = absurd (other two)
-ends_fitting_with reader writer errors at_terminal plan job status (Fits none does) other =
+ends_or_with : {R W E : Type 0} (reader : Stream R) (writer : Stream W) (errors : Stream E) (refuses at_terminal : Bool) (plan : Plan) (job : Job) (status : ℕ)
+    → DoesOr refuses at_terminal plan job reader writer errors status → status ≢ 2 → EndsWith job.subcommand job status
+ends_or_with reader writer errors refuses at_terminal plan job status (Unlike is same kept told two) other = absurd (other two)
+ends_or_with reader writer errors refuses at_terminal plan job status (Like is does) other =
     ends_told_with reader writer (record errors { new = does.told }) (telling_of plan) job status does.does other
 
-ends_replaced_with : {R W E : Type 0} (reader : Stream R) (writer : Stream W) (errors : Stream E) (bytes_at : List ℕ → Option (List ℕ))
-    (at_terminal : Bool) (plan : Plan) (of : Contents) (status : ℕ)
-    → DoesReplaced bytes_at at_terminal plan of reader writer errors status → status ≢ 2 → EndsPlanWith plan status
-ends_replaced_with reader writer errors bytes_at at_terminal plan of status (Unreplaced fault why same kept told two) other =
-    absurd (other two)
-ends_replaced_with reader writer errors bytes_at at_terminal plan of status (Replaced bytes tests job is does) other = record {
+ends_fitting_with : {R W E : Type 0} (reader : Stream R) (writer : Stream W) (errors : Stream E) (at_terminal : Bool) (plan : Plan) (of : Contents) (job : Job)
+    (status : ℕ) → DoesFitting at_terminal plan of job reader writer errors status → status ≢ 2 → EndsWith job.subcommand job status
+ends_fitting_with reader writer errors at_terminal plan of job status (Misfits why is same kept told two) other = absurd (other two)
+ends_fitting_with reader writer errors at_terminal plan of job status (Fits none does) other =
+    ends_or_with reader writer (record errors { old = does.noted }) (refuses_unlike plan does.unlike) at_terminal plan job status does.does other
+
+ends_replaced_with : {R W E : Type 0} (reader : Stream R) (writer : Stream W) (errors : Stream E) (world : World) (plan : Plan) (of : Contents) (status : ℕ)
+    → DoesReplaced world plan of reader writer errors status → status ≢ 2 → EndsPlanWith plan status
+ends_replaced_with reader writer errors world plan of status (Unreplaced fault why same kept told two) other = absurd (other two)
+ends_replaced_with reader writer errors world plan of status (Replaced bytes tests job is does) other = record {
   of = record of { file = bytes };
   job = job;
   is = is;
-  ends = ends_fitting_with reader writer errors at_terminal plan job status does other;
+  ends = ends_fitting_with reader writer errors world.at_terminal plan (record of { file = bytes }) job status does other;
 }
 
-pub ends_plan_with : {R W E : Type 0} (reader : Stream R) (writer : Stream W) (errors : Stream E) (bytes_at : List ℕ → Option (List ℕ))
-    (at_terminal : Bool) (plan : Plan) (status : ℕ) → DoesPlan bytes_at at_terminal plan reader writer errors status → status ≢ 2
-    → EndsPlanWith plan status
-ends_plan_with reader writer errors bytes_at at_terminal plan status (Unread fault why same kept told two) other = absurd (other two)
-ends_plan_with reader writer errors bytes_at at_terminal plan status (Done of are does) other =
-    ends_replaced_with reader writer errors bytes_at at_terminal plan of status does other
+pub ends_plan_with : {R W E : Type 0} (reader : Stream R) (writer : Stream W) (errors : Stream E) (world : World) (plan : Plan) (status : ℕ)
+    → DoesPlan world plan reader writer errors status → status ≢ 2 → EndsPlanWith plan status
+ends_plan_with reader writer errors world plan status (Unread fault why same kept told two) other = absurd (other two)
+ends_plan_with reader writer errors world plan status (Done of are does) other =
+    ends_replaced_with reader writer errors world plan of status does other
 
 -- Of a plan to debug it is 0 then.
 pub debug_ends_with : (plan : Plan) (status : ℕ) → plan.subcommand ≡ Debug → EndsPlanWith plan status → status ≡ 0

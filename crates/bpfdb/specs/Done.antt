@@ -1,5 +1,5 @@
 -- What becomes of a plan, and of help that is asked for.
-use Rattle.std.specs.Prelude.{ℕ, ◌≡◌, Bool, List, Option, Some, None}
+use Rattle.std.specs.Prelude.{ℕ, ◌≡◌, ◌&&◌, Bool, true, false, List, Option, Some, None}
 use Rattle.bpfdb_cli.specs.declared.plans.Plan.{Plan}
 use Rattle.bpfdb_faults.specs.Streams.{Gets, Loses, Stream, Told}
 use Rattle.bpfdb_faults.specs.Faults.{line_of}
@@ -8,11 +8,14 @@ use Rattle.bpfdb_jobs.specs.Statuses.{EndsWith}
 use Rattle.bpfdb_faults.specs.declared.fault.JobFault.{JobFault}
 use Rattle.bpfdb_faults.specs.declared.fault.JobFault.TheVariants.{Memory, Output, Refused}
 use Rattle.bpfdb_faults.specs.declared.kind.KindFault.{KindFault}
+use Rattle.bpfdb_faults.specs.declared.kind.KindFault.TheVariants.{Unfaithful}
 use Rattle.bpfdb_faults.specs.declared.refusal.JobRefusal.TheVariants.{Kind}
 use Rattle.bpfdb_jobs.specs.declared.job.Job.{Job}
-use Rattle.bpfdb.specs.Files.{AreRead, Contents, IsUnread}
+use Rattle.bpfdb.specs.Contents.{Contents}
+use Rattle.bpfdb.specs.Files.{AreRead, IsUnread, World}
 use Rattle.bpfdb.specs.Jobs.{IsJobOf}
 use Rattle.bpfdb.specs.Kinds.{misfit_of}
+use Rattle.bpfdb.specs.Notes.{SaysNotes}
 use Rattle.bpfdb.specs.Telling.{DoesTold, telling_of}
 use Rattle.bpfdb.specs.declared.telling.Telling.{Telling}
 use Rattle.bpfdb.specs.Tests.{IsTestsFor, IsUnreplaced, files_line}
@@ -26,33 +29,49 @@ pub record DoesHinted {R W E : Type 0} (at_terminal : Bool) (telling : Option Te
   pub does : DoesTold telling job reader writer (record errors { new = told }) status
   pub adds : AddsHint at_terminal job status (record errors { old = told })
 
--- A job is done unless what its files are doesn't go together with what it asks: that is told, and nothing else happens.
-pub data DoesFitting {R W E : Type 0} (at_terminal : Bool) (plan : Plan) (job : Job) (reader : Stream R) (writer : Stream W) (errors : Stream E)
+-- It is done behind what is said of its program, unless that is to be like Linux's and something of it isn't.
+abbrev pub refuses_unlike : Plan → Bool → Bool
+refuses_unlike plan unlike = plan.target.is_faithful && unlike
+
+pub data DoesOr {R W E : Type 0} (refuses : Bool) (at_terminal : Bool) (plan : Plan) (job : Job) (reader : Stream R) (writer : Stream W) (errors : Stream E)
     (status : ℕ) : Type 0 where
-  Fits : misfit_of job ≡ None → DoesHinted at_terminal (telling_of plan) job reader writer errors status
-      → DoesFitting at_terminal plan job reader writer errors status
+  Like : refuses ≡ false → DoesHinted at_terminal (telling_of plan) job reader writer errors status
+      → DoesOr refuses at_terminal plan job reader writer errors status
+  Unlike : refuses ≡ true → reader.new ≡ reader.old → writer.new ≡ writer.old → Told errors (line_of (Refused (Kind Unfaithful))) → status ≡ 2
+      → DoesOr refuses at_terminal plan job reader writer errors status
+
+pub record DoesNoted {R W E : Type 0} (at_terminal : Bool) (plan : Plan) (of : Contents) (job : Job) (reader : Stream R) (writer : Stream W)
+    (errors : Stream E) (status : ℕ) : Type 0 where
+  pub noted : Tally E
+  pub unlike : Bool
+  pub says : SaysNotes job of (record errors { new = noted }) unlike
+  pub does : DoesOr (refuses_unlike plan unlike) at_terminal plan job reader writer (record errors { old = noted }) status
+
+-- A job is done unless what its files are doesn't go together with what it asks: that is told, and nothing else happens.
+pub data DoesFitting {R W E : Type 0} (at_terminal : Bool) (plan : Plan) (of : Contents) (job : Job) (reader : Stream R) (writer : Stream W)
+    (errors : Stream E) (status : ℕ) : Type 0 where
+  Fits : misfit_of job ≡ None → DoesNoted at_terminal plan of job reader writer errors status
+      → DoesFitting at_terminal plan of job reader writer errors status
   Misfits : (why : KindFault) → misfit_of job ≡ Some why → reader.new ≡ reader.old → writer.new ≡ writer.old
-      → Told errors (line_of (Refused (Kind why))) → status ≡ 2 → DoesFitting at_terminal plan job reader writer errors status
+      → Told errors (line_of (Refused (Kind why))) → status ≡ 2 → DoesFitting at_terminal plan of job reader writer errors status
 
 -- The job is done over FILE as it is, or over the file of tests in which each section that names files is replaced; or why there is none is told, and
 -- nothing else happens.
-pub data DoesReplaced {R W E : Type 0} (bytes_at : List ℕ → Option (List ℕ)) (at_terminal : Bool) (plan : Plan) (of : Contents)
-    (reader : Stream R) (writer : Stream W) (errors : Stream E) (status : ℕ) : Type 0 where
-  Replaced : (bytes : List ℕ) → IsTestsFor bytes_at plan of.file bytes → (job : Job) → IsJobOf plan (record of { file = bytes }) job
-      → DoesFitting at_terminal plan job reader writer errors status
-      → DoesReplaced bytes_at at_terminal plan of reader writer errors status
-  Unreplaced : (fault : FilesFault) → IsUnreplaced bytes_at plan of.file fault → reader.new ≡ reader.old → writer.new ≡ writer.old
+pub data DoesReplaced {R W E : Type 0} (world : World) (plan : Plan) (of : Contents) (reader : Stream R) (writer : Stream W) (errors : Stream E) (status : ℕ)
+    : Type 0 where
+  Replaced : (bytes : List ℕ) → IsTestsFor world.bytes_at plan of.file bytes → (job : Job) → IsJobOf plan (record of { file = bytes }) job
+      → DoesFitting world.at_terminal plan (record of { file = bytes }) job reader writer errors status
+      → DoesReplaced world plan of reader writer errors status
+  Unreplaced : (fault : FilesFault) → IsUnreplaced world.bytes_at plan of.file fault → reader.new ≡ reader.old → writer.new ≡ writer.old
       → Told errors (files_line fault) → status ≡ 2
-      → DoesReplaced bytes_at at_terminal plan of reader writer errors status
+      → DoesReplaced world plan of reader writer errors status
 
 -- Its files can't be read, which is told, and nothing else happens; or they are, and its job is done.
-pub data DoesPlan {R W E : Type 0} (bytes_at : List ℕ → Option (List ℕ)) (at_terminal : Bool) (plan : Plan) (reader : Stream R) (writer : Stream W)
-    (errors : Stream E) (status : ℕ) : Type 0 where
-  Unread : (fault : JobFault) → IsUnread bytes_at plan fault → reader.new ≡ reader.old → writer.new ≡ writer.old → Told errors (line_of fault)
-      → status ≡ 2 → DoesPlan bytes_at at_terminal plan reader writer errors status
-  Done : (of : Contents) → AreRead bytes_at plan of
-      → DoesReplaced bytes_at at_terminal plan of reader writer errors status
-      → DoesPlan bytes_at at_terminal plan reader writer errors status
+pub data DoesPlan {R W E : Type 0} (world : World) (plan : Plan) (reader : Stream R) (writer : Stream W) (errors : Stream E) (status : ℕ) : Type 0 where
+  Unread : (fault : JobFault) → IsUnread world plan fault → reader.new ≡ reader.old → writer.new ≡ writer.old → Told errors (line_of fault)
+      → status ≡ 2 → DoesPlan world plan reader writer errors status
+  Done : (of : Contents) → AreRead world plan of → DoesReplaced world plan of reader writer errors status
+      → DoesPlan world plan reader writer errors status
 
 -- A status other than 2 is that of its job, over some bytes of its files.
 pub record EndsPlanWith (plan : Plan) (status : ℕ) : Type 0 where

@@ -1,9 +1,13 @@
 -- What the files of a plan hold, and what a fault of one tells.
-use Rattle.std.specs.Prelude.{ℕ, zero, suc, ◌≡◌, ◌<◌, ◌||◌, Bool, true, nat_le, if◌then◌else◌, List, [], ◌∷◌, ◌++◌, Vec, Option, Some, None, get_or, length, map, ⊤}
+use Rattle.std.specs.Prelude.{ℕ, zero, suc, ◌≡◌, ◌<◌, ◌||◌, Bool, true, false, nat_le, if◌then◌else◌, List, [], ◌∷◌, ◌++◌, Vec, Option, Some, None, get_or, length, map, option_map, ⊤}
 use Rattle.std.specs.declared.alloc.Global.{Global}
 use Rattle.std.specs.Borrow.{Bor}
 use Rattle.bpfdb_cli.specs.declared.plans.Plan.{Plan}
-use Rattle.bpfdb.specs.declared.job.Bytes.{Bytes}
+use Rattle.bpfdb.specs.Contents.{Contents}
+use Rattle.bpfdb.specs.Linux.{DoesLack}
+use Rattle.bpfdb.specs.declared.files.FileContents.{FileContents}
+use Rattle.bpfdb.specs.declared.host.Host.{Host}
+use Rattle.bpfdb.specs.declared.linux.Linux.TheVariants.{Joined, Missing, Unneeded}
 use Rattle.bpf_load.specs.Targets.{contents, texts}
 use Rattle.bpf_load.specs.declared.target.SourceKind.{SourceKind}
 use Rattle.bpf_load.specs.declared.target.SourceKind.TheVariants.{Words}
@@ -65,38 +69,66 @@ abbrev pub NamesOne : (List ℕ → Option (List ℕ)) → FileKind → List (Li
 NamesOne bytes_at kind paths fault = (n : ℕ) × (n < length paths) × (all : List (List ℕ)) × GivesFirst bytes_at kind paths n all
     × Names (get_or paths n []) fault
 
--- The bytes of FILE, of PATH, of the other file, and of the objects with functions.
-pub record Contents : Type 0 where
-  pub file : List ℕ
-  pub context : List ℕ
-  pub other : List ℕ
-  pub with : List (List ℕ)
+-- Where a plan is done: the bytes of files by their paths, where they are known; whether Linux's library may be joined by itself, and its path, where that is known.
+pub record World : Type 0 where
+  pub bytes_at : List ℕ → Option (List ℕ)
+  pub wants_linux : Bool
+  pub linux : Option (List ℕ)
+  pub at_terminal : Bool
 
-abbrev pub contents_in : Bytes → Contents
-contents_in bytes = record {
-  file = bytes.file.now;
-  context = bytes.context.now;
-  other = bytes.other.now;
-  with = contents bytes.with.now;
+abbrev pub world_of : {F : Type 0} → (F → List ℕ → Option (List ℕ)) → Host F → World
+world_of bytes_at host = record {
+  bytes_at = bytes_at host.files.now;
+  wants_linux = host.wants_linux;
+  linux = option_map (λ path. path.now) host.linux;
+  at_terminal = host.at_terminal;
 }
 
--- They are what is read, where the bytes of files are known.
-pub record AreRead (bytes_at : List ℕ → Option (List ℕ)) (plan : Plan) (of : Contents) : Type 0 where
+abbrev pub read_of : FileContents → Contents
+read_of read = record {
+  file = read.file.items;
+  context = read.context.items;
+  other = read.other.items;
+  with = contents read.with.items;
+  linux = read.linux;
+}
+
+-- They are what is read.
+pub record AreGiven (bytes_at : List ℕ → Option (List ℕ)) (plan : Plan) (of : Contents) : Type 0 where
   pub file : IsFileOf bytes_at plan of.file
   pub context : GivesNamed bytes_at Context plan.memory of.context
   pub other : GivesNamed bytes_at Source plan.other of.other
   pub with : GivesFirst bytes_at Source (texts plan.target.with.items) (length plan.target.with.items) of.with
+  pub linux : of.linux ≡ Unneeded
+
+-- Linux's library stands behind the objects with functions where it is wanted, something lacks it and there is one.
+abbrev pub LacksWhere : Bool → Plan → Contents → Bool → Type 0
+LacksWhere false plan of lacks = lacks ≡ false
+LacksWhere true plan of lacks = DoesLack plan of lacks
+
+abbrev pub LacksIn : World → Plan → Contents → Bool → Type 0
+LacksIn world plan of lacks = LacksWhere world.wants_linux plan of lacks
+
+pub data AreRead (world : World) (plan : Plan) (of : Contents) : Type 0 where
+  Whole : AreGiven world.bytes_at plan of → LacksIn world plan of false → AreRead world plan of
+  Alone : (given : Contents) → AreGiven world.bytes_at plan given → LacksIn world plan given true → world.linux ≡ None
+      → of ≡ record given { linux = Missing } → AreRead world plan of
+  Completed : (given : Contents) → AreGiven world.bytes_at plan given → LacksIn world plan given true → (path : List ℕ) → world.linux ≡ Some path
+      → (library : List ℕ) → Gives Source (world.bytes_at path) (Some library)
+      → of ≡ record given { with = given.with ++ library ∷ []; linux = Joined } → AreRead world plan of
 
 -- Why they aren't read: by the first of them that can't be.
-pub data IsUnread (bytes_at : List ℕ → Option (List ℕ)) (plan : Plan) (fault : JobFault) : Type 0 where
-  OfFile : Names plan.file.now fault → IsUnread bytes_at plan fault
-  OfPath : (of_file : List ℕ) → IsFileOf bytes_at plan of_file → NamesGiven plan.memory fault
-      → IsUnread bytes_at plan fault
-  OfOther : (of_file of_path : List ℕ) → IsFileOf bytes_at plan of_file
-      → GivesNamed bytes_at Context plan.memory of_path → NamesGiven plan.other fault → IsUnread bytes_at plan fault
-  OfWith : (of_file of_path of_other : List ℕ) → IsFileOf bytes_at plan of_file
-      → GivesNamed bytes_at Context plan.memory of_path → GivesNamed bytes_at Source plan.other of_other
-      → NamesOne bytes_at Source (texts plan.target.with.items) fault → IsUnread bytes_at plan fault
+pub data IsUnread (world : World) (plan : Plan) (fault : JobFault) : Type 0 where
+  OfFile : Names plan.file.now fault → IsUnread world plan fault
+  OfPath : (of_file : List ℕ) → IsFileOf world.bytes_at plan of_file → NamesGiven plan.memory fault
+      → IsUnread world plan fault
+  OfOther : (of_file of_path : List ℕ) → IsFileOf world.bytes_at plan of_file
+      → GivesNamed world.bytes_at Context plan.memory of_path → NamesGiven plan.other fault → IsUnread world plan fault
+  OfWith : (of_file of_path of_other : List ℕ) → IsFileOf world.bytes_at plan of_file
+      → GivesNamed world.bytes_at Context plan.memory of_path → GivesNamed world.bytes_at Source plan.other of_other
+      → NamesOne world.bytes_at Source (texts plan.target.with.items) fault → IsUnread world plan fault
+  OfLinux : (given : Contents) → AreGiven world.bytes_at plan given → LacksIn world plan given true → (path : List ℕ) → world.linux ≡ Some path
+      → Names path fault → IsUnread world plan fault
 
 -- The program that is built in: r0 = 42, and the end.
 abbrev pub first_program : List ℕ

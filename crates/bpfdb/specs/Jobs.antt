@@ -1,15 +1,21 @@
 -- The job of a plan.
-use Rattle.std.specs.Prelude.{ℕ, ◌≡◌, ◌==◌, if◌then◌else◌, List, [], length, map, Option, Some, None}
+use Rattle.std.specs.Prelude.{ℕ, ◌≡◌, ◌==◌, ◌&&◌, Bool, true, false, not, if◌then◌else◌, List, [], length, map, Option, Some, None}
 use Rattle.std.specs.Borrow.{Bor}
 use Rattle.bpf_link.specs.Homes.{home_of}
-use Rattle.bpf_load.specs.Targets.{contents, texts}
+use Rattle.bpf_packet.specs.declared.packet.Packet.{Packet}
+use Rattle.bpf_load.specs.Targets.{TellsPacket, contents, texts}
+use Rattle.bpf_load.specs.declared.target.SourceKind.{SourceKind}
 use Rattle.bpf_load.specs.declared.target.Target.{Target}
+use Rattle.bpfdb_cli.specs.declared.plans.EntryTakes.{EntryTakes}
+use Rattle.bpfdb_cli.specs.declared.plans.EntryTakes.TheVariants.{Unsaid, Struct, Context}
 use Rattle.bpfdb_cli.specs.declared.plans.Plan.{Plan}
 use Rattle.bpfdb_cli.specs.declared.plans.TargetWords.{TargetWords}
 use Rattle.bpfdb_jobs.specs.declared.job.Job.{Job}
-use Rattle.bpfdb_jobs.specs.Jobs.{name_or_empty as text_or_empty}
+use Rattle.bpfdb_jobs.specs.Jobs.{links_first, name_or_empty as text_or_empty}
+use Rattle.bpfdb_options.specs.declared.subcommand.Subcommand.{Subcommand}
+use Rattle.bpfdb_options.specs.declared.subcommand.Subcommand.TheVariants.{Link}
+use Rattle.bpfdb.specs.Contents.{Contents}
 use Rattle.bpfdb.specs.Kinds.{source_kind}
-use Rattle.bpfdb.specs.Files.{Contents}
 
 -- The bytes of a file, where one is named.
 abbrev pub IsNamed : Option (Bor (List ℕ)) → List ℕ → Option (Bor (List ℕ)) → Type 0
@@ -33,6 +39,22 @@ section_from (Some name) home = name.now
 abbrev pub section_of : TargetWords → List ℕ → List ℕ
 section_of words file = section_from words.section (home_of file (entry_of words))
 
+-- A subcommand links FILE.
+abbrev pub links_by : Subcommand → SourceKind → Bool
+links_by Link kind = true
+links_by subcommand kind = links_first kind
+
+-- The kernel's struct that the entry takes: the one that is said; or, where nothing is said, the one that an object's types tell of its entry.
+abbrev pub IsPacketOf : EntryTakes → Bool → List ℕ → List ℕ → List ℕ → Option Packet → Type 0
+IsPacketOf Unsaid true file section entry packet = TellsPacket file section entry packet
+IsPacketOf Unsaid false file section entry packet = packet ≡ None
+IsPacketOf (Struct said) tells file section entry packet = packet ≡ Some said
+IsPacketOf Context tells file section entry packet = packet ≡ None
+
+-- Of programs in turn the types tell nothing.
+abbrev pub tells_packet : Plan → SourceKind → Bool
+tells_packet plan kind = links_by plan.subcommand kind && length plan.target.turns.items == 0
+
 -- What FILE is, and which program runs: what the plan says of that.
 pub record IsTargetOf (plan : Plan) (of : Contents) (target : Target) : Type 0 where
   pub kind : target.kind ≡ source_kind plan plan.file.now of.file
@@ -43,8 +65,8 @@ pub record IsTargetOf (plan : Plan) (of : Contents) (target : Target) : Type 0 w
   pub turns : texts target.turns.now ≡ texts plan.target.turns.items
   pub with : contents target.with.now ≡ of.with
   pub stubs : target.stubs ≡ plan.target.stubs
-  pub as_compiled : target.as_compiled ≡ plan.target.as_compiled
-  pub packet : target.packet ≡ plan.target.packet
+  pub as_compiled : target.as_compiled ≡ not plan.target.strict_fields
+  pub packet : IsPacketOf plan.target.takes (tells_packet plan target.kind) of.file target.section.now target.entry.now target.packet
 
 -- It has the plan's subcommand and options, the name of FILE and its bytes, those of PATH, those of the other file, if there is one, and what says which
 -- program of an object runs.

@@ -1,5 +1,8 @@
 pub mod Done
+pub mod Contents
 pub mod Files
+pub mod Linux
+pub mod Notes
 pub mod Tests
 pub mod Jobs
 pub mod Kinds

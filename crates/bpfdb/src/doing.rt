@@ -1,7 +1,8 @@
 //! What is done of a command line, over any files, reader and writers.
 ghost use Rattle.std.specs.Prelude.{◌≡◌, ◌≤◌, true};
-ghost use Rattle.bpfdb.specs.Done.{DoesFitting, DoesPlan, DoesReplaced, Helps};
-ghost use Rattle.bpfdb.specs.Files.{contents_in};
+ghost use Rattle.bpfdb.specs.Contents.{contents_in};
+ghost use Rattle.bpfdb.specs.Done.{DoesFitting, DoesHinted, DoesNoted, DoesPlan, DoesReplaced, Helps};
+ghost use Rattle.bpfdb.specs.Files.{world_of};
 ghost use Rattle.bpfdb.specs.Jobs.{IsJobOf};
 ghost use Rattle.bpfdb.specs.Telling.{DoesTold};
 ghost use Rattle.bpfdb.specs.Tests.{is_test};
@@ -10,14 +11,16 @@ ghost use Rattle.bpfdb_limits.specs.Limits.{IsLimit};
 ghost use Rattle.counted_io.specs.Writing.{Writes};
 ghost use Rattle.bpfdb_faults.specs.Streams.{stream};
 
-use crate::files::{read_each, read_file, read_given};
+use crate::files::read_all;
+use crate::host::Host;
 use crate::job::{Bytes, job_of};
 use crate::kind::misfit_of;
+use crate::notes::say_notes;
 use crate::telling::{Telling, retold_tool, telling_of};
 use crate::tests::{is_test, place_of, refuse_tests};
 use bpfdb_cli::Plan;
-use bpfdb_faults::{JobFault, JobRefusal, give_up};
-use bpfdb_files::{FileKind, Opener};
+use bpfdb_faults::{JobFault, JobRefusal, KindFault, give_up};
+use bpfdb_files::Opener;
 use bpfdb_jobs::{Job, add_hint, tool};
 use clap::Error;
 use counted_io::{Counted, WriteFault, write_text};
@@ -25,90 +28,51 @@ use std::alloc::Global;
 use std::io::{Read, Write};
 use suite_files::replaced;
 
-/// Reads the files of a plan, FILE before PATH is opened, that before the other one, and that before
-/// the objects with functions; then does its job. Where standard error is a terminal, the job's hint
+/// Reads the files of a plan; then does its job. Where standard error is a terminal, the job's hint
 /// follows, if there is one. Answers the exit status.
 #[inline(never)]
-pub fn do_plan<F: Opener, R: Read, W: Write, E: Write>(
+pub fn do_plan<'a, F: Opener, R: Read, W: Write, E: Write>(
     alloc: Global,
-    files: &F,
-    plan: &Plan<'_>,
-    at_terminal: bool,
+    host: &Host<'a, F>,
+    plan: &Plan<'a>,
     reader: &mut Counted<R>,
     writer: &mut Counted<W>,
     errors: &mut Counted<E>,
 ) -> u8
     requires limit { IsLimit plan.now.options.limit }
-    ensures does { DoesPlan (F.bytes_at files.now) at_terminal plan.now
+    ensures does { DoesPlan (world_of F.bytes_at host.now) plan.now
         (stream R.remaining reader.old reader.new) (stream W.contents writer.old writer.new)
         (stream E.contents errors.old errors.new) result }
     ensures status { result ≤ 2 }
 {
-    let file = match read_file(alloc, files, plan) {
-        Ok(file) => file,
-        Err(fault) => return give_up(errors, &fault),
-    };
-    let context = match read_given(alloc, files, plan.memory, FileKind::Context) {
-        Ok(context) => context,
-        Err(fault) => return give_up(errors, &fault),
-    };
-    let other = match read_given(alloc, files, plan.other, FileKind::Source) {
-        Ok(other) => other,
-        Err(fault) => return give_up(errors, &fault),
-    };
-    let with = match read_each(alloc, files, plan.target.with.as_slice(), FileKind::Source) {
-        Ok(with) => with,
-        Err(fault) => return give_up(errors, &fault),
-    };
-    let bytes = Bytes {
-        file: file.as_slice(),
-        context: context.as_slice(),
-        other: other.as_slice(),
-        with: with.as_slice(),
-    };
-    do_replaced(
-        alloc,
-        files,
-        plan,
-        &bytes,
-        at_terminal,
-        reader,
-        writer,
-        errors,
-    )
+    match read_all(alloc, host, plan) {
+        Ok(read) => do_replaced(alloc, host, plan, &read.bytes(), reader, writer, errors),
+        Err(fault) => give_up(errors, &fault),
+    }
 }
 
 /// Does a plan with the bytes of its files: over FILE, or over the file of tests in which what
 /// sections name is put in their place.
 fn do_replaced<F: Opener, R: Read, W: Write, E: Write>(
     alloc: Global,
-    files: &F,
+    host: &Host<'_, F>,
     plan: &Plan<'_>,
     bytes: &Bytes<'_>,
-    at_terminal: bool,
     reader: &mut Counted<R>,
     writer: &mut Counted<W>,
     errors: &mut Counted<E>,
 ) -> u8
     requires limit { IsLimit plan.now.options.limit }
-    ensures does { DoesReplaced (F.bytes_at files.now) at_terminal plan.now (contents_in bytes.now)
+    ensures does { DoesReplaced (world_of F.bytes_at host.now) plan.now (contents_in bytes.now)
         (stream R.remaining reader.old reader.new) (stream W.contents writer.old writer.new)
         (stream E.contents errors.old errors.new) result }
     ensures status { result ≤ 2 }
 {
-    if !is_test(plan.subcommand) {
-        return do_job(alloc, plan, bytes, at_terminal, reader, writer, errors);
+    if is_test(plan.subcommand) {
+        do_tests(alloc, host, plan, bytes, reader, writer, errors)
+    } else {
+        do_job(alloc, plan, bytes, host.at_terminal, reader, writer, errors)
     }
-    do_tests(
-        alloc,
-        files,
-        plan,
-        bytes,
-        at_terminal,
-        reader,
-        writer,
-        errors,
-    )
 }
 
 /// Does a plan of tests over the file in which what sections name is put in their place. What that
@@ -116,22 +80,21 @@ fn do_replaced<F: Opener, R: Read, W: Write, E: Write>(
 #[inline(never)]
 fn do_tests<F: Opener, R: Read, W: Write, E: Write>(
     alloc: Global,
-    files: &F,
+    host: &Host<'_, F>,
     plan: &Plan<'_>,
     bytes: &Bytes<'_>,
-    at_terminal: bool,
     reader: &mut Counted<R>,
     writer: &mut Counted<W>,
     errors: &mut Counted<E>,
 ) -> u8
     requires limit { IsLimit plan.now.options.limit }
     requires tests { is_test plan.now.subcommand ≡ true }
-    ensures does { DoesReplaced (F.bytes_at files.now) at_terminal plan.now (contents_in bytes.now)
+    ensures does { DoesReplaced (world_of F.bytes_at host.now) plan.now (contents_in bytes.now)
         (stream R.remaining reader.old reader.new) (stream W.contents writer.old writer.new)
         (stream E.contents errors.old errors.new) result }
     ensures status { result ≤ 2 }
 {
-    let tests = match replaced(alloc, files, &place_of(plan), bytes.file) {
+    let tests = match replaced(alloc, host.files, &place_of(plan), bytes.file) {
         Ok(tests) => tests,
         Err(fault) => return refuse_tests(&fault, errors),
     };
@@ -139,7 +102,15 @@ fn do_tests<F: Opener, R: Read, W: Write, E: Write>(
         file: tests.as_slice(),
         ..*bytes
     };
-    do_job(alloc, plan, &tested, at_terminal, reader, writer, errors)
+    do_job(
+        alloc,
+        plan,
+        &tested,
+        host.at_terminal,
+        reader,
+        writer,
+        errors,
+    )
 }
 
 /// Does the job of a plan, with the bytes of its files.
@@ -154,18 +125,33 @@ fn do_job<R: Read, W: Write, E: Write>(
 ) -> u8
     requires limit { IsLimit plan.now.options.limit }
     ensures does { (job : Job) × IsJobOf plan.now (contents_in bytes.now) job
-        × DoesFitting at_terminal plan.now job (stream R.remaining reader.old reader.new)
-        (stream W.contents writer.old writer.new) (stream E.contents errors.old errors.new) result }
+        × DoesFitting at_terminal plan.now (contents_in bytes.now) job
+        (stream R.remaining reader.old reader.new) (stream W.contents writer.old writer.new)
+        (stream E.contents errors.old errors.new) result }
     ensures status { result ≤ 2 }
 {
-    let job = job_of(plan, bytes);
-    fitting_tool(alloc, plan, &job, at_terminal, reader, writer, errors)
+    let job = job_of(alloc, plan, bytes);
+    match misfit_of(&job) {
+        Some(why) => give_up(errors, &JobFault::Refused(JobRefusal::Kind(why))),
+        None => noted_tool(
+            alloc,
+            plan,
+            bytes,
+            &job,
+            at_terminal,
+            reader,
+            writer,
+            errors,
+        ),
+    }
 }
 
-/// Does a job and adds its hint, unless what its files are doesn't go together with what it asks.
-fn fitting_tool<R: Read, W: Write, E: Write>(
+/// Says what there is to say of a job's program; then does the job, unless something of that was asked
+/// not to be so.
+fn noted_tool<R: Read, W: Write, E: Write>(
     alloc: Global,
     plan: &Plan<'_>,
+    bytes: &Bytes<'_>,
     job: &Job<'_>,
     at_terminal: bool,
     reader: &mut Counted<R>,
@@ -173,18 +159,46 @@ fn fitting_tool<R: Read, W: Write, E: Write>(
     errors: &mut Counted<E>,
 ) -> u8
     requires limit { IsLimit job.now.options.limit }
-    ensures does { DoesFitting at_terminal plan.now job.now (stream R.remaining reader.old reader.new)
+    ensures does { DoesNoted at_terminal plan.now (contents_in bytes.now) job.now
+        (stream R.remaining reader.old reader.new) (stream W.contents writer.old writer.new)
+        (stream E.contents errors.old errors.new) result }
+    ensures status { result ≤ 2 }
+{
+    let unlike = say_notes(alloc, job, bytes, errors);
+    if plan.target.is_faithful && unlike {
+        let why = JobRefusal::Kind(KindFault::Unfaithful);
+        give_up(errors, &JobFault::Refused(why))
+    } else {
+        hinted_tool(
+            alloc,
+            telling_of(plan),
+            job,
+            at_terminal,
+            reader,
+            writer,
+            errors,
+        )
+    }
+}
+
+/// Does a job, and adds its hint.
+fn hinted_tool<R: Read, W: Write, E: Write>(
+    alloc: Global,
+    telling: Option<Telling>,
+    job: &Job<'_>,
+    at_terminal: bool,
+    reader: &mut Counted<R>,
+    writer: &mut Counted<W>,
+    errors: &mut Counted<E>,
+) -> u8
+    requires limit { IsLimit job.now.options.limit }
+    ensures does { DoesHinted at_terminal telling job.now (stream R.remaining reader.old reader.new)
         (stream W.contents writer.old writer.new) (stream E.contents errors.old errors.new) result }
     ensures status { result ≤ 2 }
 {
-    match misfit_of(job) {
-        Some(why) => give_up(errors, &JobFault::Refused(JobRefusal::Kind(why))),
-        None => {
-            let status = told_tool(alloc, telling_of(plan), job, reader, writer, errors);
-            add_hint(alloc, job, at_terminal, status, errors);
-            status
-        }
-    }
+    let status = told_tool(alloc, telling, job, reader, writer, errors);
+    add_hint(alloc, job, at_terminal, status, errors);
+    status
 }
 
 /// Does a job, as it is or told in another form.

@@ -1,10 +1,16 @@
 //! FILE, PATH and the other file: files by their names.
-ghost use Rattle.std.specs.Prelude.{◌≡◌, IfErr, IfOk, Some, length};
-ghost use Rattle.bpfdb.specs.Files.{GivesFirst, GivesNamed, IsFileOf, Names, NamesGiven, NamesOne, is_whole, kind_of};
+ghost use Rattle.std.specs.Prelude.{◌≡◌, [], ◌∷◌, ◌++◌, IfErr, IfOk, Some, length};
+ghost use Rattle.bpfdb.specs.declared.linux.Linux.TheVariants.{Joined};
+ghost use Rattle.bpfdb_faults.specs.declared.fault.JobFault.TheVariants.{Memory};
+ghost use Rattle.bpfdb.specs.Contents.{contents_in};
+ghost use Rattle.bpfdb.specs.Files.{AreGiven, AreRead, GivesFirst, GivesNamed, IsFileOf, IsUnread, Names, NamesGiven, NamesOne, is_whole, kind_of, read_of, world_of};
 ghost use Rattle.bpf_load.specs.Targets.{contents, texts};
 ghost use Rattle.bpfdb_files.specs.Reading.{Gives};
 
+use crate::host::Host;
+use crate::job::Bytes;
 use crate::kind::source_kind;
+use crate::linux::{Linux, lacks_linux};
 use bpf_load::SourceKind;
 use bpfdb_cli::Plan;
 use bpfdb_faults::JobFault;
@@ -12,6 +18,123 @@ use bpfdb_files::{FileKind, FirstFault, Opener, SOURCE_BYTES, read_kind};
 use bpfdb_options::Subcommand;
 use counted_io::Counted;
 use std::alloc::Global;
+
+/// What was read of the files of a plan.
+#[derive(Drop)]
+pub struct FileContents {
+    /// The bytes of FILE.
+    pub file: Vec<u8>,
+    /// Those of PATH.
+    pub context: Vec<u8>,
+    /// Those of the other file; none where there isn't one.
+    pub other: Vec<u8>,
+    /// Those of the objects with functions.
+    pub with: Vec<Vec<u8>>,
+    /// What became of Linux's library.
+    pub linux: Linux,
+}
+
+impl FileContents {
+    /// These bytes, lent.
+    pub fn bytes(&self) -> Bytes<'_>
+        ensures { contents_in result ≡ read_of self.now }
+    {
+        Bytes {
+            file: self.file.as_slice(),
+            context: self.context.as_slice(),
+            other: self.other.as_slice(),
+            with: self.with.as_slice(),
+            linux: self.linux,
+        }
+    }
+}
+
+/// The bytes of the files of a plan: FILE is read before PATH is opened, that before the other one,
+/// that before the objects with functions, and those before Linux's library, where it is needed.
+pub fn read_all<'a, F: Opener>(
+    alloc: Global,
+    host: &Host<'a, F>,
+    plan: &Plan<'a>,
+) -> Result<FileContents, JobFault<'a>>
+    ensures ok { IfOk result (λ read. AreRead (world_of F.bytes_at host.now) plan.now (read_of read)) }
+    ensures err { IfErr result (IsUnread (world_of F.bytes_at host.now) plan.now) }
+{
+    let file = match read_file(alloc, host.files, plan) {
+        Ok(file) => file,
+        Err(fault) => return Err(fault),
+    };
+    let context = match read_given(alloc, host.files, plan.memory, FileKind::Context) {
+        Ok(context) => context,
+        Err(fault) => return Err(fault),
+    };
+    let other = match read_given(alloc, host.files, plan.other, FileKind::Source) {
+        Ok(other) => other,
+        Err(fault) => return Err(fault),
+    };
+    let with = match read_each(
+        alloc,
+        host.files,
+        plan.target.with.as_slice(),
+        FileKind::Source,
+    ) {
+        Ok(with) => with,
+        Err(fault) => return Err(fault),
+    };
+    let given = FileContents {
+        file,
+        context,
+        other,
+        with,
+        linux: Linux::Unneeded,
+    };
+    completed(alloc, host, plan, given)
+}
+
+/// What was read, and Linux's library behind the objects with functions where it is needed and there
+/// is one.
+fn completed<'a, F: Opener>(
+    alloc: Global,
+    host: &Host<'a, F>,
+    plan: &Plan<'a>,
+    given: FileContents,
+) -> Result<FileContents, JobFault<'a>>
+    requires { AreGiven (F.bytes_at host.now.files.now) plan.now (read_of given) }
+    ensures ok { IfOk result (λ read. AreRead (world_of F.bytes_at host.now) plan.now (read_of read)) }
+    ensures err { IfErr result (IsUnread (world_of F.bytes_at host.now) plan.now) }
+{
+    if !host.wants_linux || !lacks_linux(alloc, plan, &given.bytes()) {
+        return Ok(given);
+    }
+    let Some(path) = host.linux else {
+        return Ok(FileContents {
+            linux: Linux::Missing,
+            ..given
+        });
+    };
+    match read_named(alloc, host.files, path, FileKind::Source) {
+        Ok(library) => with_library(given, library),
+        Err(fault) => Err(fault),
+    }
+}
+
+/// What was read, with a library behind the objects with functions.
+fn with_library<'a>(given: FileContents, library: Vec<u8>) -> Result<FileContents, JobFault<'a>>
+    ensures ok { IfOk result (λ read. read_of read
+        ≡ record (read_of given) { with = (read_of given).with ++ library.items ∷ []; linux = Joined }) }
+    ensures err { IfErr result (λ fault. fault ≡ Memory) }
+{
+    let mut with = given.with;
+    match with.push(library) {
+        Ok(()) => Ok(FileContents {
+            file: given.file,
+            context: given.context,
+            other: given.other,
+            with,
+            linux: Linux::Joined,
+        }),
+        Err(_) => Err(JobFault::Memory),
+    }
+}
 
 /// What FILE is read as: a listing for `asm`, an object for `link`, one of these for `lines`, and each
 /// where the plan says so; a file of tests for `test`; a program's words for `batch`, and where the
@@ -39,7 +162,7 @@ pub fn kind_of(plan: &Plan<'_>) -> FileKind
 
 /// The bytes of FILE. What turns out to be a listing or an object can't be read where it is too long
 /// for one.
-pub fn read_file<'a, F: Opener>(
+fn read_file<'a, F: Opener>(
     alloc: Global,
     files: &F,
     plan: &Plan<'a>,
@@ -93,7 +216,7 @@ pub fn read_named<'a, F: Opener>(
 
 /// The bytes of the file of a path that may not be there, read as one of a kind: where there is no
 /// path there are none.
-pub fn read_given<'a, F: Opener>(
+fn read_given<'a, F: Opener>(
     alloc: Global,
     files: &F,
     path: Option<&'a str>,
@@ -109,7 +232,7 @@ pub fn read_given<'a, F: Opener>(
 }
 
 /// The bytes of the files of several paths, read as ones of a kind.
-pub fn read_each<'a, F: Opener>(
+fn read_each<'a, F: Opener>(
     alloc: Global,
     files: &F,
     paths: &[&'a str],

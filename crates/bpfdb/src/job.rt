@@ -1,13 +1,16 @@
 //! The job of a plan.
 ghost use Rattle.std.specs.Prelude.{◌≡◌};
-ghost use Rattle.bpfdb.specs.Files.{contents_in};
-ghost use Rattle.bpfdb.specs.Jobs.{IsJobOf, IsTargetOf, entry_of, name_or_empty, section_of};
+ghost use Rattle.bpfdb.specs.Contents.{contents_in};
+ghost use Rattle.bpfdb.specs.Jobs.{IsJobOf, IsPacketOf, IsTargetOf, entry_of, name_or_empty, section_of, tells_packet};
 
 use crate::kind::source_kind;
+use crate::linux::{Linux, links};
 use bpf_link::home_of;
-use bpf_load::Target;
-use bpfdb_cli::{Plan, TargetWords};
+use bpf_load::{SourceKind, Target, told_packet};
+use bpf_packet::Packet;
+use bpfdb_cli::{EntryTakes, Plan, TargetWords};
 use bpfdb_jobs::Job;
+use std::alloc::Global;
 
 /// What was read of the files of a plan.
 #[derive(Clone, Copy)]
@@ -20,10 +23,12 @@ pub struct Bytes<'a> {
     pub other: &'a [u8],
     /// Those of the objects with functions.
     pub with: &'a [Vec<u8>],
+    /// What became of Linux's library.
+    pub linux: Linux,
 }
 
 /// The job of a plan, with the bytes of its files.
-pub fn job_of<'a>(plan: &'a Plan<'a>, bytes: &Bytes<'a>) -> Job<'a>
+pub fn job_of<'a>(alloc: Global, plan: &'a Plan<'a>, bytes: &Bytes<'a>) -> Job<'a>
     ensures { IsJobOf plan.now (contents_in bytes.now) result }
 {
     Job {
@@ -36,27 +41,62 @@ pub fn job_of<'a>(plan: &'a Plan<'a>, bytes: &Bytes<'a>) -> Job<'a>
             None => None,
         },
         other_kind: source_kind(plan, name_or_empty(plan.other), bytes.other),
-        target: target_of(plan, bytes),
+        target: target_of(alloc, plan, bytes),
         options: plan.options,
     }
 }
 
 /// What FILE is, and which program runs.
-fn target_of<'a>(plan: &'a Plan<'a>, bytes: &Bytes<'a>) -> Target<'a>
+fn target_of<'a>(alloc: Global, plan: &'a Plan<'a>, bytes: &Bytes<'a>) -> Target<'a>
     ensures { IsTargetOf plan.now (contents_in bytes.now) result }
 {
     let words = &plan.target;
+    let kind = source_kind(plan, plan.file.as_bytes(), bytes.file);
+    let section = section_of(words, bytes.file);
+    let entry = entry_of(words);
+    let tells = tells_packet(plan, kind);
     Target {
-        kind: source_kind(plan, plan.file.as_bytes(), bytes.file),
+        kind,
         maps: words.maps,
-        section: section_of(words, bytes.file),
-        entry: entry_of(words),
+        section,
+        entry,
         counts: words.counts.as_slice(),
         turns: words.turns.as_slice(),
         with: bytes.with,
         stubs: words.stubs,
-        as_compiled: words.as_compiled,
-        packet: words.packet,
+        as_compiled: !words.strict_fields,
+        packet: packet_for(alloc, words.takes, tells, bytes.file, section, entry),
+    }
+}
+
+/// Whether the types of FILE, which is of this kind, may tell what the entry takes.
+fn tells_packet(plan: &Plan<'_>, kind: SourceKind) -> bool
+    ensures { result ≡ tells_packet plan.now kind }
+{
+    links(plan.subcommand, kind) && plan.target.turns.is_empty()
+}
+
+/// The kernel's struct that the entry takes, if it takes one.
+fn packet_for(
+    alloc: Global,
+    takes: EntryTakes,
+    tells: bool,
+    file: &[u8],
+    section: &[u8],
+    entry: &[u8],
+) -> Option<Packet>
+    ensures { IsPacketOf takes tells file.now section.now entry.now result }
+{
+    match takes {
+        EntryTakes::Unsaid => {
+            if tells {
+                told_packet(alloc, file, section, entry)
+            } else {
+                None
+            }
+        }
+        EntryTakes::Struct(packet) => Some(packet),
+        EntryTakes::Context => None,
     }
 }
 

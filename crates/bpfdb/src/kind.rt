@@ -53,7 +53,7 @@ pub fn misfit_of(job: &Job<'_>) -> Option<KindFault>
 }
 
 /// Whether a job runs two programs.
-fn runs_two(job: &Job<'_>) -> bool
+pub fn runs_two(job: &Job<'_>) -> bool
     ensures { result ≡ runs_two job.now }
 {
     match job.subcommand {
@@ -63,7 +63,7 @@ fn runs_two(job: &Job<'_>) -> bool
 }
 
 /// Whether a file is an object.
-fn is_object(kind: SourceKind) -> bool
+pub fn is_object(kind: SourceKind) -> bool
     ensures { result ≡ links_first kind }
 {
     match kind {

@@ -10,9 +10,13 @@ ghost use Rattle.bpfdb_options.specs.declared.subcommand.Subcommand.TheVariants.
 
 mod doing;
 mod files;
+mod host;
 mod input;
 mod job;
 mod kind;
+mod library;
+mod linux;
+mod notes;
 mod opening;
 mod prompt;
 mod telling;
@@ -26,7 +30,9 @@ use bpfdb_options::Subcommand;
 use clap::Error;
 use counted_io::Counted;
 use doing::{do_plan, show_help};
+use host::Host;
 use input::is_closed;
+use library::Library;
 use opening::{BuiltIn, SystemFiles, first_plan};
 use prompt::{FIRST_GREETING, GREETING, Prompting};
 use std::io;
@@ -68,13 +74,25 @@ fn obey_words(rt: &HostRuntime, words: &[String], errors: &mut Errors) -> u8
     ensures status { result ≤ 2 }
 {
     if words.len() < 2 {
-        return do_over_streams(rt, &BuiltIn, &first_plan(), FIRST_GREETING, errors);
+        let library = Library::none();
+        return do_over_streams(
+            rt,
+            &BuiltIn,
+            &library,
+            &first_plan(),
+            FIRST_GREETING,
+            errors,
+        );
     }
     let Some(texts) = texts_of(rt.alloc(), words) else {
         return give_up(errors, &JobFault::Memory);
     };
     match plan(rt.alloc(), texts.as_slice()) {
-        Ok(plan) => do_over_streams(rt, &SystemFiles::new(rt), &plan, GREETING, errors),
+        Ok(plan) => {
+            let files = SystemFiles::new(rt);
+            let library = Library::of(rt);
+            do_over_streams(rt, &files, &library, &plan, GREETING, errors)
+        }
         Err(fault) => show(rt, words, &fault, errors),
     }
 }
@@ -138,6 +156,7 @@ fn write_mistake(rt: &HostRuntime, text: &Error, errors: &mut Errors) -> u8
 fn do_over_streams<F: Opener>(
     rt: &HostRuntime,
     files: &F,
+    library: &Library,
     plan: &Plan<'_>,
     greeting: &'static str,
     errors: &mut Errors,
@@ -150,10 +169,16 @@ fn do_over_streams<F: Opener>(
         return give_up(errors, &JobFault::Memory);
     };
     let mut writer = Counted::new(output);
+    let host = Host {
+        files,
+        wants_linux: library.is_wanted,
+        linux: library.path(),
+        at_terminal: rt.stderr().is_terminal(),
+    };
     let mut input = Retrying::new(rt.reader());
     if is_closed(rt, &mut input) {
         let mut reader = Counted::new(b"".as_slice());
-        return do_over(rt, files, plan, &mut reader, &mut writer, errors);
+        return do_over(rt, &host, plan, &mut reader, &mut writer, errors);
     }
     if is_typed(rt, plan) {
         let input = Prompting::new(&mut input, Retrying::new(rt.stderr()), greeting);
@@ -161,21 +186,20 @@ fn do_over_streams<F: Opener>(
             return give_up(errors, &JobFault::Memory);
         };
         let mut reader = Counted::new(input);
-        return do_over(rt, files, plan, &mut reader, &mut writer, errors);
+        return do_over(rt, &host, plan, &mut reader, &mut writer, errors);
     }
     let Ok(input) = BufReader::new(rt.alloc(), &mut input) else {
         return give_up(errors, &JobFault::Memory);
     };
     let mut reader = Counted::new(input);
-    do_over(rt, files, plan, &mut reader, &mut writer, errors)
+    do_over(rt, &host, plan, &mut reader, &mut writer, errors)
 }
 
-/// Does a plan over a reader and a writer. What is said at a terminal alone is said where standard
-/// error is one.
-fn do_over<F: Opener, R: Read, W: Write>(
+/// Does a plan over a reader and a writer.
+fn do_over<'a, F: Opener, R: Read, W: Write>(
     rt: &HostRuntime,
-    files: &F,
-    plan: &Plan<'_>,
+    host: &Host<'a, F>,
+    plan: &Plan<'a>,
     reader: &mut Counted<R>,
     writer: &mut Counted<W>,
     errors: &mut Errors,
@@ -184,8 +208,7 @@ fn do_over<F: Opener, R: Read, W: Write>(
     ensures value { result ≢ 2 → EndsPlanWith plan.now result }
     ensures status { result ≤ 2 }
 {
-    let at_terminal = rt.stderr().is_terminal();
-    do_plan(rt.alloc(), files, plan, at_terminal, reader, writer, errors)
+    do_plan(rt.alloc(), host, plan, reader, writer, errors)
 }
 
 /// Whether commands are typed: the plan reads them, and standard input is a terminal.

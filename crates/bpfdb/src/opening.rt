@@ -6,7 +6,7 @@ ghost use Rattle.bpfdb_limits.specs.Limits.{IsLimit};
 ghost use Rattle.bpfdb_options.specs.declared.subcommand.Subcommand.TheVariants.{Debug};
 
 use arrayvec::ArrayVec;
-use bpfdb_cli::{Plan, TargetWords};
+use bpfdb_cli::{EntryTakes, Plan, TargetWords};
 use bpfdb_files::{Opener, Retrying};
 use bpfdb_options::{NO_OPTIONS, Subcommand};
 use std::fs;
@@ -62,11 +62,13 @@ pub fn first_plan() -> Plan<'static>
             section: None,
             entry: None,
             stubs: None,
-            as_compiled: false,
-            packet: None,
+            strict_fields: false,
+            takes: EntryTakes::Unsaid,
             with: ArrayVec::new(),
             turns: ArrayVec::new(),
             counts: ArrayVec::new(),
+            no_linux: false,
+            is_faithful: false,
         },
         options: NO_OPTIONS,
         json: false,

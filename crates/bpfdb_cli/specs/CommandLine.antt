@@ -13,6 +13,10 @@ mem_rule = record (new_rule (codes "mem")) { short = Some 109; long = Some (code
 abbrev pub maps_rule : Rule
 maps_rule = record (new_rule (codes "maps")) { long = Some (codes "maps"); value_names = 1 }
 
+-- `--regs REG=VALUE,REG=VALUE`: the values of registers at the start.
+abbrev pub regs_rule : Rule
+regs_rule = record (new_rule (codes "regs")) { long = Some (codes "regs"); value_names = 1 }
+
 -- `--journal J`: a number below 2^64, with a default. That of `gdb`, `origin` and `whynot`, whose histories are longer, is
 -- greater.
 abbrev pub journal_rule_with : Text → Rule
@@ -95,17 +99,27 @@ entries_rule = record (new_rule (codes "entries")) { long = Some (codes "entries
 abbrev pub stub_rule : Rule
 stub_rule = record (new_rule (codes "stub")) { long = Some (codes "stub"); value_names = 1 }
 
--- `--as-compiled`: relocations of fields are left undone.
+-- `--fields HOW`: whether fields stay where they were compiled; and an older word for that, which asks for nothing any more.
+abbrev pub fields_rule : Rule
+fields_rule = record (new_rule (codes "fields")) { long = Some (codes "fields"); value_names = 1 }
+
 abbrev pub as_compiled_rule : Rule
 as_compiled_rule = record (new_rule (codes "as-compiled")) { long = Some (codes "as-compiled"); action = Some SetTrue }
 
--- `--packet KIND`: the kernel's struct of a packet that the entry takes.
-abbrev pub packet_rule : Rule
-packet_rule = record (new_rule (codes "packet")) { long = Some (codes "packet"); value_names = 1 }
+-- `--struct KIND`, which was called `--packet`: what the entry takes.
+abbrev pub struct_rule : Rule
+struct_rule = record (new_rule (codes "struct")) { long = Some (codes "struct"); aliases = codes "packet" ∷ []; value_names = 1 }
 
 -- `--with OBJECT`: objects with functions that answer calls, one each time.
 abbrev pub with_functions_rule : Rule
 with_functions_rule = record (new_rule (codes "with")) { long = Some (codes "with"); value_names = 1; action = Some Append }
+
+-- `--no-linux`: Linux's helpers aren't linked by themselves. `--faithful`: those that answer otherwise than Linux's are refused.
+abbrev pub no_linux_rule : Rule
+no_linux_rule = record (new_rule (codes "no-linux")) { long = Some (codes "no-linux"); action = Some SetTrue }
+
+abbrev pub faithful_rule : Rule
+faithful_rule = record (new_rule (codes "faithful")) { long = Some (codes "faithful"); action = Some SetTrue }
 
 -- `--joined`: the object that is linked is written.
 abbrev pub joined_rule : Rule
@@ -195,10 +209,13 @@ file_rule = record (new_rule (codes "file")) { required = true; value_names = 1 
 abbrev pub shared_file_rule : Rule
 shared_file_rule = record (new_rule (codes "file")) { value_names = 1; defaults = codes "/dev/null" ∷ [] }
 
--- What is asked of the link of an object.
+-- What is asked of the link of an object: where it begins and what it is given, and what it is linked with.
+abbrev pub with_entry_rules : App → App
+with_entry_rules app = with_rule (with_rule (with_rule (with_rule app section_rule) entry_rule) entries_rule) stub_rule
+
 abbrev pub with_link_rules : App → App
-with_link_rules app = with_rule (with_rule (with_rule (with_rule (with_rule (with_rule (with_rule app
-    section_rule) entry_rule) entries_rule) stub_rule) as_compiled_rule) packet_rule) with_functions_rule
+with_link_rules app = with_rule (with_rule (with_rule (with_rule (with_rule (with_rule (with_entry_rules app)
+    fields_rule) as_compiled_rule) struct_rule) with_functions_rule) no_linux_rule) faithful_rule
 
 -- What FILE may be said to be: words, a listing, or an object.
 abbrev pub with_file_kinds : App → App
@@ -206,16 +223,16 @@ with_file_kinds app = with_link_rules (with_rule (with_rule (with_rule app words
 
 -- The subcommands and their options.
 abbrev pub run_app : App
-run_app = with_rule (with_rule (with_file_kinds (with_rule (with_rule (with_rule (with_rule (new_app (codes "run"))
-    mem_rule) maps_rule) steps_rule) strict_rule)) json_rule) file_rule
+run_app = with_rule (with_rule (with_file_kinds (with_rule (with_rule (with_rule (with_rule (with_rule (new_app (codes "run"))
+    mem_rule) maps_rule) regs_rule) steps_rule) strict_rule)) json_rule) file_rule
 
 abbrev pub trace_app : App
-trace_app = with_rule (with_rule (with_file_kinds (with_rule (with_rule (with_rule (with_rule (with_rule (with_rule (with_rule (with_rule (new_app (codes "trace"))
-    mem_rule) maps_rule) steps_rule) from_rule) count_rule) branches_rule) profile_rule) strict_rule)) json_rule) file_rule
+trace_app = with_rule (with_rule (with_file_kinds (with_rule (with_rule (with_rule (with_rule (with_rule (with_rule (with_rule (with_rule (with_rule (new_app (codes "trace"))
+    mem_rule) maps_rule) regs_rule) steps_rule) from_rule) count_rule) branches_rule) profile_rule) strict_rule)) json_rule) file_rule
 
 abbrev pub debug_app : App
-debug_app = with_rule (with_file_kinds (with_rule (with_rule (with_rule (with_rule (new_app (codes "debug"))
-    mem_rule) maps_rule) journal_rule) steps_rule)) file_rule
+debug_app = with_rule (with_file_kinds (with_rule (with_rule (with_rule (with_rule (with_rule (new_app (codes "debug"))
+    mem_rule) maps_rule) regs_rule) journal_rule) steps_rule)) file_rule
 
 abbrev pub asm_app : App
 asm_app = with_rule (new_app (codes "asm")) file_rule
@@ -241,23 +258,23 @@ test_app = with_rule (with_rule (with_rule (with_rule (with_rule (with_rule (wit
 
 -- `gdb` opens a session as `debug` does, over a larger journal.
 abbrev pub gdb_app : App
-gdb_app = with_rule (with_rule (with_file_kinds (with_rule (with_rule (with_rule (with_rule (new_app (codes "gdb"))
-    mem_rule) maps_rule) gdb_journal_rule) steps_rule)) registers_rule) file_rule
+gdb_app = with_rule (with_rule (with_file_kinds (with_rule (with_rule (with_rule (with_rule (with_rule (new_app (codes "gdb"))
+    mem_rule) maps_rule) regs_rule) gdb_journal_rule) steps_rule)) registers_rule) file_rule
 
 -- `origin` runs the program as `debug` does, over that journal, too.
 abbrev pub origin_app : App
-origin_app = with_rule (with_rule (with_rule (with_rule (with_rule (with_rule (with_rule (with_file_kinds (with_rule (with_rule (with_rule (with_rule (with_rule (new_app (codes "origin"))
-    mem_rule) maps_rule) gdb_journal_rule) steps_rule) script_rule)) lines_rule) addresses_rule) branches_rule) json_rule) dot_rule) what_rule) file_rule
+origin_app = with_rule (with_rule (with_rule (with_rule (with_rule (with_rule (with_rule (with_file_kinds (with_rule (with_rule (with_rule (with_rule (with_rule (with_rule (new_app (codes "origin"))
+    mem_rule) maps_rule) regs_rule) gdb_journal_rule) steps_rule) script_rule)) lines_rule) addresses_rule) branches_rule) json_rule) dot_rule) what_rule) file_rule
 
 -- `whynot` does so, too.
 abbrev pub whynot_app : App
-whynot_app = with_rule (with_rule (with_rule (with_rule (with_rule (with_rule (with_file_kinds (with_rule (with_rule (with_rule (with_rule (with_rule (new_app (codes "whynot"))
-    mem_rule) maps_rule) gdb_journal_rule) steps_rule) script_rule)) lines_rule) addresses_rule) alone_rule) json_rule) goal_rule) file_rule
+whynot_app = with_rule (with_rule (with_rule (with_rule (with_rule (with_rule (with_file_kinds (with_rule (with_rule (with_rule (with_rule (with_rule (with_rule (new_app (codes "whynot"))
+    mem_rule) maps_rule) regs_rule) gdb_journal_rule) steps_rule) script_rule)) lines_rule) addresses_rule) alone_rule) json_rule) goal_rule) file_rule
 
 -- `diff` runs two programs, or one on two contexts or along a trace, as `run` does.
 abbrev pub diff_app : App
-diff_app = with_rule (with_rule (with_rule (with_rule (with_rule (with_rule (with_file_kinds (with_rule (with_rule (with_rule (with_rule (with_rule (with_rule (with_rule (new_app (codes "diff"))
-    mem_rule) other_mem_rule) other_trace_rule) maps_rule) gdb_journal_rule) steps_rule) writes_rule)) lines_rule) addresses_rule) alone_rule) json_rule) other_rule) file_rule
+diff_app = with_rule (with_rule (with_rule (with_rule (with_rule (with_rule (with_file_kinds (with_rule (with_rule (with_rule (with_rule (with_rule (with_rule (with_rule (with_rule (new_app (codes "diff"))
+    mem_rule) other_mem_rule) other_trace_rule) maps_rule) regs_rule) gdb_journal_rule) steps_rule) writes_rule)) lines_rule) addresses_rule) alone_rule) json_rule) other_rule) file_rule
 
 -- `batch` runs cases as `run` does.
 abbrev pub batch_app : App

@@ -9,6 +9,8 @@ use Rattle.clap.specs.declared.error.Error.{Error}
 use Rattle.clap.specs.declared.error.kind.ErrorKind.{ErrorKind}
 use Rattle.clap.specs.declared.error.kind.ErrorKind.TheVariants as kind
 use Rattle.bpfdb_cli.specs.CommandLine.{command_app}
+use Rattle.bpfdb_cli.specs.declared.plans.EntryTakes.{EntryTakes}
+use Rattle.bpfdb_cli.specs.declared.plans.EntryTakes.TheVariants.{Unsaid, Struct, Context}
 use Rattle.bpfdb_cli.specs.declared.plans.Plan.{Plan}
 use Rattle.bpfdb_cli.specs.declared.plans.PlanFault.{PlanFault}
 use Rattle.bpfdb_cli.specs.declared.plans.PlanFault.TheVariants.{Usage, Memory}
@@ -47,15 +49,25 @@ NamesPart None part = part ≡ None
 NamesPart (Some text) None = ⊥
 NamesPart (Some text) (Some part) = test_part_name part ≡ text
 
--- The kernel's struct of that name, none where the option has no text.
-abbrev pub NamesPacket : Option Text → Option Packet → Type 0
-NamesPacket None packet = packet ≡ None
-NamesPacket (Some text) None = ⊥
-NamesPacket (Some text) (Some packet) = packet_name packet ≡ text
+-- What the entry takes: the kernel's struct of that name, or the context's address; nothing is said where the option has no text.
+abbrev pub NamesStruct : Option Text → EntryTakes → Type 0
+NamesStruct None takes = takes ≡ Unsaid
+NamesStruct (Some text) Unsaid = ⊥
+NamesStruct (Some text) (Struct packet) = packet_name packet ≡ text
+NamesStruct (Some text) Context = text ≡ codes "none"
+
+-- Whether fields may not stay where they were compiled; they may where the option has no text.
+abbrev pub fields_name : Bool → Text
+fields_name strict = if strict then codes "strict" else codes "compiled"
+
+abbrev pub NamesFields : Option Text → Bool → Type 0
+NamesFields None strict = strict ≡ false
+NamesFields (Some text) strict = fields_name strict ≡ text
 
 -- Options say what a subcommand's matches say.
 pub record Chooses (rows : List Row) (options : Options) : Type 0 where
   pub journal : options.journal ≡ number_or default_journal (first_of (codes "journal") rows)
+  pub regs : option_map (λ s. s.now) options.regs ≡ first_of (codes "regs") rows
   pub limit : options.limit ≡ number_or default_limit (first_of (codes "steps") rows)
   pub from : options.from ≡ number_or 1 (first_of (codes "from") rows)
   pub count : options.count ≡ number_or greatest_count (first_of (codes "count") rows)
@@ -110,8 +122,8 @@ turns_in rows = if names_one (texts_in (codes "entry") rows) then [] else texts_
 -- Something is asked of the link of an object.
 abbrev pub asks_of_link : List Row → Bool
 asks_of_link rows = is_some (first_of (codes "section") rows) || (is_some (first_of (codes "entry") rows)
-    || (is_some (first_of (codes "stub") rows) || (is_given (first_of (codes "as-compiled") rows) || (is_some (first_of (codes "packet") rows)
-    || (is_some (first_of (codes "with") rows) || is_some (first_of (codes "entries") rows))))))
+    || (is_some (first_of (codes "stub") rows) || (is_given (first_of (codes "as-compiled") rows) || (is_some (first_of (codes "struct") rows)
+    || (is_some (first_of (codes "fields") rows) || (is_some (first_of (codes "with") rows) || is_some (first_of (codes "entries") rows)))))))
 
 -- FILE is said to be an object, or that is asked.
 abbrev pub is_object : List Row → Bool
@@ -126,14 +138,16 @@ pub record Aims (rows : List Row) (target : TargetWords) : Type 0 where
   pub section : option_map (λ s. s.now) target.section ≡ first_of (codes "section") rows
   pub entry : option_map (λ s. s.now) target.entry ≡ first_of (codes "entry") rows
   pub stubs : option_map (λ s. s.now) target.stubs ≡ first_of (codes "stub") rows
-  pub as_compiled : target.as_compiled ≡ is_given (first_of (codes "as-compiled") rows)
-  pub packet : NamesPacket (first_of (codes "packet") rows) target.packet
+  pub fields : NamesFields (first_of (codes "fields") rows) target.strict_fields
+  pub takes : NamesStruct (first_of (codes "struct") rows) target.takes
   pub with : map (λ s. s.now) target.with.items ≡ texts_in (codes "with") rows
   pub few : length (texts_in (codes "with") rows) ≤ most_texts
   pub turns : map (λ s. s.now) target.turns.items ≡ turns_in rows
   pub few_turns : length (turns_in rows) ≤ most_texts
   pub counts : map (λ s. s.now) target.counts.items ≡ texts_in (codes "entries") rows
   pub few_counts : length (texts_in (codes "entries") rows) ≤ most_texts
+  pub no_linux : target.no_linux ≡ is_given (first_of (codes "no-linux") rows)
+  pub faithful : target.is_faithful ≡ is_given (first_of (codes "faithful") rows)
 
 -- A plan says what they say.
 pub record Says (name : Text) (rows : List Row) (plan : Plan) : Type 0 where
@@ -208,7 +222,7 @@ joins_nothing rows = is_given (first_of (codes "joined") rows) && (not (is_some 
     && (not (is_some (first_of (codes "entries") rows)) && names_one (texts_in (codes "entry") rows)))
 
 abbrev pub joins_packet : List Row → Bool
-joins_packet rows = is_given (first_of (codes "joined") rows) && is_some (first_of (codes "packet") rows)
+joins_packet rows = is_given (first_of (codes "joined") rows) && is_some (first_of (codes "struct") rows)
 
 abbrev pub object_fits : Text → List Row → Bool
 object_fits name rows = not (joins_nothing rows) && (not (joins_packet rows) && run_fits name rows)

@@ -2,7 +2,7 @@
 ghost use Rattle.std.specs.Prelude.{◌≡◌, IfOk, false, fold};
 ghost use Rattle.clap.specs.Words.{app_of, new_app, rule_of, with_subcommand};
 ghost use Rattle.bpfdb_cli.specs.CommandLine.{bare_app, command_app, with_files, with_questions, with_runs, with_subcommands};
-ghost use Rattle.bpfdb_cli.specs.Subcommands.{count_rule_of, entry_app, flag_rule, operand_rule, option_rule, text_rule, with_entry, with_option};
+ghost use Rattle.bpfdb_cli.specs.Subcommands.{count_rule_of, entry_app, flag_rule, operand_rule, option_rule, renamed_rule, text_rule, with_entry, with_option};
 
 use crate::help;
 use crate::options::{CliOption, Takes};
@@ -54,26 +54,43 @@ fn operand<'a>(alloc: Global, option: &CliOption<'a>) -> Arg<'a>
         .help(option.about)
 }
 
+/// An option with a text that has another name, too, which help leaves out.
+fn renamed<'a>(
+    alloc: Global,
+    option: &CliOption<'a>,
+    old_name: &'a str,
+) -> Result<Arg<'a>, AllocError>
+    ensures value { IfOk result (λ arg. rule_of arg
+        ≡ renamed_rule option.now.name.now old_name.now) }
+    ensures local { IfOk result (λ arg. arg.global ≡ false) }
+{
+    text_option(alloc, option).alias(old_name)
+}
+
 /// What `clap` is told of an option.
-fn argument_of<'a>(alloc: Global, option: &CliOption<'a>) -> Arg<'a>
-    ensures value { rule_of result ≡ option_rule option.now }
-    ensures local { result.global ≡ false }
+fn argument_of<'a>(alloc: Global, option: &CliOption<'a>) -> Result<Arg<'a>, AllocError>
+    ensures value { IfOk result (λ arg. rule_of arg ≡ option_rule option.now) }
+    ensures local { IfOk result (λ arg. arg.global ≡ false) }
 {
     match option.takes {
-        Takes::Nothing => flag(alloc, option),
-        Takes::Text => text_option(alloc, option),
-        Takes::ShortText(letter) => text_option(alloc, option).short(letter),
-        Takes::Texts => text_option(alloc, option).action(ArgAction::Append),
-        Takes::TextOr(default) => text_option(alloc, option).default_value(default),
-        Takes::Count => count_option(alloc, option),
-        Takes::CountOr(default) => count_option(alloc, option).default_value(default),
-        Takes::SizeOr(default) => text_option(alloc, option)
-            .value_parser(value_parser!(u64))
-            .default_value(default),
-        Takes::File => operand(alloc, option).required(true),
-        Takes::FileOr(default) => operand(alloc, option).default_value(default),
-        Takes::Second => operand(alloc, option).index(2),
-        Takes::NeededSecond => operand(alloc, option).index(2).required(true),
+        Takes::Nothing => Ok(flag(alloc, option)),
+        Takes::Obsolete => Ok(flag(alloc, option).hide(true)),
+        Takes::Text => Ok(text_option(alloc, option)),
+        Takes::ShortText(letter) => Ok(text_option(alloc, option).short(letter)),
+        Takes::Renamed(old_name) => renamed(alloc, option, old_name),
+        Takes::Texts => Ok(text_option(alloc, option).action(ArgAction::Append)),
+        Takes::TextOr(default) => Ok(text_option(alloc, option).default_value(default)),
+        Takes::Count => Ok(count_option(alloc, option)),
+        Takes::CountOr(default) => Ok(count_option(alloc, option).default_value(default)),
+        Takes::SizeOr(default) => Ok(
+            text_option(alloc, option)
+                .value_parser(value_parser!(u64))
+                .default_value(default),
+        ),
+        Takes::File => Ok(operand(alloc, option).required(true)),
+        Takes::FileOr(default) => Ok(operand(alloc, option).default_value(default)),
+        Takes::Second => Ok(operand(alloc, option).index(2)),
+        Takes::NeededSecond => Ok(operand(alloc, option).index(2).required(true)),
     }
 }
 
@@ -104,7 +121,7 @@ fn with_options<'a>(
 {
     let mut command = bare;
     for option in options {
-        command = command.arg(argument_of(alloc, option))?;
+        command = command.arg(argument_of(alloc, option)?)?;
     }
     Ok(command)
 }

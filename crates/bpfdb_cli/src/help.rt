@@ -378,6 +378,16 @@ pub const MAPS_LONG: &str = "The program's maps, at most 16, each as VxN: V byte
 there are none, and a program that names a map is refused (C12). An
 object has maps of its own. Example: --maps 8x2,4x256";
 
+/// `--regs`.
+pub const REGS: &str = "Values of registers before the first step";
+
+pub const REGS_LONG: &str = "Values that registers have before the first step: r0 to r9, each once,
+and a number, or context, context+N, stack or stack-N for an address:
+the context's first byte, or N bytes on, at most 65536; r10 at the
+start, or N bytes back, at most 512. They count as no move. Without it
+r1 is the context's address, r2 its length, and the others are 0.
+Example: --regs r1=0x5,r3=context+4";
+
 /// `--journal`.
 pub const JOURNAL: &str = "Journal bytes, 1024 to 16777216";
 
@@ -467,13 +477,27 @@ its number or its name in the kernel, an =, and -2147483648 to
 2147483647. Nothing else happens at such a call.
 Example: --stub 5=0,get_current_pid_tgid=-1";
 
-/// `--packet`.
-pub const PACKET: &str = "Takes an xdp or tc program of the kernel's as it is";
+/// `--struct`.
+pub const STRUCT: &str = "The kernel's struct that the entry takes";
 
-pub const PACKET_LONG: &str = "What an unchanged program of the kernel's is given: xdp, its struct
-xdp_md, or tc, its __sk_buff. The words before the program make that
-struct of the packet that is the context, and what goes by its address
-is rewritten. Example: --packet xdp";
+pub const STRUCT_LONG: &str = "The kernel's struct that the entry takes: xdp, its xdp_md, or tc, its
+__sk_buff. The words before the program make it of the packet that is
+the context, and what goes by its address is rewritten. Without it the
+object's BTF tells it, by the entry's type. With none r1 has the
+context's address. Example: --struct xdp";
+
+/// `--fields`.
+pub const FIELDS: &str = "Whether fields of CO-RE may stay as compiled";
+
+pub const FIELDS_LONG: &str = "What becomes of fields that the object asks its loader to move
+(CO-RE): compiled leaves them where they were compiled, which is told,
+and is so without it; strict refuses them. Example: --fields strict";
+
+/// `--no-linux`.
+pub const NO_LINUX: &str = "Never links Linux's helpers in by itself";
+
+/// `--faithful`.
+pub const FAITHFUL: &str = "Refuses what answers otherwise than in Linux";
 
 /// `--with`.
 pub const WITH: &str = "Object with functions that FILE's code calls";
@@ -496,9 +520,6 @@ replies are not shown, and WHAT is asked about the state where it
 leaves the session. --steps is then the limit of each of its commands.
 If a line is refused, only its refusal is printed.
 Example: --script steps";
-
-/// `--as-compiled`.
-pub const AS_COMPILED: &str = "Leaves the fields of CO-RE where they were compiled";
 
 /// `--lines`.
 pub const LINES_MOST: &str = "Most lines told, 1 to 1000000000";

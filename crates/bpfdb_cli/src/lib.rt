@@ -10,4 +10,4 @@ mod plans;
 mod subcommands;
 
 pub use planner::plan;
-pub use plans::{Plan, PlanFault, TargetWords};
+pub use plans::{EntryTakes, Plan, PlanFault, TargetWords};

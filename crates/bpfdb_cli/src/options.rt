@@ -6,10 +6,14 @@ use crate::help;
 pub(crate) enum Takes<'a> {
     /// Nothing.
     Nothing,
+    /// Nothing, and it asks for nothing that isn't so without it; help leaves it out.
+    Obsolete,
     /// A text.
     Text,
     /// A text; the option has a name of one letter, too.
     ShortText(char),
+    /// A text; the option was called so before, and is still known by that name.
+    Renamed(&'a str),
     /// A text each time that it comes.
     Texts,
     /// A text, or this one.
@@ -59,6 +63,15 @@ pub(crate) const MAPS: CliOption<'static> = CliOption {
     value: "VxN,VxN",
     about: help::MAPS,
     long_about: help::MAPS_LONG,
+};
+
+/// `--regs REG=VALUE,REG=VALUE`.
+pub(crate) const REGS: CliOption<'static> = CliOption {
+    name: "regs",
+    takes: Takes::Text,
+    value: "REG=VALUE",
+    about: help::REGS,
+    long_about: help::REGS_LONG,
 };
 
 /// `--journal J`.
@@ -223,22 +236,31 @@ pub(crate) const SCRIPT: CliOption<'static> = CliOption {
     long_about: help::SCRIPT_LONG,
 };
 
-/// `--as-compiled`.
+/// `--fields HOW`.
+pub(crate) const FIELDS: CliOption<'static> = CliOption {
+    name: "fields",
+    takes: Takes::Text,
+    value: "HOW",
+    about: help::FIELDS,
+    long_about: help::FIELDS_LONG,
+};
+
+/// `--as-compiled`, which `--fields compiled` is without any word.
 pub(crate) const AS_COMPILED: CliOption<'static> = CliOption {
     name: "as-compiled",
-    takes: Takes::Nothing,
+    takes: Takes::Obsolete,
     value: "",
-    about: help::AS_COMPILED,
+    about: "",
     long_about: "",
 };
 
-/// `--packet STRUCT`.
-pub(crate) const PACKET: CliOption<'static> = CliOption {
-    name: "packet",
-    takes: Takes::Text,
+/// `--struct KIND`.
+pub(crate) const STRUCT: CliOption<'static> = CliOption {
+    name: "struct",
+    takes: Takes::Renamed("packet"),
     value: "KIND",
-    about: help::PACKET,
-    long_about: help::PACKET_LONG,
+    about: help::STRUCT,
+    long_about: help::STRUCT_LONG,
 };
 
 /// `--with OBJECT`.
@@ -248,6 +270,24 @@ pub(crate) const WITH: CliOption<'static> = CliOption {
     value: "OBJECT",
     about: help::WITH,
     long_about: help::WITH_LONG,
+};
+
+/// `--no-linux`.
+pub(crate) const NO_LINUX: CliOption<'static> = CliOption {
+    name: "no-linux",
+    takes: Takes::Nothing,
+    value: "",
+    about: help::NO_LINUX,
+    long_about: "",
+};
+
+/// `--faithful`.
+pub(crate) const FAITHFUL: CliOption<'static> = CliOption {
+    name: "faithful",
+    takes: Takes::Nothing,
+    value: "",
+    about: help::FAITHFUL,
+    long_about: "",
 };
 
 /// `--joined`.

@@ -1,5 +1,5 @@
 //! From the words of a command line to a plan.
-ghost use Rattle.std.specs.Prelude.{◌≡◌, ◌≤◌, ◌<◌, ◌^◌, [], IfErr, IfNone, IfOk, IfSome, MatchOption, OnErr, OnOk, OnSome, Option, Some, List, codes, drop, false, is_some, length, map, nat_le, not, option_map, true, unwrap_or, ◌&&◌};
+ghost use Rattle.std.specs.Prelude.{◌≡◌, ◌≤◌, ◌<◌, ◌^◌, [], IfErr, IfNone, IfOk, IfSome, MatchOption, OnErr, OnOk, OnSome, Option, Some, List, Bool, codes, drop, false, is_some, length, map, nat_le, not, option_map, true, unwrap_or, ◌&&◌};
 ghost use Rattle.std.specs.List.{list_all};
 ghost use Rattle.std.specs.Str.Parse.{IsNumeral, digits_value, without_leading_plus};
 ghost use Rattle.input_texts.specs.Counts.{are_counts};
@@ -7,10 +7,10 @@ ghost use Rattle.input_texts.specs.Turns.{has_place};
 ghost use Rattle.clap.specs.Words.{Row, Text, all_of, first_of, found_of, rows_of, subcommand_rows_of};
 ghost use Rattle.bpfdb_limits.specs.Limits.{IsLimit};
 ghost use Rattle.bpfdb_cli.specs.Scaffolding.{AskAlike};
-ghost use Rattle.bpfdb_cli.specs.Plans.{Aims, AreInRange, Chooses, HasKindIfTold, IsFaultOf, IsNumber, IsPlan, IsPlanOf, NamesPart, NamesRegisters, Says, Tells, asks_of_link, counts_strictly, go_together, is_given, joins_nothing, joins_packet, names_one, object_fits, is_object, kinds_fit, may_be_object, names_other, number_or, other_in, run_fits, given_or, NamesPacket, entries_fit, has_offset, graph_fits, is_json_graph, is_json_tracefile, most_texts, names_side, writes_fit, shows_json, texts_in, told_fits, turns_in};
+ghost use Rattle.bpfdb_cli.specs.Plans.{Aims, AreInRange, Chooses, HasKindIfTold, IsFaultOf, IsNumber, IsPlan, IsPlanOf, NamesPart, NamesRegisters, Says, Tells, asks_of_link, counts_strictly, go_together, is_given, joins_nothing, joins_packet, names_one, object_fits, is_object, kinds_fit, may_be_object, names_other, number_or, other_in, run_fits, given_or, NamesFields, NamesStruct, entries_fit, has_offset, graph_fits, is_json_graph, is_json_tracefile, most_texts, names_side, writes_fit, shows_json, texts_in, told_fits, turns_in};
 
 use crate::command_line::command_line;
-use crate::plans::{MOST_TEXTS, Plan, PlanFault, TargetWords};
+use crate::plans::{EntryTakes, MOST_TEXTS, Plan, PlanFault, TargetWords};
 use arrayvec::ArrayVec;
 use bpf_packet::Packet;
 use bpfdb_limits::{DEFAULT_JOURNAL, DEFAULT_LIMIT, GREATEST_COUNT, is_limit};
@@ -55,7 +55,7 @@ const DOT_AND_JSON: &str = "the argument '--dot' cannot be used with '--json'";
 
 const JOINED_ALONE: &str = "'--joined' needs '--with', '--entries', or several '--entry'";
 
-const JOINED_AND_PACKET: &str = "the argument '--joined' cannot be used with '--packet <KIND>'";
+const JOINED_AND_STRUCT: &str = "the argument '--joined' cannot be used with '--struct <KIND>'";
 
 const MANY_OBJECTS: &str = "the argument '--with <OBJECT>' is used more than 16 times";
 
@@ -70,7 +70,7 @@ const BAD_COUNT: &str =
     "each '--entries <NAME=N>' names a map of its own, and N is a number, 1 to 4294967295";
 
 const OF_OBJECTS: &str =
-    "'--section', '--entry', '--entries', '--stub', '--as-compiled', '--packet' and '--with' are of objects: without '--words', '--listing' and '--maps'";
+    "'--section', '--entry', '--entries', '--stub', '--fields', '--struct' and '--with' are of objects: without '--words', '--listing' and '--maps'";
 
 /// The plan of a command line, of which the first word is the program's name.
 pub fn plan<'a>(alloc: Global, words: &'a [&'a str]) -> Result<Plan<'a>, PlanFault>
@@ -168,14 +168,17 @@ fn plan_in<'a>(name: &'a str, found: &ArgMatches<'a>) -> Result<Plan<'a>, &'stat
     let Some(options) = options_in(found) else {
         return Err(BAD_VALUE);
     };
-    let Some(packet) = packet_of(text_of(found, "packet")) else {
+    let Some(takes) = takes_of(text_of(found, "struct")) else {
+        return Err(BAD_VALUE);
+    };
+    let Some(strict_fields) = is_strict(text_of(found, "fields")) else {
         return Err(BAD_VALUE);
     };
     match misfit_in(name, found) {
         Some(why) => return Err(why),
         None => {}
     }
-    let target = match target_in(found, packet) {
+    let target = match target_in(found, takes, strict_fields) {
         Ok(target) => target,
         Err(why) => return Err(why),
     };
@@ -247,7 +250,7 @@ fn misfit_of_object(name: &str, found: &ArgMatches<'_>) -> Option<&'static str>
         return Some(JOINED_ALONE);
     }
     if joins_packet(found) {
-        Some(JOINED_AND_PACKET)
+        Some(JOINED_AND_STRUCT)
     } else {
         misfit_of_run(name, found)
     }
@@ -267,7 +270,7 @@ fn joins_nothing(found: &ArgMatches<'_>) -> bool
 fn joins_packet(found: &ArgMatches<'_>) -> bool
     ensures { result ≡ joins_packet (rows_of (found_of found.now)) }
 {
-    is_given(found, "joined") && has_text(found, "packet")
+    is_given(found, "joined") && has_text(found, "struct")
 }
 
 /// Whether no programs are called in turn.
@@ -469,18 +472,20 @@ fn asks_of_link(found: &ArgMatches<'_>) -> bool
 {
     let chooses = has_text(found, "section") || has_text(found, "entry");
     let adds = has_text(found, "with") || has_text(found, "entries");
-    let fits = has_text(found, "packet") || adds;
+    let fits = has_text(found, "struct") || (has_text(found, "fields") || adds);
     let leaves = is_given(found, "as-compiled") || fits;
     chooses || (has_text(found, "stub") || leaves)
 }
 
-/// What a subcommand's matches say of FILE and of the program that runs, which takes this struct; or
-/// why they don't.
+/// What a subcommand's matches say of FILE and of the program that runs, whose entry takes this, and
+/// whose fields may stay as they were compiled or not; or why they don't.
 fn target_in<'a>(
     found: &ArgMatches<'a>,
-    packet: Option<Packet>,
+    takes: EntryTakes,
+    strict_fields: bool,
 ) -> Result<TargetWords<'a>, &'static str>
-    requires { NamesPacket (first_of (codes "packet") (rows_of (found_of found.now))) packet }
+    requires takes { NamesStruct (first_of (codes "struct") (rows_of (found_of found.now))) takes }
+    requires fields { NamesFields (first_of (codes "fields") (rows_of (found_of found.now))) strict_fields }
     ensures value { IfOk result (Aims (rows_of (found_of found.now))) }
     ensures none { OnErr result ((target : TargetWords) →
         Aims (rows_of (found_of found.now)) target → ⊥) }
@@ -502,11 +507,13 @@ fn target_in<'a>(
         section: text_of(found, "section"),
         entry: text_of(found, "entry"),
         stubs: text_of(found, "stub"),
-        as_compiled: is_given(found, "as-compiled"),
-        packet,
+        strict_fields,
+        takes,
         with,
         turns,
         counts,
+        no_linux: is_given(found, "no-linux"),
+        is_faithful: is_given(found, "faithful"),
     })
 }
 
@@ -528,6 +535,7 @@ fn options_in<'a>(found: &ArgMatches<'a>) -> Option<Options<'a>>
     let show = part_of(text_of(found, "show"))?;
     Some(Options {
         journal,
+        regs: text_of(found, "regs"),
         limit,
         from,
         count,
@@ -590,18 +598,34 @@ fn registers_of(text: Option<&str>) -> Option<Registers>
     }
 }
 
-/// The kernel's struct of this name, none where none is named. None where none has the name.
-fn packet_of(text: Option<&str>) -> Option<Option<Packet>>
-    ensures found { IfSome result (NamesPacket (option_map (λ t. t.now) text.entry)) }
-    ensures none { IfNone result ((packet : Option Packet) →
-        NamesPacket (option_map (λ t. t.now) text.entry) packet → ⊥) }
+/// What the entry takes by this name; nothing is said without one. None where nothing has the name.
+fn takes_of(text: Option<&str>) -> Option<EntryTakes>
+    ensures found { IfSome result (NamesStruct (option_map (λ t. t.now) text.entry)) }
+    ensures none { IfNone result ((takes : EntryTakes) →
+        NamesStruct (option_map (λ t. t.now) text.entry) takes → ⊥) }
 {
     match text {
-        None => Some(None),
+        None => Some(EntryTakes::Unsaid),
+        Some("none") => Some(EntryTakes::Context),
         Some(text) => match Packet::named(text) {
-            Some(packet) => Some(Some(packet)),
+            Some(packet) => Some(EntryTakes::Struct(packet)),
             None => None,
         },
+    }
+}
+
+/// Whether fields may not stay as they were compiled; they may without a word. None where it is
+/// another one.
+fn is_strict(text: Option<&str>) -> Option<bool>
+    ensures found { IfSome result (NamesFields (option_map (λ t. t.now) text.entry)) }
+    ensures none { IfNone result ((strict : Bool) →
+        NamesFields (option_map (λ t. t.now) text.entry) strict → ⊥) }
+{
+    match text {
+        None => Some(false),
+        Some("strict") => Some(true),
+        Some("compiled") => Some(false),
+        Some(_) => None,
     }
 }
 

@@ -11,6 +11,17 @@ use clap::error::ErrorKind;
 /// The most times that an option is given which may be given more than once.
 pub const MOST_TEXTS: usize = 16;
 
+/// What the entry of an object is said to take.
+#[derive(Clone, Copy)]
+pub enum EntryTakes {
+    /// Nothing is said: the object's types may tell it.
+    Unsaid,
+    /// This struct of the kernel's.
+    Struct(Packet),
+    /// The context's address.
+    Context,
+}
+
 /// What FILE is, and which program runs. What is said of an object says nothing of words and listings.
 #[derive(Drop)]
 pub struct TargetWords<'a> {
@@ -29,10 +40,11 @@ pub struct TargetWords<'a> {
     pub entry: Option<&'a str>,
     /// The helpers whose calls are answered by a constant, as `5=0,14=-1`; without it none is.
     pub stubs: Option<&'a str>,
-    /// Relocations of fields are left undone: fields stay where they were when it was compiled.
-    pub as_compiled: bool,
-    /// The kernel's struct that the entry takes; without it its context is the machine's.
-    pub packet: Option<Packet>,
+    /// An object with relocations of fields is refused; without that they are left undone, and fields
+    /// stay where they were when it was compiled.
+    pub strict_fields: bool,
+    /// What the entry takes.
+    pub takes: EntryTakes,
     /// The paths of the objects with functions that are joined to FILE, in their order.
     pub with: ArrayVec<&'a str, MOST_TEXTS>,
     /// The programs of an object that are called in turn, each as `NAME` or `NAME@OFFSET`; none where
@@ -40,6 +52,10 @@ pub struct TargetWords<'a> {
     pub turns: ArrayVec<&'a str, MOST_TEXTS>,
     /// How many entries maps of the object have, each as `NAME=N`.
     pub counts: ArrayVec<&'a str, MOST_TEXTS>,
+    /// Linux's helpers aren't joined to FILE by themselves.
+    pub no_linux: bool,
+    /// Of those that are, none may answer otherwise than Linux's.
+    pub is_faithful: bool,
 }
 
 /// What a command line asks for.

@@ -10,6 +10,7 @@ use Rattle.bpf_suite.specs.Faults.{section_fault}
 use Rattle.bpf_suite.specs.Refusals.{refusal_text, slot_of, text_of_refusal}
 use Rattle.bpf_suite.specs.declared.refusal.Refusal.TheVariants as program
 use Rattle.bpf_ring.specs.Opening.{journal_fault}
+use Rattle.bpf_opening.specs.Faults.{opening_fault}
 use Rattle.bpf_origin.specs.Asked.{what_fault}
 use Rattle.bpf_trace.specs.Traces.{limit_line}
 use Rattle.bpf_whynot.specs.Asked.{goal_fault}
@@ -21,7 +22,7 @@ use Rattle.bpfdb_faults.specs.declared.fault.JobFault.TheVariants.{Unreadable, N
 use Rattle.bpfdb_faults.specs.declared.kind.KindFault.{KindFault}
 use Rattle.bpfdb_faults.specs.declared.kind.KindFault.TheVariants as kind
 use Rattle.bpfdb_faults.specs.declared.refusal.JobRefusal.{JobRefusal}
-use Rattle.bpfdb_faults.specs.declared.refusal.JobRefusal.TheVariants.{Kind, Maps, Listing, Load, Open, OtherRun, OtherObject, OtherMap, TraceLine, Journal, What, Object, Functions, Tests, NoTest, ManyTests, Script, Goal, NoPlace}
+use Rattle.bpfdb_faults.specs.declared.refusal.JobRefusal.TheVariants.{Kind, Maps, Listing, Load, Opening, Open, OtherRun, OtherObject, OtherMap, TraceLine, Journal, What, Object, Functions, Tests, NoTest, ManyTests, Script, Goal, NoPlace}
 
 -- The line of a refusal: a letter and a number, its line if it has one, and a text.
 abbrev pub refused_line : List ℕ → ℕ → Option ℕ → List ℕ → List ℕ
@@ -31,6 +32,7 @@ refused_line family number line text = text_of_refusal family number (codes " at
 abbrev pub kind_fault : KindFault → ℕ × List ℕ
 kind_fault kind.Maps = (1, codes "an object has maps of its own: leave --maps out")
 kind_fault kind.Programs = (2, codes "one of FILE and OTHER is an object, and the other is none")
+kind_fault kind.Unfaithful = (4, codes "what it calls answers otherwise than in Linux: leave --faithful out")
 
 -- A helper: its number, and its name in the kernel, if it has one.
 abbrev pub label_text : ℕ → List ℕ → List ℕ
@@ -59,13 +61,13 @@ helpers_text helper others =
 
 -- Of an entry that takes the kernel's own struct it is what gives it one of the machine's.
 abbrev pub hint_of : LinkFault → List ℕ
-hint_of (linking.Context at) = codes ": link --packet, in tests -- struct, or clang -include bpfdb.h, gives it one of the machine's"
+hint_of (linking.Context at) = codes ": --struct, in tests -- struct, gives it one of the machine's"
 hint_of fault = []
 
 -- Of relocations of fields it is how many there are, and the option that leaves them; else the option that chooses a section or a function.
 abbrev pub more_of : LinkFault → List ℕ
 more_of (linking.Helper slot helper source others) = helpers_text helper others
-more_of (linking.Fields count slot at) = codes ", " ++ decimal count ++ codes " in all: --as-compiled leaves them undone"
+more_of (linking.Fields count slot at) = codes ", " ++ decimal count ++ codes " in all: --fields compiled leaves them undone"
 more_of linking.ManySections = codes ": --section NAME chooses one"
 more_of linking.ManyPrograms = codes ": --entry NAME chooses one"
 more_of fault = []
@@ -115,6 +117,7 @@ abbrev pub session_line : JobRefusal → List ℕ
 session_line (Maps fault) = refusal_text (program.Maps fault) ++ codes "\n"
 session_line (Listing fault) = refusal_text (program.Listing fault) ++ codes "\n"
 session_line (Load fault) = refusal_text (program.Load fault) ++ codes "\n"
+session_line (Opening fault) = refused_line (codes "refused O") (opening_fault fault).0 None (opening_fault fault).1
 session_line (Open fault) = refusal_text (program.Open fault) ++ codes "\n"
 session_line (Journal fault) = refused_line (codes "refused J") (journal_fault fault).0 None (journal_fault fault).1
 session_line refusal = []

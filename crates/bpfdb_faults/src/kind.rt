@@ -9,6 +9,8 @@ pub enum KindFault {
     Maps,
     /// One of two programs that are compared is an object, and the other isn't.
     Programs,
+    /// A helper that the program calls answers otherwise than the kernel's, and none may.
+    Unfaithful,
 }
 
 impl KindFault {
@@ -22,6 +24,10 @@ impl KindFault {
             KindFault::Programs => (
                 2,
                 "one of FILE and OTHER is an object, and the other is none",
+            ),
+            KindFault::Unfaithful => (
+                4,
+                "what it calls answers otherwise than in Linux: leave --faithful out",
             ),
         }
     }

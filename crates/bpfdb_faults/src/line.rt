@@ -101,6 +101,10 @@ fn put_refusal<E: Write>(
             put_object(errors, so_far, fault, name, b" (the other run)\n")
         }
         JobRefusal::OtherMap(number) => put_other_map(errors, so_far, *number),
+        JobRefusal::Opening(fault) => {
+            let (number, text) = (fault.number(), fault.text());
+            put_refused(errors, so_far, b"refused O", number, None, text)
+        }
     }
 }
 
@@ -303,7 +307,7 @@ fn put_hint<E: Write>(
         LinkFault::Context { .. } => put(
             errors,
             so_far,
-            b": link --packet, in tests -- struct, or clang -include bpfdb.h, gives it one of the machine's",
+            b": --struct, in tests -- struct, gives it one of the machine's",
         ),
         _ => put(errors, so_far, b""),
     }
@@ -323,7 +327,7 @@ fn put_more<E: Write>(
             let pieces = [
                 Piece::Text(b", "),
                 Piece::Decimal(u64::from(*count)),
-                Piece::Text(b" in all: --as-compiled leaves them undone"),
+                Piece::Text(b" in all: --fields compiled leaves them undone"),
             ];
             put_all(errors, so_far, &pieces)
         }

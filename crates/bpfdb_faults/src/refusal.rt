@@ -3,6 +3,7 @@ use crate::kind::KindFault;
 use bpf_isa::{LoadFault, MapFault};
 use bpf_link::LinkFault;
 use bpf_machine::OpenFault;
+use bpf_opening::OpeningFault;
 use bpf_origin::WhatFault;
 use bpf_ring::JournalFault;
 use bpf_suite::{Refusal as ProgramRefusal, SectionFault};
@@ -22,6 +23,8 @@ pub enum JobRefusal<'a> {
     Listing(AsmFault),
     /// The checker refused the program.
     Load(LoadFault),
+    /// What is asked of the machine's opening is refused.
+    Opening(OpeningFault),
     /// The machine can't be opened on it and the context.
     Open(OpenFault),
     /// The other run of `diff` can't be made, by its program or its context.

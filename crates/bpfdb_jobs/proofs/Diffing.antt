@@ -5,8 +5,7 @@ use Rattle.std.specs.Prelude.{OnErr, OnOk, is_some}
 use Rattle.bpf_load.specs.Targets.{Loads, loaded_of}
 use Rattle.bpf_load.specs.declared.loading.LinkedObject.{LinkedObject}
 use Rattle.bpf_load.specs.declared.program.Loaded.{Loaded}
-use Rattle.bpf_steps.specs.Opening.{Opened}
-use Rattle.bpf_steps.specs.State.{State, initial}
+use Rattle.bpf_steps.specs.State.{State}
 use Rattle.bpf_lines.specs.declared.place_names.Names.{Names}
 use Rattle.bpf_link.specs.declared.fault.LinkFault.{LinkFault}
 use Rattle.bpf_ring.specs.Opening.{RefusesSize}
@@ -15,9 +14,9 @@ use Rattle.counted_io.specs.Writing.{Writes}
 use Rattle.bpfdb_faults.specs.Faults.{output_line}
 use Rattle.bpfdb_faults.specs.Streams.{Stream, Told}
 use Rattle.bpfdb_faults.specs.declared.refusal.JobRefusal.{JobRefusal}
-use Rattle.bpfdb_faults.specs.declared.refusal.JobRefusal.TheVariants.{OtherMap, OtherObject, Kind, Maps, Listing, Load, Open, OtherRun, TraceLine, Journal, What, Goal, NoPlace, Object, Functions, Tests, NoTest, ManyTests, Script}
+use Rattle.bpfdb_faults.specs.declared.refusal.JobRefusal.TheVariants.{OtherMap, OtherObject, Kind, Maps, Listing, Load, Opening, Open, OtherRun, TraceLine, Journal, What, Goal, NoPlace, Object, Functions, Tests, NoTest, ManyTests, Script}
 use Rattle.bpfdb_jobs.specs.Endings.{EndsPrinted, OutLost, Printed}
-use Rattle.bpfdb_jobs.specs.Jobs.{AgainstPrints, AreNamesFor, DiffPrints, IsOtherRun, Print, Prints, RunsOn, RunsPrint, against_print, compared_print, comparison_of, diff_status, other_bytes, runs_told, section_of}
+use Rattle.bpfdb_jobs.specs.Jobs.{AgainstPrints, AreNamesFor, DiffPrints, IsOtherRun, OpensMachine, Print, Prints, RunsOn, RunsPrint, against_print, begun_for, compared_print, comparison_of, diff_status, other_bytes, runs_told, section_of}
 use Rattle.bpfdb_jobs.specs.Openings.{OpensAs, OpensOf, OpensRuns}
 use Rattle.bpfdb_jobs.specs.Origins.{RefusesNames}
 use Rattle.bpfdb_jobs.specs.Programs.{AreSameMaps, IsOtherMap}
@@ -35,6 +34,7 @@ pub machine-diff : (job : Job) (refusal : JobRefusal) → RefusesMachine job ref
 machine-diff job (Maps fault) p = p
 machine-diff job (Listing fault) p = p
 machine-diff job (Load fault) p = p
+machine-diff job (Opening fault) p = p
 machine-diff job (Open fault) p = p
 machine-diff job (OtherRun refusal) p = absurd p
 machine-diff job (TraceLine fault line) p = absurd p
@@ -77,7 +77,7 @@ asked-alike : (on_context : Bool) (job other : Job) → RunsOn on_context job ot
 asked-alike true job other is = ap (λ (j : Job). j.options) is.1
 asked-alike false job other is = ap (λ (j : Job). j.options) is.1
 
-same-options : (job other : Job) → IsOtherRun job other → other.options ≡ job.options
+pub same-options : (job other : Job) → IsOtherRun job other → other.options ≡ job.options
 same-options job other is = asked-alike job.options.other_is_context job other is
 
 -- two of them, of programs with these maps
@@ -179,11 +179,11 @@ module _ (job other : Job) (x y : State) (names others : Option Names) (o : Open
       )
 
 -- a machine that was opened on a program that was loaded
-abbrev pub opens-as : (job : Job) (loaded : Loaded) (x : State) → Loads job.target job.file.now loaded → Opened loaded.program job.context.now x → OpensAs job x
-opens-as job loaded x loads o = (loaded, record { loads = loads; short = o.0 }, o.1)
+abbrev pub opens-as : (job : Job) (loaded : Loaded) (x : State) → Loads job.target job.file.now loaded → OpensMachine job loaded.program x → OpensAs job x
+opens-as job loaded x loads o = (loaded, record { loads = loads; asked = o.0; short = o.1 }, o.2)
 
-pub opened-initial : (job : Job) (x : State) → OpensAs job x → x ≡ initial x.program job.context.now
-opened-initial job x o = o.2 ∙ ap (λ (z : State). initial z.program job.context.now) (sym o.2)
+pub opened-initial : (job : Job) (x : State) → OpensAs job x → x ≡ begun_for job.options x.program job.context.now
+opened-initial job x o = o.2 ∙ ap (λ (z : State). begun_for job.options z.program job.context.now) (sym o.2)
 
 -- two runs that were compared, and told or not
 pub told-ends : {W E A F : Type 0} {writer : Stream W} {errors : Stream E} (job : Job) (text : List ℕ) (verdict same : Bool) (r : Result A F)
@@ -200,6 +200,7 @@ pub machine-against : (job : Job) (refusal : JobRefusal) → RefusesMachine job 
 machine-against job (Maps fault) p = p
 machine-against job (Listing fault) p = p
 machine-against job (Load fault) p = p
+machine-against job (Opening fault) p = p
 machine-against job (Open fault) p = p
 machine-against job (OtherRun refusal) p = p
 machine-against job (TraceLine fault line) p = absurd p

@@ -60,7 +60,7 @@ module _ (job : Job) (loaded : Loaded) (loads : Loads job.target job.file.now lo
     loaded = loaded;
     of = refl;
     at = run_arrival job.options first;
-    opens = record { opens = record { loads = loads; short = start.has_room.short }; sized = start.has_room.sized };
+    opens = record { opens = record { loads = loads; asked = start.has_room.asked; short = start.has_room.short }; sized = start.has_room.sized };
     arrives = ap (λ (script : Option (Bor (List ℕ))). arrival script job.options first) none;
     state = state ∙ ap (plain_end job.options.limit) start.state;
     held = subst (λ h. StandsFor RingHolds new.keeper new.state h) history (kept [] (start.empty, tt {0}));
@@ -74,7 +74,7 @@ module _ (job : Job) (loaded : Loaded) (loads : Loads job.target job.file.now lo
   begins = (start_of job loaded.program).point
 
   opens : OpensSession job loaded
-  opens = record { opens = record { loads = loads; short = start.room.short }; sized = start.room.sized }
+  opens = record { opens = record { loads = loads; asked = start.room.asked; short = start.room.short }; sized = start.room.sized }
 
   past : HasPast RingHolds old (track_at begins)
   past = start.begins.point.1
@@ -117,7 +117,7 @@ module _ (job : Job) (object : Option LinkedObject) (moment : Moment RingKeeper)
       → Asks job.options.what moment.state what → parts ≡ parts_asked moment.state what
       → (known : Known) → IsKnown job object known
       → (tail : Answer) → IsTail job.options.only_branches (branches_by known.places job.options a.at) parts a.at.point tail
-      → (names : Option Names) → AreNamesOf object (section_of job) names
+      → (names : Option Names) → AreNamesOf object (section_of job) job.target.packet names
       → Prints Origin job (named_print names moment.state (followed_by (answer_about q parts a.at.point.history moment.state) tail))
   origin-prints q what parts asks-as asks is known is_known tail behind names found = (
     a.loaded,
@@ -132,7 +132,7 @@ module _ (job : Job) (object : Option LinkedObject) (moment : Moment RingKeeper)
     subst (λ (x : State). Asks job.options.what x what) a.state asks,
     subst (λ (ps : List Part). IsTail job.options.only_branches (branches_by known.places job.options a.at) ps a.at.point tail)
         (is ∙ ap (λ (x : State). parts_asked x what) a.state) behind,
-    subst (λ (o : Option LinkedObject). AreNamesOf o (section_of job) names) (sym a.of) found,
+    subst (λ (o : Option LinkedObject). AreNamesOf o (section_of job) job.target.packet names) (sym a.of) found,
     ap (λ (z : Question). named_print names moment.state (followed_by (answer_about z parts a.at.point.history moment.state) tail))
         (asks-as ∙ ap (question job a.at.point.history) a.counted)
         ∙ ap (λ (ps : List Part). named_print names moment.state (followed_by (answer_about (question_by job.options a.at) ps a.at.point.history moment.state) tail)) is

@@ -5,7 +5,6 @@ use Rattle.bpf_entries.specs.declared.status.Status.{Status}
 use Rattle.bpf_entries.specs.declared.status.Status.TheVariants as status
 use Rattle.bpf_load.specs.Targets.{Loads}
 use Rattle.bpf_load.specs.declared.program.Loaded.{Loaded}
-use Rattle.bpf_steps.specs.Opening.{Opened}
 use Rattle.bpf_steps.specs.State.{State}
 use Rattle.bpf_session.specs.Plain.{ending_of, plain_end}
 use Rattle.bpf_session.specs.declared.plain.Ending.{Ending}
@@ -16,7 +15,7 @@ use Rattle.bpf_trace.specs.declared.strict_run.Unwritten.{Unwritten}
 use Rattle.bpfdb_faults.specs.Streams.{Gets, Loses, Stream, Told}
 use Rattle.bpfdb_jobs.specs.Endings.{EndsPrinted, ErrLost, OutLost, Printed}
 use Rattle.bpfdb_faults.specs.Faults.{line_of}
-use Rattle.bpfdb_jobs.specs.Jobs.{Opens, Print, Prints, initial_of, printed, run_end, run_or_stopped, run_print, stopped, unwritten_in}
+use Rattle.bpfdb_jobs.specs.Jobs.{Opens, OpensMachine, Print, Prints, initial_of, printed, run_end, run_or_stopped, run_print, stopped, unwritten_in}
 use Rattle.bpfdb_faults.specs.declared.fault.JobFault.TheVariants.{Output}
 use Rattle.bpfdb_jobs.specs.declared.job.Job.{Job}
 use Rattle.bpfdb_options.specs.declared.subcommand.Subcommand.{Subcommand}
@@ -63,8 +62,8 @@ abbrev pub OpensStrict : Job → State → Option Unwritten → Type 0
 OpensStrict job x read = (loaded : Loaded) × Opens job loaded × (x ≡ initial_of job loaded) × (read ≡ unwritten_in job x)
 
 abbrev pub opens-strict : (job : Job) (loaded : Loaded) (x : State) (read : Option Unwritten) → Loads job.target job.file.now loaded
-    → Opened loaded.program job.context.now x × (read ≡ unwritten_in job x) → OpensStrict job x read
-opens-strict job loaded x read loads o = (loaded, record { loads = loads; short = o.0.0 }, o.0.1, o.1)
+    → OpensMachine job loaded.program x × (read ≡ unwritten_in job x) → OpensStrict job x read
+opens-strict job loaded x read loads o = (loaded, record { loads = loads; asked = o.0.0; short = o.0.1 }, o.0.2, o.1)
 
 pub strict-read : (job : Job) (x : State) (read now : Option Unwritten) → (o : OpensStrict job x read) → read ≡ now
     → now ≡ unwritten_in job (initial_of job o.0)

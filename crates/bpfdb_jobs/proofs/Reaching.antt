@@ -23,7 +23,7 @@ use Rattle.bpfdb_jobs.specs.Whynots.{IsRefusalOf, RefusesGoals}
 use Rattle.bpfdb_jobs.specs.declared.job.Job.{Job}
 use Rattle.bpfdb_jobs.specs.declared.known.Known.{Known}
 use Rattle.bpfdb_faults.specs.declared.refusal.JobRefusal.{JobRefusal}
-use Rattle.bpfdb_faults.specs.declared.refusal.JobRefusal.TheVariants.{OtherMap, OtherObject, Kind, Maps, Listing, Load, Open, OtherRun, TraceLine, Journal, What, Goal, NoPlace, Object, Functions, Tests, NoTest, ManyTests, Script}
+use Rattle.bpfdb_faults.specs.declared.refusal.JobRefusal.TheVariants.{OtherMap, OtherObject, Kind, Maps, Listing, Load, Opening, Open, OtherRun, TraceLine, Journal, What, Goal, NoPlace, Object, Functions, Tests, NoTest, ManyTests, Script}
 use Rattle.bpfdb_options.specs.declared.subcommand.Subcommand.TheVariants.{Whynot}
 
 -- how it is asked over a history behind so many moves
@@ -45,6 +45,7 @@ goal-refuses job known program slots fault (Maps why) asked none r = absurd r
 goal-refuses job known program slots fault (Listing why) asked none r = absurd r
 goal-refuses job known program slots fault (Load why) asked none r = absurd r
 goal-refuses job known program slots fault (Open why) asked none r = absurd r
+goal-refuses job known program slots fault (Opening why) asked none r = absurd r
 goal-refuses job known program slots fault (OtherRun refusal) asked none r = absurd r
 goal-refuses job known program slots fault (TraceLine why line) asked none r = absurd r
 goal-refuses job known program slots fault (Journal why) asked none r = absurd r
@@ -69,7 +70,7 @@ module _ (job : Job) (object : Option LinkedObject) (known : Known) (is_known : 
   -- the answer about it is printed
   pub whynot-prints : (s : Query) (goals : List ℕ) (can : ℕ → List ℕ → Bool) → s ≡ search job known goals a.at.point.history n
       → AsksGoals job known moment.state.program (Ok goals) → TellsReach moment.state.program goals can
-      → (names : Option Names) → AreNamesOf object (section_of job) names
+      → (names : Option Names) → AreNamesOf object (section_of job) job.target.packet names
       → Prints Whynot job (named_print names moment.state (why_not can s a.at.point.history moment.state))
   whynot-prints s goals can asks named tells names found = (
     a.loaded,
@@ -83,7 +84,7 @@ module _ (job : Job) (object : Option LinkedObject) (known : Known) (is_known : 
     a.arrives,
     subst (λ (x : State). AsksGoals job known x.program (Ok goals)) a.state named,
     subst (λ (x : State). TellsReach x.program goals can) a.state tells,
-    subst (λ (o : Option LinkedObject). AreNamesOf o (section_of job) names) (sym a.of) found,
+    subst (λ (o : Option LinkedObject). AreNamesOf o (section_of job) job.target.packet names) (sym a.of) found,
     ap (λ (z : Query). named_print names moment.state (why_not can z a.at.point.history moment.state)) (asks ∙ ap (search job known goals a.at.point.history) a.counted)
         ∙ ap (λ (x : State). named_print names x (why_not can (search job known goals a.at.point.history a.at.moves) a.at.point.history x)) a.state,
   )
@@ -114,6 +115,7 @@ module _ (job : Job) (object : Option LinkedObject) (known : Known) (is_known : 
   whynot-refuses (NoPlace name) r = (r.0, (a.loaded, known, a.at, a.opens, known-here, a.arrives, at-goals (Err NoSlot) r.1, r.2))
   whynot-refuses (Maps fault) r = absurd r
   whynot-refuses (Load fault) r = absurd r
+  whynot-refuses (Opening fault) r = absurd r
   whynot-refuses (Open fault) r = absurd r
   whynot-refuses (OtherRun refusal) r = absurd r
   whynot-refuses (TraceLine fault line) r = absurd r

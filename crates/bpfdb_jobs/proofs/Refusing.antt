@@ -4,59 +4,17 @@ use Rattle.bpf_entries.specs.Keeping.{IsSize}
 use Rattle.bpf_ring.specs.declared.fault.JournalFault.TheVariants.{OutOfMemory}
 use Rattle.bpf_steps.specs.Platform.{context_limit}
 use Rattle.bpfdb_faults.specs.Faults.{refusal_line, session_line}
-use Rattle.bpfdb_faults.specs.Machines.{RefusesOpening}
 use Rattle.bpfdb_jobs.specs.Refusals.{Refuses, RefusesArrival, RefusesMachine, RefusesOrigin, RefusesWhynot}
 use Rattle.bpfdb_jobs.specs.declared.job.Job.{Job}
 use Rattle.bpfdb_faults.specs.declared.refusal.JobRefusal.{JobRefusal}
-use Rattle.bpfdb_faults.specs.declared.refusal.JobRefusal.TheVariants.{OtherMap, OtherObject, Kind, Maps, Listing, Load, Open, OtherRun, TraceLine, Journal, What, Goal, NoPlace, Object, Functions, Tests, NoTest, ManyTests, Script}
+use Rattle.bpfdb_faults.specs.declared.refusal.JobRefusal.TheVariants.{OtherMap, OtherObject, Kind, Maps, Listing, Load, Opening, Open, OtherRun, TraceLine, Journal, What, Goal, NoPlace, Object, Functions, Tests, NoTest, ManyTests, Script}
 
--- a refusal of a context is one of a machine on it, that one of a session
-pub opening-machine : (job : Job) (refusal : JobRefusal) → RefusesOpening job.context.now refusal → RefusesMachine job refusal
-opening-machine job (Maps fault) p = absurd p
-opening-machine job (Listing fault) p = absurd p
-opening-machine job (Load fault) p = absurd p
-opening-machine job (Open fault) p = p
-opening-machine job (OtherRun refusal) p = absurd p
-opening-machine job (TraceLine fault line) p = absurd p
-opening-machine job (Journal fault) p = absurd p
-opening-machine job (Script refusal) p = absurd p
-opening-machine job (What fault) p = absurd p
-opening-machine job (Goal fault) p = absurd p
-opening-machine job (NoPlace name) p = absurd p
-opening-machine job (Object fault name) p = absurd p
-opening-machine job (Functions fault index name) p = absurd p
-opening-machine job (Tests fault line) p = absurd p
-opening-machine job (NoTest name) p = absurd p
-opening-machine job ManyTests p = absurd p
-opening-machine job (Kind why) p = absurd p
-opening-machine job (OtherMap number) p = absurd p
-opening-machine job (OtherObject why name) p = absurd p
-
-pub opening-refuses : (job : Job) (refusal : JobRefusal) → RefusesOpening job.context.now refusal → Refuses job refusal
-opening-refuses job (Maps fault) p = absurd p
-opening-refuses job (Listing fault) p = absurd p
-opening-refuses job (Load fault) p = absurd p
-opening-refuses job (Open fault) p = p
-opening-refuses job (OtherRun refusal) p = absurd p
-opening-refuses job (TraceLine fault line) p = absurd p
-opening-refuses job (Journal fault) p = absurd p
-opening-refuses job (Script refusal) p = absurd p
-opening-refuses job (What fault) p = absurd p
-opening-refuses job (Goal fault) p = absurd p
-opening-refuses job (NoPlace name) p = absurd p
-opening-refuses job (Object fault name) p = absurd p
-opening-refuses job (Functions fault index name) p = absurd p
-opening-refuses job (Tests fault line) p = absurd p
-opening-refuses job (NoTest name) p = absurd p
-opening-refuses job ManyTests p = absurd p
-opening-refuses job (Kind why) p = absurd p
-opening-refuses job (OtherMap number) p = absurd p
-opening-refuses job (OtherObject why name) p = absurd p
-
+-- a refusal of a machine is one of a session
 pub machine-session : (job : Job) (refusal : JobRefusal) → RefusesMachine job refusal → Refuses job refusal
 machine-session job (Maps fault) p = p
 machine-session job (Listing fault) p = p
 machine-session job (Load fault) p = p
+machine-session job (Opening fault) p = p
 machine-session job (Open fault) p = p
 machine-session job (OtherRun refusal) p = absurd p
 machine-session job (TraceLine fault line) p = absurd p
@@ -79,6 +37,7 @@ pub session-arrival : (job : Job) (refusal : JobRefusal) → Refuses job refusal
 session-arrival job (Maps fault) p = p
 session-arrival job (Listing fault) p = p
 session-arrival job (Load fault) p = p
+session-arrival job (Opening fault) p = p
 session-arrival job (Open fault) p = p
 session-arrival job (OtherRun refusal) p = p
 session-arrival job (TraceLine fault line) p = p
@@ -100,6 +59,7 @@ pub arrival-origin : (job : Job) (refusal : JobRefusal) → RefusesArrival job r
 arrival-origin job (Maps fault) p = p
 arrival-origin job (Listing fault) p = p
 arrival-origin job (Load fault) p = p
+arrival-origin job (Opening fault) p = p
 arrival-origin job (Open fault) p = p
 arrival-origin job (OtherRun refusal) p = p
 arrival-origin job (TraceLine fault line) p = p
@@ -121,6 +81,7 @@ pub arrival-whynot : (job : Job) (refusal : JobRefusal) → RefusesArrival job r
 arrival-whynot job (Maps fault) p = p
 arrival-whynot job (Listing fault) p = absurd p
 arrival-whynot job (Load fault) p = p
+arrival-whynot job (Opening fault) p = p
 arrival-whynot job (Open fault) p = p
 arrival-whynot job (OtherRun refusal) p = p
 arrival-whynot job (TraceLine fault line) p = p
@@ -143,6 +104,7 @@ pub session-refused : (job : Job) (refusal : JobRefusal) → Refuses job refusal
 session-refused job (Maps fault) p = refl
 session-refused job (Listing fault) p = refl
 session-refused job (Load fault) p = refl
+session-refused job (Opening fault) p = refl
 session-refused job (Open fault) p = refl
 session-refused job (OtherRun refusal) p = absurd p
 session-refused job (TraceLine fault line) p = absurd p

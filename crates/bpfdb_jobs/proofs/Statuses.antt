@@ -52,7 +52,7 @@ module _ {R W E : Type 0} (reader : Stream R) (writer : Stream W) (errors : Stre
   session_with : (job : Job) (loaded : Loaded) → Loads job.target job.file.now loaded → (Serves : Type 0) (Breaks : RunFault → Type 0) (status : ℕ)
       → EndsSession job Serves Breaks reader writer errors status → status ≢ 2 → EndsSessionWith job status
   session_with job loaded loads Serves Breaks status (Served room serves r w e zero) other =
-      (loaded, record { opens = record { loads = loads; short = room.short }; sized = room.sized }, zero)
+      (loaded, record { opens = record { loads = loads; asked = room.asked; short = room.short }; sized = room.sized }, zero)
   session_with job loaded loads Serves Breaks status (Refused refusal why r w told two) other = absurd (other two)
   session_with job loaded loads Serves Breaks status (Broken why room breaks fails told two) other = absurd (other two)
 

@@ -31,7 +31,7 @@ layout_of registers.Riscv = layout.Riscv
 -- The names that gdb is told: those in the maps of the object that the program comes from; none where these can't be known.
 abbrev pub KnowsNames : Job → Option LinkedObject → Option Names → Type 0
 KnowsNames job object names =
-    AreNamesOf object (section_of job) names ⊎ ((names ≡ None) × (why : LinkFault) × LacksNames object (section_of job) why)
+    AreNamesOf object (section_of job) job.target.packet names ⊎ ((names ≡ None) × (why : LinkFault) × LacksNames object (section_of job) why)
 
 pub record IsTarget (job : Job) (object : Option LinkedObject) (gdb : Target) : Type 0 where
   pub layout : gdb.layout ≡ layout_of job.options.registers

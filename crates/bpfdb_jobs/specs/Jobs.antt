@@ -1,5 +1,5 @@
 -- What a job asks for: its machine and its session, and what each subcommand prints that reads no standard input.
-use Rattle.std.specs.Prelude.{◌≡◌, ◌≤◌, ◌/◌, ◌&&◌, ◌||◌, ℕ, Bool, true, false, List, [], ◌++◌, Option, Some, None, Result, Ok, length, map, option_map, codes, if◌then◌else◌}
+use Rattle.std.specs.Prelude.{◌≡◌, ◌≤◌, ◌/◌, ◌==◌, ◌&&◌, ◌||◌, ℕ, Bool, true, false, List, [], ◌++◌, Option, Some, None, Result, Ok, IsOk, length, map, option_map, codes, if◌then◌else◌}
 use Rattle.std.specs.Borrow.{Bor}
 use Rattle.bpf_entries.specs.Keeping.{IsSize}
 use Rattle.bpf_diff.specs.Values.{Comparison, by_steps, by_writes}
@@ -24,7 +24,11 @@ use Rattle.bpf_lines.specs.PlaceSlots.{slots_told}
 use Rattle.bpf_lines.specs.PlaceTexts.{places_told}
 use Rattle.bpf_lines.specs.Places.{is_place}
 use Rattle.bpf_steps.specs.Platform.{context_limit}
-use Rattle.bpf_steps.specs.State.{State, initial}
+use Rattle.bpf_opening.specs.Lists.{asked_opening, or_bare}
+use Rattle.bpf_opening.specs.Openings.{begun}
+use Rattle.bpf_opening.specs.declared.fault.OpeningFault.{OpeningFault}
+use Rattle.bpf_opening.specs.declared.opening.Opening.{Opening}
+use Rattle.bpf_steps.specs.State.{State}
 use Rattle.bpf_origin.specs.Answers.{Answer}
 use Rattle.bpf_origin.specs.Asked.{parts_asked}
 use Rattle.bpf_origin.specs.declared.what.What.{What}
@@ -54,17 +58,37 @@ use Rattle.bpfdb_jobs.specs.Origins.{Arrival, AreNamesOf, Asks, IsTail, answer_b
 use Rattle.bpfdb_jobs.specs.Sources.{both_marked, sources}
 use Rattle.bpfdb_jobs.specs.declared.job.Job.{Job}
 use Rattle.bpfdb_jobs.specs.declared.known.Known.{Known}
+use Rattle.bpfdb_options.specs.declared.options.Options.{Options}
 use Rattle.bpfdb_options.specs.declared.subcommand.Subcommand.{Subcommand}
 use Rattle.bpfdb_options.specs.declared.subcommand.Subcommand.TheVariants.{Run, Trace, Debug, Origin, Whynot, Diff, Gdb, Asm, Disasm, Lines, Check, Load, Link, Test, Batch}
 
+-- What is asked of the opening, or why that is refused.
+abbrev pub opening_asked : Options → Result Opening OpeningFault
+opening_asked options = asked_opening (option_map (λ text. text.now) options.regs)
+
+-- The state from which a program is run on a context: the initial one, with what is asked put in.
+abbrev pub begun_for : Options → Checked → List ℕ → State
+begun_for options program context = begun (or_bare (opening_asked options)) program context
+
+-- A machine stands there.
+abbrev pub BeginsFor : Options → Checked → List ℕ → State → Type 0
+BeginsFor options program context x = (length context ≤ context_limit) × (x ≡ begun_for options program context)
+
 -- A machine can be opened on any program with the job's context, and a session with its journal.
 pub record HasRoom (job : Job) : Type 0 where
+  pub asked : IsOk (opening_asked job.options)
   pub short : length job.context.now ≤ context_limit
   pub sized : IsSize job.options.journal
+
+-- A machine stands where the job begins.
+abbrev pub OpensMachine : Job → Checked → State → Type 0
+OpensMachine job program x = IsOk (opening_asked job.options) × (length job.context.now ≤ context_limit)
+    × (x ≡ begun_for job.options program job.context.now)
 
 -- FILE is loaded, and a machine can be opened on its program.
 pub record Opens (job : Job) (loaded : Loaded) : Type 0 where
   pub loads : Loads job.target job.file.now loaded
+  pub asked : IsOk (opening_asked job.options)
   pub short : length job.context.now ≤ context_limit
 
 -- A session can be opened on it, too.
@@ -74,12 +98,12 @@ pub record OpensSession (job : Job) (loaded : Loaded) : Type 0 where
 
 -- The state in which that machine stands before its first step.
 abbrev pub initial_of : Job → Loaded → State
-initial_of job loaded = initial loaded.program job.context.now
+initial_of job loaded = begun_for job.options loaded.program job.context.now
 
 -- Where a session on a program begins.
 abbrev pub start_of : Job → Checked → Standing
 start_of job program = record {
-  point = opening (initial program job.context.now);
+  point = opening (begun_for job.options program job.context.now);
   bounds = record { limit = job.options.limit; room = job.options.journal };
   refusals = 0;
 }
@@ -98,10 +122,9 @@ abbrev pub answered_if : Option (Bor (List ℕ)) → ℕ → Option ℕ
 answered_if (Some text) count = Some count
 answered_if None count = None
 
--- How many fields are left is told with the option alone.
-abbrev pub fields_if : Bool → ℕ → Option ℕ
-fields_if true count = Some count
-fields_if false count = None
+-- How many fields are left is told where there are some.
+abbrev pub fields_if : ℕ → Option ℕ
+fields_if count = if count == 0 then None else Some count
 
 -- What is printed on standard output and on standard error, and the exit status. A stream to which nothing is said to go is left as it was.
 pub record Print : Type 0 where
@@ -240,7 +263,7 @@ runs_print names others job told x y = runs_told told.text told.same (sources na
 -- (With `--alone` no names are looked for.)
 abbrev pub AreNamesFor : Bool → Job → Option LinkedObject → Option Names → Type 0
 AreNamesFor true job object names = names ≡ None
-AreNamesFor false job object names = AreNamesOf object (section_of job) names
+AreNamesFor false job object names = AreNamesOf object (section_of job) job.target.packet names
 
 -- Or the first step that the trace of another machine, which is the other file, tells otherwise, with status 0 where it tells the whole run.
 abbrev pub against_print : Form → ℕ → State → List (List ℕ) → Print
@@ -277,7 +300,7 @@ DiffPrints false job a = RunsPrint job a
 abbrev pub link_print : Job → LinkedObject → Print
 link_print job linked = record (printed linked.program.words.items) {
   err = linked_told (object_of linked.sources) linked.program.shapes.items linked.program.names.items
-      (answered_if job.target.stubs linked.program.answered) (fields_if job.target.as_compiled (fields_of linked));
+      (answered_if job.target.stubs linked.program.answered) (fields_if (fields_of linked));
 }
 
 abbrev pub LinkPrints : Bool → Job → Print → Type 0
@@ -348,10 +371,10 @@ Prints Debug job a = ⊥
 Prints Origin job a = (loaded : Loaded) × (known : Known) × (at : Arrival) × (what : Option What) × (tail : Answer) × (names : Option Names)
     × OpensSession job loaded × IsKnown job loaded.object known × (arrival_of job loaded ≡ Ok at) × Asks job.options.what at.point.state what
     × IsTail job.options.only_branches (branches_by known.places job.options at) (parts_asked at.point.state what) at.point tail
-    × AreNamesOf loaded.object (section_of job) names × (a ≡ named_print names at.point.state (followed_by (answer_by job.options what at) tail))
+    × AreNamesOf loaded.object (section_of job) job.target.packet names × (a ≡ named_print names at.point.state (followed_by (answer_by job.options what at) tail))
 Prints Whynot job a = (loaded : Loaded) × (known : Known) × (at : Arrival) × (goals : List ℕ) × (can : ℕ → List ℕ → Bool) × (names : Option Names)
     × OpensSession job loaded × IsKnown job loaded.object known × (arrival_of job loaded ≡ Ok at) × AsksGoals job known at.point.state.program (Ok goals)
-    × TellsReach at.point.state.program goals can × AreNamesOf loaded.object (section_of job) names
+    × TellsReach at.point.state.program goals can × AreNamesOf loaded.object (section_of job) job.target.packet names
     × (a ≡ whynot_print names (query_of job known goals at) can at)
 Prints Diff job a = DiffPrints job.options.other_is_trace job a
 Prints Gdb job a = ⊥

@@ -15,13 +15,13 @@ use Rattle.bpf_origin.specs.declared.what.What.{What}
 use Rattle.bpf_lines.specs.declared.place_names.Names.{Names}
 use Rattle.bpf_load.specs.declared.loading.LinkedObject.{LinkedObject}
 use Rattle.bpf_load.specs.declared.program.Loaded.{Loaded}
-use Rattle.bpf_steps.specs.State.{State, initial}
+use Rattle.bpf_steps.specs.State.{State}
 use Rattle.bpf_session.specs.Sessions.{SessionValue}
 use Rattle.bpf_whynot.specs.Answers.{Query, why_not}
 use Rattle.bpfdb_jobs.specs.Connections.{Begins}
 use Rattle.bpf_diff.specs.Values.{Pair, pair_of}
 use Rattle.bpf_entries.specs.Keeping.{IsSize}
-use Rattle.bpfdb_jobs.specs.Jobs.{AreNamesFor, HasRoom, IsKnown, IsOtherRun, Opens, OpensSession, arrival_of, comparison_of, initial_of}
+use Rattle.bpfdb_jobs.specs.Jobs.{AreNamesFor, HasRoom, IsKnown, IsOtherRun, Opens, OpensSession, arrival_of, begun_for, comparison_of, initial_of}
 use Rattle.bpfdb_jobs.specs.Programs.{AreSameMaps}
 use Rattle.bpfdb_jobs.specs.Sources.{behind, sources}
 use Rattle.bpfdb_jobs.specs.declared.runs.ComparedRuns.{ComparedRuns}
@@ -89,7 +89,7 @@ pub record IsOpening (job : Job) (program : Checked) (session : SessionValue Rin
 -- It stands at the opening of the program, and its journal of the job's size is empty.
 pub record IsStart (job : Job) (program : Checked) (moment : Moment RingKeeper) : Type 0 where
   pub has_room : HasRoom job
-  pub state : moment.state ≡ initial program job.context.now
+  pub state : moment.state ≡ begun_for job.options program job.context.now
   pub empty : RingHolds moment.keeper []
   pub room : ring_room moment.keeper ≡ job.options.journal
 

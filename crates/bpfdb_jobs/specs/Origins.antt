@@ -22,6 +22,7 @@ use Rattle.bpf_load.specs.declared.loading.LinkedObject.{LinkedObject}
 use Rattle.bpf_lines.specs.NamedMaps.{AreNames, IsNamesRefusal}
 use Rattle.bpf_lines.specs.NamedTexts.{named_text}
 use Rattle.bpf_lines.specs.declared.place_names.Names.{Names}
+use Rattle.bpf_packet.specs.declared.packet.Packet.{Packet}
 use Rattle.bpf_remote.specs.Moves.{moves_after}
 use Rattle.bpf_session.specs.Meaning.{does}
 use Rattle.bpf_session.specs.Outcomes.{Outcome}
@@ -123,11 +124,11 @@ abbrev pub found_text : State → Answer → List ℕ
 found_text end answer = place end ++ codes "\n" ++ answer.text
 
 -- The names in the maps of a program that was linked; they stand in it where they are known.
-abbrev pub AreNamesOf : Option LinkedObject → List ℕ → Option Names → Type 0
-AreNamesOf None section names = names ≡ None
-AreNamesOf (Some linked) section None = ⊥
-AreNamesOf (Some linked) section (Some names) =
-    AreNames (object_of linked.sources) section linked.program.maps linked.program.shapes.items linked.program.names.items names
+abbrev pub AreNamesOf : Option LinkedObject → List ℕ → Option Packet → Option Names → Type 0
+AreNamesOf None section packet names = names ≡ None
+AreNamesOf (Some linked) section packet None = ⊥
+AreNamesOf (Some linked) section packet (Some names) =
+    AreNames (object_of linked.sources) section linked.program.maps linked.program.shapes.items linked.program.names.items packet names
 
 abbrev pub named_by : Option Names → List ℕ → List ℕ
 named_by None text = text

@@ -30,7 +30,7 @@ use Rattle.bpf_whynot.specs.declared.fault.GoalFault.TheVariants.{NoInstruction,
 use Rattle.input_texts.specs.TraceFaults.{bad_line}
 use Rattle.bpf_diff.specs.Values.{Pair}
 use Rattle.bpf_steps.specs.Platform.{context_limit}
-use Rattle.bpfdb_jobs.specs.Jobs.{AsksGoals, IsKnown, IsOtherRun, Opens, OpensSession, arrival_of, asked_of, comparison_of, initial_of, is_listing, links_first, other_bytes, section_of}
+use Rattle.bpfdb_jobs.specs.Jobs.{AsksGoals, IsKnown, IsOtherRun, Opens, OpensSession, arrival_of, asked_of, comparison_of, initial_of, is_listing, links_first, opening_asked, other_bytes, section_of}
 use Rattle.bpfdb_jobs.specs.Origins.{Arrival, Asks, RefusesNames, RefusesWhat}
 use Rattle.bpfdb_jobs.specs.Programs.{AreSameMaps, IsOtherMap}
 use Rattle.bpfdb_jobs.specs.declared.diff.OtherFault.{OtherFault}
@@ -38,7 +38,7 @@ use Rattle.bpfdb_jobs.specs.declared.diff.OtherFault.TheVariants as of_other
 use Rattle.bpfdb_jobs.specs.declared.job.Job.{Job}
 use Rattle.bpfdb_jobs.specs.declared.known.Known.{Known}
 use Rattle.bpfdb_faults.specs.declared.refusal.JobRefusal.{JobRefusal}
-use Rattle.bpfdb_faults.specs.declared.refusal.JobRefusal.TheVariants.{Maps, Listing, Load, Open, OtherRun, OtherObject, OtherMap, TraceLine, Journal, What, Goal, NoPlace, Object, Functions, Tests, NoTest, Script}
+use Rattle.bpfdb_faults.specs.declared.refusal.JobRefusal.TheVariants.{Maps, Listing, Load, Opening, Open, OtherRun, OtherObject, OtherMap, TraceLine, Journal, What, Goal, NoPlace, Object, Functions, Tests, NoTest, Script}
 use Rattle.bpfdb_options.specs.declared.subcommand.Subcommand.{Subcommand}
 use Rattle.bpfdb_options.specs.declared.subcommand.Subcommand.TheVariants.{Run, Trace, Debug, Origin, Whynot, Diff, Gdb, Asm, Disasm, Lines, Check, Load, Link, Test, Batch}
 
@@ -48,8 +48,9 @@ TellsFault None it (Object fault name) = (fault ≡ it.fault) × (name.now ≡ n
 TellsFault (Some index) it (Functions fault at name) = (fault ≡ it.fault) × (at ≡ index) × (name.now ≡ name_of it)
 TellsFault index it refusal = ⊥
 
--- Why the machine of a program that is loaded isn't opened, or its session: by its context, and then by its journal.
+-- Why the machine of a program that is loaded isn't opened, or its session: by what is asked of the opening, by its context, and then by its journal.
 abbrev pub Refuses : Job → JobRefusal → Type 0
+Refuses job (Opening fault) = opening_asked job.options ≡ Err fault
 Refuses job (Open fault) = Refused job.context.now fault
 Refuses job (Journal fault) = (length job.context.now ≤ context_limit) × RefusesSize job.options.journal fault
 Refuses job refusal = ⊥

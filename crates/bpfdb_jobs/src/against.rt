@@ -7,9 +7,10 @@ ghost use Rattle.bpfdb_options.specs.declared.subcommand.Subcommand.TheVariants.
 
 use crate::diff::{bytes_of, end_of};
 use crate::job::Job;
+use crate::opening::machine_of;
 use bpf_diff::put_against;
 use bpf_load::Loaded;
-use bpfdb_faults::{JobFault, JobRefusal, flush_after, give_up, open_machine};
+use bpfdb_faults::{JobFault, JobRefusal, flush_after, give_up};
 use counted_io::Counted;
 use input_texts::form_of_trace;
 use std::alloc::Global;
@@ -29,7 +30,7 @@ pub fn against_job<W: Write, E: Write>(
         (stream E.contents errors.old errors.new) result }
     ensures status { result ≤ 2 }
 {
-    let mut cpu = match open_machine(alloc, loaded.program, job.context) {
+    let mut cpu = match machine_of(alloc, job, loaded.program) {
         Ok(cpu) => cpu,
         Err(refusal) => return give_up(errors, &JobFault::Refused(refusal)),
     };

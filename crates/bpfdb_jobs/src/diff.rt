@@ -1,11 +1,11 @@
 //! What a job of `diff` does.
 ghost use Rattle.std.specs.Borrow.{Bor};
-ghost use Rattle.std.specs.Prelude.{◌≡◌, ◌≤◌, ℕ, IfErr, IfOk, List, OnErr, OnOk, false};
+ghost use Rattle.std.specs.Prelude.{◌≡◌, ◌≤◌, ℕ, IfErr, IfOk, IsOk, List, OnErr, OnOk, false};
 ghost use Rattle.bpf_link.specs.Names.{fault_names};
 ghost use Rattle.bpf_load.specs.Faults.{IsTargetFault};
 ghost use Rattle.bpf_load.specs.Targets.{IsObjectOf, Loads, lent, loaded_of};
 ghost use Rattle.bpfdb_jobs.specs.Endings.{EndsPrinted};
-ghost use Rattle.bpfdb_jobs.specs.Jobs.{AreNamesFor, IsOtherRun, Prints, diff_status, other_bytes, runs_told, section_of};
+ghost use Rattle.bpfdb_jobs.specs.Jobs.{AreNamesFor, IsOtherRun, Prints, diff_status, opening_asked, other_bytes, runs_told, section_of};
 ghost use Rattle.bpfdb_jobs.specs.Openings.{OpensOf, WereCompared, beside};
 ghost use Rattle.bpfdb_jobs.specs.Origins.{LacksNames};
 ghost use Rattle.bpfdb_jobs.specs.Programs.{AreSameMaps};
@@ -20,6 +20,7 @@ ghost use Rattle.bpfdb_options.specs.declared.subcommand.Subcommand.TheVariants.
 use crate::against::against_job;
 use crate::job::Job;
 use crate::object::refuse;
+use crate::opening::{machine_of, opening_for};
 use crate::origin::{bytes_of as object_bytes, names_of};
 use crate::other_map::other_map;
 use crate::runs::{ComparedRuns, compare};
@@ -29,8 +30,9 @@ use bpf_lines::Names;
 use bpf_link::{LinkFault, fault_names};
 use bpf_load::{LinkedObject, Loaded, ObjectFault, Target, TargetFault, load, load_again};
 use bpf_machine::Cpu;
+use bpf_opening::open;
 use bpf_suite::Refusal;
-use bpfdb_faults::{JobFault, JobRefusal, flush_after, give_up, open_machine};
+use bpfdb_faults::{JobFault, JobRefusal, flush_after, give_up};
 use counted_io::{Counted, WriteFault, put};
 use std::alloc::{AllocError, Global};
 use std::io::Write;
@@ -97,7 +99,7 @@ fn runs_job<W: Write, E: Write>(
 {
     let Loaded { program, object } = loaded;
     let file = object.as_ref();
-    let first = match open_machine(alloc, program, job.context) {
+    let first = match machine_of(alloc, job, program) {
         Ok(cpu) => cpu,
         Err(refusal) => return give_up(errors, &JobFault::Refused(refusal)),
     };
@@ -336,6 +338,7 @@ fn other_machine<'a>(
     object: Option<&LinkedObject>,
 ) -> Result<OtherMachine, OtherFault<'a>>
     requires other { IsOtherRun job.now other.now }
+    requires asked { IsOk (opening_asked other.now.options) }
     requires object { IsObjectOf job.now.target.kind job.now.target job.now.file.now (lent object) }
     ensures ok { IfOk result (λ machine. OpensOf other.now
         (beside job.now.options.other_is_context (lent object.entry) machine.object) machine.cpu) }
@@ -345,7 +348,7 @@ fn other_machine<'a>(
         Ok(loaded) => loaded,
         Err(fault) => return Err(unloaded(other, fault)),
     };
-    match Cpu::open(alloc, program, other.context) {
+    match open(alloc, program, other.context, &opening_for(&other.options)) {
         Ok(cpu) => Ok(OtherMachine { cpu, object }),
         Err(fault) => Err(OtherFault::Program(Refusal::Open(fault))),
     }

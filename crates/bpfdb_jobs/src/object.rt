@@ -78,7 +78,7 @@ fn put_program<W: Write, E: Write>(
 {
     let linked = &object.program;
     let answered = answered_if(job, linked.answered);
-    let fields = fields_if(job, object.fields());
+    let fields = fields_if(object.fields());
     match write_out(writer, linked.words.as_slice()) {
         Ok(()) => told_as(
             tell_linked(
@@ -163,13 +163,13 @@ fn answered_if(job: &Job<'_>, count: usize) -> Option<u64>
     }
 }
 
-/// How many fields are left as compiled, if that is to be told.
-fn fields_if(job: &Job<'_>, count: u32) -> Option<u64>
-    ensures { result ≡ fields_if job.now.target.as_compiled count }
+/// How many fields are left as compiled, if that is to be told: if there are some.
+fn fields_if(count: u32) -> Option<u64>
+    ensures { result ≡ fields_if count }
 {
-    if job.target.as_compiled {
-        Some(u64::from(count))
-    } else {
+    if count == 0 {
         None
+    } else {
+        Some(u64::from(count))
     }
 }

@@ -1,8 +1,11 @@
 //! What a job is done with: a machine with its journal, a session.
-ghost use Rattle.std.specs.Prelude.{◌≡◌, IfErr, IfOk, false};
+ghost use Rattle.std.specs.Prelude.{◌≡◌, IfErr, IfOk, OnOk, false};
 ghost use Rattle.bpf_entries.specs.Status.{has_ended};
+ghost use Rattle.bpf_opening.specs.Lists.{or_bare};
+ghost use Rattle.bpf_steps.specs.Opening.{Refused};
+ghost use Rattle.bpfdb_jobs.specs.Jobs.{BeginsFor, OpensMachine, opening_asked};
 ghost use Rattle.bpfdb_jobs.specs.Openings.{IsOpening, IsStart};
-ghost use Rattle.bpfdb_jobs.specs.Refusals.{Refuses};
+ghost use Rattle.bpfdb_jobs.specs.Refusals.{Refuses, RefusesMachine};
 ghost use Rattle.bpfdb_faults.specs.declared.refusal.JobRefusal.TheVariants.{Journal};
 ghost use Rattle.bpf_ring.specs.declared.fault.JournalFault.TheVariants.{OutOfMemory};
 ghost use Rattle.bpfdb_limits.specs.Limits.{IsLimit};
@@ -10,10 +13,56 @@ ghost use Rattle.bpfdb_limits.specs.Limits.{IsLimit};
 use crate::job::Job;
 use bpf_isa::Program;
 use bpf_journal::{JournalFault, RingKeeper, Timeline};
+use bpf_machine::{Cpu, OpenFault};
+use bpf_opening::{BARE, Opening, asked_opening, open, reopen};
 use bpf_origin::Wanted;
 use bpf_session::Session;
-use bpfdb_faults::{JobRefusal, open_machine};
+use bpfdb_faults::JobRefusal;
+use bpfdb_options::Options;
 use std::alloc::Global;
+
+/// A machine before its first step, on a program and the job's context, with what the job asks of its
+/// opening.
+pub fn machine_of(
+    alloc: Global,
+    job: &Job<'_>,
+    program: Program,
+) -> Result<Cpu, JobRefusal<'static>>
+    ensures ok { IfOk result (OpensMachine job.now program) }
+    ensures err { IfErr result (RefusesMachine job.now) }
+{
+    let opening = match asked_opening(job.options.regs) {
+        Ok(opening) => opening,
+        Err(fault) => return Err(JobRefusal::Opening(fault)),
+    };
+    match open(alloc, program, job.context, &opening) {
+        Ok(cpu) => Ok(cpu),
+        Err(fault) => Err(JobRefusal::Open(fault)),
+    }
+}
+
+/// What is asked of an opening; nothing where that is refused.
+pub fn opening_for(options: &Options<'_>) -> Opening
+    ensures { result ≡ or_bare (opening_asked options.now) }
+{
+    match asked_opening(options.regs) {
+        Ok(opening) => opening,
+        Err(_) => BARE,
+    }
+}
+
+/// Opens a machine again on its program and a context, with what is asked.
+pub fn open_again(
+    alloc: Global,
+    options: &Options<'_>,
+    cpu: &mut Cpu,
+    context: &[u8],
+) -> Result<(), OpenFault>
+    ensures ok { OnOk result (BeginsFor options.now cpu.old.program context.now cpu.new) }
+    ensures err { IfErr result (Refused context.now) }
+{
+    reopen(alloc, cpu, context, &opening_for(options))
+}
 
 /// A machine before its first step, with an empty journal.
 pub fn timeline_of(
@@ -25,7 +74,7 @@ pub fn timeline_of(
     ensures runs { IfOk result (λ timeline. has_ended timeline.state.status ≡ false) }
     ensures err { IfErr result (Refuses job.now) }
 {
-    let cpu = match open_machine(alloc, program, job.context) {
+    let cpu = match machine_of(alloc, job, program) {
         Ok(cpu) => cpu,
         Err(refusal) => return Err(refusal),
     };
@@ -45,7 +94,7 @@ pub fn session_of(
     ensures ok { IfOk result (IsOpening job.now program) }
     ensures err { IfErr result (Refuses job.now) }
 {
-    let cpu = match open_machine(alloc, program, job.context) {
+    let cpu = match machine_of(alloc, job, program) {
         Ok(cpu) => cpu,
         Err(refusal) => return Err(refusal),
     };

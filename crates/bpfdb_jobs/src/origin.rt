@@ -346,7 +346,8 @@ pub(crate) fn names_of<'a>(
     job: &Job<'_>,
     object: Option<&'a LinkedObject>,
 ) -> Result<Option<Names<'a>>, LinkFault>
-    ensures ok { IfOk result (AreNamesOf (lent object.entry) (section_of job.now)) }
+    ensures ok { IfOk result (AreNamesOf (lent object.entry) (section_of job.now)
+        job.now.target.packet) }
     ensures err { IfErr result (LacksNames (lent object.entry) (section_of job.now)) }
 {
     let Some(object) = object else {
@@ -359,6 +360,7 @@ pub(crate) fn names_of<'a>(
         object.program.maps,
         object.program.shapes.as_slice(),
         object.program.names.as_slice(),
+        job.target.packet,
     ) {
         Ok(names) => Ok(Some(names)),
         Err(why) => Err(why),

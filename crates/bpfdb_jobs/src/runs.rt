@@ -6,7 +6,8 @@ ghost use Rattle.bpfdb_jobs.specs.Openings.{AreCompared, OpensAs};
 ghost use Rattle.counted_io.specs.Writing.{WritesAfter};
 
 use crate::job::Job;
-use bpf_diff::{Compared, Values, put_diff, put_writes};
+use crate::opening::opening_for;
+use bpf_diff::{Compared, Start, Values, put_diff, put_writes};
 use bpf_machine::Cpu;
 use counted_io::{Counted, WriteFault};
 use std::alloc::{AllocError, Global};
@@ -86,9 +87,26 @@ fn put_compared<W: Write>(
 {
     let limit = job.options.limit;
     if job.options.compares_writes {
-        let context = job.context;
-        let given = other.context;
-        put_writes(alloc, writer, so_far, first, second, context, given, limit)
+        let one = opening_for(&job.options);
+        let another = opening_for(&other.options);
+        let start = Start {
+            context: job.context,
+            opening: &one,
+        };
+        let other_start = Start {
+            context: other.context,
+            opening: &another,
+        };
+        put_writes(
+            alloc,
+            writer,
+            so_far,
+            first,
+            second,
+            &start,
+            &other_start,
+            limit,
+        )
     } else {
         Ok(put_diff(writer, so_far, first, second, limit))
     }

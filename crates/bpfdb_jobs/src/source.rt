@@ -4,11 +4,12 @@ ghost use Rattle.bpf_diff.specs.Values.{pair_of, value_of};
 ghost use Rattle.bpf_entries.specs.Status.{has_ended};
 ghost use Rattle.bpf_ring.specs.Opening.{RefusesSize};
 ghost use Rattle.bpf_session.specs.Plain.{RunsKept};
-ghost use Rattle.bpf_steps.specs.State.{initial};
+ghost use Rattle.bpfdb_jobs.specs.Jobs.{begun_for};
 ghost use Rattle.bpfdb_jobs.specs.Openings.{AreSources, HasRun};
 ghost use Rattle.bpfdb_jobs.specs.Sources as spec;
 
 use crate::job::Job;
+use crate::opening::open_again;
 use crate::origin::{Arrived, put_told, question_of};
 use bpf_diff::Values;
 use bpf_journal::{JournalFault, RingKeeper, Timeline};
@@ -44,8 +45,8 @@ pub(crate) fn sources_of(
     second: AskedRun<'_>,
 ) -> Result<Sources, JournalFault>
     ensures ok { IfOk result (AreSources first.entry.names second.entry.names job.now.options (pair_of values)
-        (initial first.entry.cpu.program first.entry.context.now)
-        (initial second.entry.cpu.program second.entry.context.now)) }
+        (begun_for job.now.options first.entry.cpu.program first.entry.context.now)
+        (begun_for job.now.options second.entry.cpu.program second.entry.context.now)) }
     ensures asked { IfErr result (λ fault. (job.now.options.alone ≡ false)
         × (is_some (pair_of values) ≡ true)) }
     ensures err { IfErr result (RefusesSize job.now.options.journal) }
@@ -90,7 +91,7 @@ fn source_of(
     values: Values,
 ) -> Result<Vec<u8>, JournalFault>
     ensures ok { IfOk result (λ text. text.items ≡ spec.source (option_map (λ n. n.now) run.entry.names)
-        job.now.options (initial run.entry.cpu.program run.entry.context.now) (value_of values)) }
+        job.now.options (begun_for job.now.options run.entry.cpu.program run.entry.context.now) (value_of values)) }
     ensures err { IfErr result (RefusesSize job.now.options.journal) }
 {
     let Values { steps, parts } = values;
@@ -136,7 +137,7 @@ fn rerun(
     steps: u64,
 ) -> Result<Arrived, JournalFault>
     ensures ok { IfOk result (λ arrived. HasRun job.now.options steps
-        (initial opened.program context.now) arrived.timeline arrived.moves) }
+        (begun_for job.now.options opened.program context.now) arrived.timeline arrived.moves) }
     ensures err { IfErr result (RefusesSize job.now.options.journal) }
 {
     let mut cpu = opened;
@@ -148,7 +149,7 @@ fn rerun(
         Ok(wanted) => wanted,
         Err(_) => return Err(JournalFault::OutOfMemory),
     };
-    match cpu.reopen(alloc, context) {
+    match open_again(alloc, &job.options, &mut cpu, context) {
         Ok(()) => {}
         Err(_) => return Err(JournalFault::OutOfMemory),
     }

@@ -1,17 +1,17 @@
 //! Strict runs: a machine, and the first step of its run that would read the stack where nothing was
 //! written.
 ghost use Rattle.std.specs.Prelude.{◌≡◌, IfErr, IfOk};
-ghost use Rattle.bpf_steps.specs.Opening.{Opened};
 ghost use Rattle.bpf_trace.specs.UnwrittenTexts.{unwritten_line};
 ghost use Rattle.counted_io.specs.Writing.{Writes};
-ghost use Rattle.bpfdb_jobs.specs.Jobs.{unwritten_in};
+ghost use Rattle.bpfdb_jobs.specs.Jobs.{OpensMachine, unwritten_in};
 ghost use Rattle.bpfdb_jobs.specs.Refusals.{RefusesMachine};
 
 use crate::job::Job;
+use crate::opening::{machine_of, open_again};
 use bpf_isa::Program;
 use bpf_machine::Cpu;
 use bpf_trace::{Unwritten, find_unwritten, put_unwritten};
-use bpfdb_faults::{JobRefusal, flush_after, open_machine};
+use bpfdb_faults::{JobRefusal, flush_after};
 use counted_io::{Counted, WriteFault};
 use std::alloc::Global;
 use std::io::Write;
@@ -30,11 +30,11 @@ pub fn strict_machine(
     job: &Job<'_>,
     program: Program,
 ) -> Result<Strict, JobRefusal<'static>>
-    ensures ok { IfOk result (λ strict. Opened program job.now.context.now strict.cpu
+    ensures ok { IfOk result (λ strict. OpensMachine job.now program strict.cpu
         × (strict.unwritten ≡ unwritten_in job.now strict.cpu)) }
     ensures err { IfErr result (RefusesMachine job.now) }
 {
-    let mut cpu = match open_machine(alloc, program, job.context) {
+    let mut cpu = match machine_of(alloc, job, program) {
         Ok(cpu) => cpu,
         Err(refusal) => return Err(refusal),
     };
@@ -45,7 +45,7 @@ pub fn strict_machine(
         });
     }
     let unwritten = find_unwritten(&mut cpu, job.options.limit);
-    match cpu.reopen(alloc, job.context) {
+    match open_again(alloc, &job.options, &mut cpu, job.context) {
         Ok(()) => Ok(Strict { cpu, unwritten }),
         Err(fault) => Err(JobRefusal::Open(fault)),
     }

@@ -94,7 +94,6 @@ pub record Asks (piece : List ℕ) (asked : Asked) : Type 0 where
   pub section : asked.section ≡ given.section
   pub entries : asked.entries ≡ listed.entries
   pub stubs : IsStr given.stubs (Some asked.stubs)
-  pub left : asked.as_compiled ≡ is_some given.left
   pub packet : packet_in given.structs ≡ Some asked.packet
 
 -- Nothing is: a line is none that it takes, something stands more than once, there is no such struct, the list of stubs isn't UTF-8, or nothing is listed.

@@ -25,7 +25,6 @@ pub struct Asked<'a> {
     /// The program, or those that are called in turn, each as `NAME` or `NAME@OFFSET`.
     pub entries: Vec<&'a str>,
     pub stubs: Option<&'a str>,
-    pub as_compiled: bool,
     pub packet: Option<Packet>,
 }
 
@@ -218,7 +217,6 @@ pub fn asked_of(alloc: Global, piece: &[u8]) -> Result<Option<Asked<'_>>, AllocE
         section: given.section,
         entries: listed.entries,
         stubs,
-        as_compiled: given.left.is_some(),
         packet,
     }))
 }

@@ -6,14 +6,14 @@ ghost use Rattle.bpf_load.specs.Faults.{name_of as fault_name};
 ghost use Rattle.bpf_load.specs.Targets.{LinksTo, contents, texts};
 ghost use Rattle.input_texts.specs.Turns.{has_place};
 ghost use Rattle.suite_files.specs.Asks.{entry_in, names_one, turns_in};
-ghost use Rattle.suite_files.specs.Links.{AreLines, IsTableOf, IsTargetOf, names_told, section_of, section_told};
+ghost use Rattle.suite_files.specs.Links.{AreLines, IsPacketOf, IsTableOf, IsTargetOf, names_told, section_of, section_told};
 ghost use Rattle.suite_files.specs.Refused.{HasNoTable, IsKept, IsUnmade, IsUntold};
 
 use crate::asked::Asked;
 use crate::fault::{KeptFault, PutFault};
 use bpf_lines::{LinesFault, ObjectLines, program_lines, write_table};
 use bpf_link::{LinkFault, fault_names, home_of};
-use bpf_load::{LinkedObject, ObjectFault, SourceKind, Target, link_object};
+use bpf_load::{LinkedObject, ObjectFault, SourceKind, Target, link_object, told_packet};
 use bpf_packet::Packet;
 use counted_io::{Counted, WriteFault};
 use input_texts::{Text, has_place};
@@ -81,21 +81,58 @@ fn section_of<'a>(asked: &'a Asked<'a>, object: &'a [u8]) -> &'a [u8]
 }
 
 /// Which program a section asks for of an object, with these others joined to it.
-pub fn target_of<'a>(asked: &'a Asked<'a>, object: &'a [u8], with: &'a [Vec<u8>]) -> Target<'a>
+pub fn target_of<'a>(
+    alloc: Global,
+    asked: &'a Asked<'a>,
+    object: &'a [u8],
+    with: &'a [Vec<u8>],
+) -> Target<'a>
     ensures { IsTargetOf asked.now object.now (contents with.now) result }
 {
     let entries = asked.entries.as_slice();
+    let section = section_of(asked, object);
+    let entry = entry_in(entries);
     Target {
         kind: SourceKind::Object,
         maps: None,
-        section: section_of(asked, object),
-        entry: entry_in(entries),
+        section,
+        entry,
         counts: &[],
         turns: turns_in(entries),
         with,
         stubs: asked.stubs,
-        as_compiled: asked.as_compiled,
-        packet: asked.packet,
+        as_compiled: true,
+        packet: packet_for(
+            alloc,
+            asked.packet,
+            names_one(entries),
+            object,
+            section,
+            entry,
+        ),
+    }
+}
+
+/// The kernel's struct that the entry takes, if it takes one.
+fn packet_for(
+    alloc: Global,
+    asked: Option<Packet>,
+    is_one: bool,
+    object: &[u8],
+    section: &[u8],
+    entry: &[u8],
+) -> Option<Packet>
+    ensures { IsPacketOf asked is_one object.now section.now entry.now result }
+{
+    match asked {
+        Some(packet) => Some(packet),
+        None => {
+            if is_one {
+                told_packet(alloc, object, section, entry)
+            } else {
+                None
+            }
+        }
     }
 }
 

@@ -242,7 +242,7 @@ fn asked_program<F: Opener>(
         Err(fault) => return Err(fault_of(fault)),
     };
     let object = shelf[at].bytes.as_slice();
-    let target = target_of(asked, object, others.as_slice());
+    let target = target_of(alloc, asked, object, others.as_slice());
     match made_of(alloc, place.lines, &target, object) {
         Ok(made) => Ok(made),
         Err(fault) => Err(fault),

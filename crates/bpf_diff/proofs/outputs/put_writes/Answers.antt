@@ -32,7 +32,7 @@ pub returns-clause-text : goal.returns-clause-text
 returns-clause-text g c =
     let limit = c.args.limit in
     let p = c.in-Some.place in
-    let one = again limit _ c.args.context.now c.args.first.now _ c.requires.first c.run-one.ensures in
+    let one = again limit _ c.args.start.now c.args.first.now _ c.requires.first c.run-one.ensures in
     let other = again limit _ c.args.other.now c.args.second.now _ c.requires.second c.run-another.ensures in
     let n = c.in-Ok.ensures in
     let m = c.in-Ok-find_writer.ensures in
@@ -45,7 +45,7 @@ pub returns-clause-finds : goal.returns-clause-finds
 returns-clause-finds g c =
     let limit = c.args.limit in
     let p = c.in-Some.place in
-    let one = again limit _ c.args.context.now c.args.first.now _ c.requires.first c.run-one.ensures in
+    let one = again limit _ c.args.start.now c.args.first.now _ c.requires.first c.run-one.ensures in
     let other = again limit _ c.args.other.now c.args.second.now _ c.requires.second c.run-another.ensures in
     let n = c.in-Ok.ensures in
     let m = c.in-Ok-find_writer.ensures in

@@ -3,9 +3,9 @@ use Rattle.bpfdb.specs.Done.{Replaced}
 use Rattle.bpfdb.specs.Tests.{TestsIn}
 use Rattle.bpfdb.proofs.doing.do_replaced.Goals as goal
 
-pub returns-then-not-is_test-clause-does : goal.returns-then-not-is_test-clause-does
-returns-then-not-is_test-clause-does g c =
+pub returns-else-is_test-clause-does : goal.returns-else-is_test-clause-does
+returns-else-is_test-clause-does g c =
     let file = c.args.bytes.now.file.now in
-    let bytes_at = g.F.Opener.bytes_at c.args.files.now in
+    let bytes_at = g.F.Opener.bytes_at c.args.host.now.files.now in
     let does = c.do_job.ensures.does in
-    Replaced file (subst (λ (test : Bool). TestsIn test bytes_at c.args.plan.now file file) c.if-not-is_test.ensures refl) does.0 does.1 does.2
+    Replaced file (subst (λ (test : Bool). TestsIn test bytes_at c.args.plan.now file file) c.if-is_test.ensures refl) does.0 does.1 does.2

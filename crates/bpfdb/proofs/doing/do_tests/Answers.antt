@@ -12,7 +12,7 @@ returns-in-Err-clause-does g c =
 pub returns-clause-does : goal.returns-clause-does
 returns-clause-does g c =
     let file = c.args.bytes.now.file.now in
-    let bytes_at = g.F.Opener.bytes_at c.args.files.now in
+    let bytes_at = g.F.Opener.bytes_at c.args.host.now.files.now in
     let does = rw c.as_slice.ensures.value at c.do_job.ensures.does in
     let made =
     subst (λ (test : Bool). TestsIn test bytes_at c.args.plan.now file c.in-Ok.tests.items) (sym c.requires.tests)

@@ -7,14 +7,12 @@ use Rattle.input_texts.specs.TraceForms.{told}
 use Rattle.bpfdb_jobs.specs.Endings.{Exhausted, Refused}
 use Rattle.bpfdb_jobs.specs.Jobs.{against_print}
 use Rattle.bpfdb_jobs.proofs.Diffing.{against-prints, against-refuses, machine-against, opens-as, told-ends}
-use Rattle.bpfdb_jobs.proofs.Refusing.{opening-machine}
 use Rattle.bpfdb_jobs.proofs.against.against_job.Goals as goal
 
 pub returns-in-Err-clause-does : goal.returns-in-Err-clause-does
 returns-in-Err-clause-does g c =
     Refused c.in-Err.refusal
-    (against-refuses c.args.job.now c.in-Err.refusal c.requires.trace (machine-against c.args.job.now c.in-Err.refusal
-    (opening-machine c.args.job.now c.in-Err.refusal c.in-Err.ensures.err))) refl
+    (against-refuses c.args.job.now c.in-Err.refusal c.requires.trace (machine-against c.args.job.now c.in-Err.refusal c.in-Err.ensures.err)) refl
     c.give_up.ensures.told c.give_up.ensures.value
 
 pub returns-in-Err-form_of_trace-clause-does : goal.returns-in-Err-form_of_trace-clause-does

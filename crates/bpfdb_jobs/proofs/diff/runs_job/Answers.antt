@@ -1,18 +1,19 @@
 use Rattle.std.proofs.Common.{◌∙◌, Option, ap, refl, subst, sym}
+use Rattle.std.specs.Prelude.{IsOk}
 use Rattle.bpf_load.specs.Targets.{lent}
 use Rattle.bpf_load.specs.declared.loading.LinkedObject.{LinkedObject}
 use Rattle.bpfdb_jobs.specs.Endings.{Refused}
+use Rattle.bpfdb_jobs.specs.Jobs.{opening_asked}
 use Rattle.bpfdb_jobs.specs.Openings.{OpensOf, beside}
-use Rattle.bpfdb_jobs.proofs.Diffing.{machine-diff, opens-as, other-refuses, runs-refuse}
-use Rattle.bpfdb_jobs.proofs.Refusing.{opening-machine}
+use Rattle.bpfdb_options.specs.declared.options.Options.{Options}
+use Rattle.bpfdb_jobs.proofs.Diffing.{machine-diff, opens-as, other-refuses, runs-refuse, same-options}
 use Rattle.bpfdb_jobs.proofs.Tables.{object-of}
 use Rattle.bpfdb_jobs.proofs.diff.runs_job.Goals as goal
 
 pub returns-in-Err-clause-does : goal.returns-in-Err-clause-does
 returns-in-Err-clause-does g c =
     Refused c.in-Err.refusal
-    (runs-refuse c.args.job.now c.in-Err.refusal c.requires.runs (machine-diff c.args.job.now c.in-Err.refusal
-    (opening-machine c.args.job.now c.in-Err.refusal c.in-Err.ensures.err))) refl c.give_up.ensures.told c.give_up.ensures.value
+    (runs-refuse c.args.job.now c.in-Err.refusal c.requires.runs (machine-diff c.args.job.now c.in-Err.refusal c.in-Err.ensures.err)) refl c.give_up.ensures.told c.give_up.ensures.value
 
 pub returns-in-Err-other_machine-clause-does : goal.returns-in-Err-other_machine-clause-does
 returns-in-Err-other_machine-clause-does g c =
@@ -25,6 +26,11 @@ returns-in-Err-other_machine-clause-does g c =
 
 pub other_machine-requires-clause-object : goal.other_machine-requires-clause-object
 other_machine-requires-clause-object g c = rw (sym c.as_ref-file.ensures.value) at (object-of c.args.job.now c.args.loaded c.requires.loaded)
+
+pub other_machine-requires-clause-asked : goal.other_machine-requires-clause-asked
+other_machine-requires-clause-asked g c =
+    subst (λ (options : Options). IsOk (opening_asked options)) (sym (same-options c.args.job.now c.other_run-other.result c.other_run-other.ensures))
+    c.in-Ok.ensures.ok.0
 
 pub sides_job-requires-clause-first : goal.sides_job-requires-clause-first
 sides_job-requires-clause-first g c =

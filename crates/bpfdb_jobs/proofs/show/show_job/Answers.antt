@@ -14,7 +14,7 @@ use Rattle.bpfdb_jobs.specs.Suites.{AreAsked, fault_of_file}
 use Rattle.bpfdb_faults.specs.declared.fault.JobFault.TheVariants as fault
 use Rattle.bpfdb_jobs.specs.declared.job.Job.{Job}
 use Rattle.bpfdb_faults.specs.declared.refusal.JobRefusal.{JobRefusal}
-use Rattle.bpfdb_faults.specs.declared.refusal.JobRefusal.TheVariants.{OtherMap, OtherObject, Kind, Maps, Listing, Load, Open, Journal, OtherRun, TraceLine, Script, What, Goal, Object, Functions, Tests, NoTest, ManyTests, NoPlace}
+use Rattle.bpfdb_faults.specs.declared.refusal.JobRefusal.TheVariants.{OtherMap, OtherObject, Kind, Maps, Listing, Load, Opening, Open, Journal, OtherRun, TraceLine, Script, What, Goal, Object, Functions, Tests, NoTest, ManyTests, NoPlace}
 use Rattle.bpfdb_options.specs.declared.test_part.TestPart.{TestPart}
 use Rattle.bpfdb_jobs.proofs.show.show_job.Goals as goal
 
@@ -37,6 +37,7 @@ no-test part job (NoTest name) status same sound lacks told two = Refused (NoTes
 no-test part job (Maps fault) status same sound lacks told two = absurd lacks
 no-test part job (Listing fault) status same sound lacks told two = absurd lacks
 no-test part job (Load fault) status same sound lacks told two = absurd lacks
+no-test part job (Opening fault) status same sound lacks told two = absurd lacks
 no-test part job (Open fault) status same sound lacks told two = absurd lacks
 no-test part job (Journal fault) status same sound lacks told two = absurd lacks
 no-test part job (OtherRun fault) status same sound lacks told two = absurd lacks

@@ -9,7 +9,7 @@ use Rattle.bpfdb_jobs.specs.Suites.{AreTestsOf}
 use Rattle.bpfdb_faults.specs.declared.fault.JobFault.{JobFault}
 use Rattle.bpfdb_faults.specs.declared.fault.JobFault.TheVariants as fault
 use Rattle.bpfdb_jobs.specs.declared.job.Job.{Job}
-use Rattle.bpfdb_faults.specs.declared.refusal.JobRefusal.TheVariants.{OtherMap, OtherObject, Kind, Maps, Listing, Load, Open, Journal, OtherRun, TraceLine, Script, What, Goal, Object, Functions, Tests, NoTest, ManyTests, NoPlace}
+use Rattle.bpfdb_faults.specs.declared.refusal.JobRefusal.TheVariants.{OtherMap, OtherObject, Kind, Maps, Listing, Load, Opening, Open, Journal, OtherRun, TraceLine, Script, What, Goal, Object, Functions, Tests, NoTest, ManyTests, NoPlace}
 use Rattle.bpfdb_options.specs.declared.test_part.TestPart.{TestPart}
 use Rattle.bpfdb_jobs.proofs.show.show_test.Goals as goal
 
@@ -40,6 +40,7 @@ hidden part job test (fault.StepLimit limit slot) status same asked hides told t
 hidden part job test (fault.Refused (Maps why)) status same asked hides told two = absurd hides
 hidden part job test (fault.Refused (Load why)) status same asked hides told two = absurd hides
 hidden part job test (fault.Refused (Open why)) status same asked hides told two = absurd hides
+hidden part job test (fault.Refused (Opening why)) status same asked hides told two = absurd hides
 hidden part job test (fault.Refused (Journal why)) status same asked hides told two = absurd hides
 hidden part job test (fault.Refused (OtherRun why)) status same asked hides told two = absurd hides
 hidden part job test (fault.Refused (NoPlace name)) status same asked hides told two = absurd hides

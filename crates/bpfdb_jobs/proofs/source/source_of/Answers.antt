@@ -2,7 +2,7 @@ use Rattle.std.proofs.Common.{◌≡◌, ◌∙◌, [], refl, sym}
 use Rattle.std.specs.Prelude.{option_map}
 use Rattle.bpf_diff.specs.Values.{value_of}
 use Rattle.bpfdb_jobs.proofs.Sourcing.{nothing-told, something-told}
-use Rattle.bpf_steps.specs.State.{initial}
+use Rattle.bpfdb_jobs.specs.Jobs.{begun_for}
 use Rattle.bpfdb_jobs.specs.Openings.{asked_text}
 use Rattle.bpfdb_jobs.specs.Origins.{named_by}
 use Rattle.bpfdb_jobs.specs.Sources.{behind}
@@ -20,7 +20,7 @@ returns-in-Ok-written-clause-ok c =
     let ran = c.in-Ok.ensures.ok in
     let asked = rw c.cpu.ensures at c.asked_at-asked.ensures in
     let written = rw (c.in-Ok-written.is, c.as_slice.ensures.value) at c.in-Ok-put_told.ensures.text _ ran.held in
-    let history = (behind c.args.job.now.options c.args.values.steps (initial c.args.run.cpu.program c.args.run.context.now)).point.history in
+    let history = (behind c.args.job.now.options c.args.values.steps (begun_for c.args.job.now.options c.args.run.cpu.program c.args.run.context.now)).point.history in
     let text : c.into_inner.result.items
     ≡ named_by (option_map (λ n. n.now) c.args.run.names)
     (asked_text c.question_of-question.result c.asked_at-asked.result.items history c.in-Ok.arrived.timeline.state []) =

@@ -1,12 +1,11 @@
 use Rattle.std.proofs.Common.{◌≡◌, ◌∙◌, Bool, None, Option, ap, false, sym, true}
 use Rattle.std.specs.Prelude.{if◌then◌else◌}
 use Rattle.bpf_isa.specs.Programs.{Checked}
-use Rattle.bpf_steps.specs.State.{State, initial}
+use Rattle.bpf_steps.specs.State.{State}
 use Rattle.bpf_trace.specs.Written.{unwritten_of}
 use Rattle.bpf_trace.specs.declared.strict_run.Unwritten.{Unwritten}
-use Rattle.bpfdb_jobs.specs.Jobs.{unwritten_in}
+use Rattle.bpfdb_jobs.specs.Jobs.{begun_for, unwritten_in}
 use Rattle.bpfdb_jobs.specs.declared.job.Job.{Job}
-use Rattle.bpfdb_jobs.proofs.Refusing.{opening-machine}
 use Rattle.bpfdb_jobs.proofs.strict.strict_machine.Goals as goal
 
 not-strict : (job : Job) (x : State) → job.options.is_strict ≡ false → None ≡ unwritten_in job x
@@ -20,15 +19,12 @@ is-strict job x y read is e found =
 pub returns-then-not-job-clause-ok : goal.returns-then-not-job-clause-ok
 returns-then-not-job-clause-ok c = (c.in-Ok.ensures.ok, not-strict c.args.job.now c.in-Ok.cpu c.if-not-job.true)
 
-pub returns-in-Ok-reopen-clause-ok : goal.returns-in-Ok-reopen-clause-ok
-returns-in-Ok-reopen-clause-ok c =
+pub returns-in-Ok-open_again-clause-ok : goal.returns-in-Ok-open_again-clause-ok
+returns-in-Ok-open_again-clause-ok c =
     let o = c.in-Ok.ensures.ok in
-    let program = c.find_unwritten-unwritten.ensures.program ∙ ap (λ (s : State). s.program) o.1 in
-    let again = c.in-Ok-reopen.ensures.ok.1 ∙ ap (λ (p : Checked). initial p c.args.job.now.context.now) program in
-    ((o.0, again), is-strict c.args.job.now c.in-Ok.cpu _ _ c.if-not-job.false (again ∙ sym o.1) c.find_unwritten-unwritten.ensures.found)
-
-pub returns-in-Err-clause-err : goal.returns-in-Err-clause-err
-returns-in-Err-clause-err c = opening-machine c.args.job.now c.in-Err.refusal c.in-Err.ensures.err
+    let program = c.find_unwritten-unwritten.ensures.program ∙ ap (λ (s : State). s.program) o.2 in
+    let again = c.in-Ok-open_again.ensures.ok.1 ∙ ap (λ (p : Checked). begun_for c.args.job.now.options p c.args.job.now.context.now) program in
+    ((o.0, o.1, again), is-strict c.args.job.now c.in-Ok.cpu _ _ c.if-not-job.false (again ∙ sym o.2) c.find_unwritten-unwritten.ensures.found)
 
 pub returns-clause-err : goal.returns-clause-err
-returns-clause-err c = c.in-Err-reopen.ensures.err
+returns-clause-err c = c.in-Err-open_again.ensures.err

@@ -9,7 +9,7 @@ use Rattle.bpfdb_jobs.specs.declared.job.Job.{Job}
 use Rattle.bpfdb_jobs.specs.Refusals.{LacksName}
 use Rattle.bpfdb_faults.specs.declared.fault.JobFault.TheVariants as fault
 use Rattle.bpfdb_faults.specs.declared.refusal.JobRefusal.{JobRefusal}
-use Rattle.bpfdb_faults.specs.declared.refusal.JobRefusal.TheVariants.{OtherMap, OtherObject, Kind, Maps, Listing, Load, Open, Journal, OtherRun, TraceLine, Script, What, Goal, Object, Functions, Tests, NoTest, ManyTests, NoPlace}
+use Rattle.bpfdb_faults.specs.declared.refusal.JobRefusal.TheVariants.{OtherMap, OtherObject, Kind, Maps, Listing, Load, Opening, Open, Journal, OtherRun, TraceLine, Script, What, Goal, Object, Functions, Tests, NoTest, ManyTests, NoPlace}
 use Rattle.bpfdb_jobs.proofs.suite.report_on.Goals as goal
 
 -- a file of which no test is run
@@ -28,6 +28,7 @@ no-test job (NoTest name) same sound lacks = Refused (NoTest name) (sound, lacks
 no-test job (Maps fault) same sound lacks = absurd lacks
 no-test job (Listing fault) same sound lacks = absurd lacks
 no-test job (Load fault) same sound lacks = absurd lacks
+no-test job (Opening fault) same sound lacks = absurd lacks
 no-test job (Open fault) same sound lacks = absurd lacks
 no-test job (Journal fault) same sound lacks = absurd lacks
 no-test job (OtherRun fault) same sound lacks = absurd lacks

@@ -14,6 +14,5 @@ returns c = record {
   section = refl;
   entries = refl;
   stubs = c.in-Some-str_of.ensures;
-  left = c.is_some.ensures;
   packet = sym c.in-Some-packet_in.ensures;
 }
