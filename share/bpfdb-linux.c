@@ -3,9 +3,9 @@
 
      clang -target bpf -mcpu=v3 -O2 -g -c bpfdb-linux.c -o bpfdb-linux.o
 
-   What it keeps lies in five maps of the machine: `.data.world` with the world and where the heap has got to, three
-   maps of heap, `.bss.output`. A helper calls no other function but the one that writes numbers into texts, so it takes
-   one of the machine's eight frames, or two.
+   What it keeps lies in six maps of the machine: `.data.world` with the world and where the heap has got to, three maps
+   of heap, `.bss.output`, `.data.network`; a program has those that it reaches. What helpers have in common is inlined,
+   but for what is long and seldom called (SHARED): so a helper takes one of the machine's eight frames, or two.
 
    The machine needs no alignment: where bytes are read eight at a time, they may lie anywhere. */
 #include "bpfdb-linux.h"
@@ -16,6 +16,7 @@
 #include "bpfdb-linux/tries.h"
 #include "bpfdb-linux/output.h"
 #include "bpfdb-linux/packet.h"
+#include "bpfdb-linux/network.h"
 
 #include "bpfdb-linux/maps.c"
 #include "bpfdb-linux/queues.c"
@@ -26,3 +27,11 @@
 #include "bpfdb-linux/stacks.c"
 #include "bpfdb-linux/packets.c"
 #include "bpfdb-linux/sums.c"
+#include "bpfdb-linux/storage.c"
+#include "bpfdb-linux/numbers.c"
+#include "bpfdb-linux/dynptrs.c"
+#include "bpfdb-linux/headers.c"
+#include "bpfdb-linux/interfaces.c"
+#include "bpfdb-linux/tunnels.c"
+#include "bpfdb-linux/sockets.c"
+#include "bpfdb-linux/differs.c"

@@ -13,6 +13,8 @@ typedef u32 __attribute__((may_alias)) any32;
 /* A helper: the linker finds it by its name. */
 #define HELPER __attribute__((noinline, used))
 #define INLINE static inline __attribute__((always_inline))
+/* What several helpers call, so that it stands once: they take two frames. */
+#define SHARED static __attribute__((noinline))
 /* The one section of what isn't zero at first. */
 #define WORLD __attribute__((section(".data.world")))
 #define UNUSED __attribute__((unused))
@@ -26,11 +28,17 @@ enum {
 	EACCES = 13,
 	EFAULT = 14,
 	EEXIST = 17,
+	ENODEV = 19,
 	EINVAL = 22,
 	ENOSPC = 28,
 	ERANGE = 34,
+	EPROTO = 71,
+	EOVERFLOW = 75,
 	EOPNOTSUPP = 95,
 	EAFNOSUPPORT = 97,
+	EALREADY = 114,
+	/* (the kernel's own, which system calls don't give) */
+	ENOTSUPP = 524,
 };
 
 /* Flags of an update: any, only a new key, only one that is there. */

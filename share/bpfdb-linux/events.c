@@ -1,4 +1,4 @@
-/* Output to perf buffers and ring buffers. */
+/* Output to perf buffers and ring buffers, of remote controls, and signals. */
 
 /* Flags of a perf buffer: the processor, or the present one, and how many bytes of the packet come with it. */
 #define INDEX_MASK 0xffffffffull
@@ -121,4 +121,63 @@ HELPER u64 bpf_ringbuf_query(struct map *m, u64 flags)
 	default:
 		return 0;
 	}
+}
+
+/* A record of no map, with room for so many numbers of four bytes. */
+INLINE u32 *told(u16 kind, u32 numbers)
+{
+	struct bpfdb_record *record = new_record(BPFDB_NO_MAP, kind, numbers * sizeof(u32));
+
+	return record ? (u32 *)record->data : NULL;
+}
+
+/* What a decoder of a remote control found. (Where the output has no room, that is counted there: Linux has no error.) */
+HELPER long bpf_rc_keydown(void *context UNUSED, u32 protocol, u64 scancode, u32 toggle)
+{
+	u32 *to = told(BPFDB_KEY_DOWN, 4);
+
+	if (to)
+		*(any64 *)to = scancode, to[2] = protocol, to[3] = toggle != 0;
+	return 0;
+}
+
+HELPER long bpf_rc_repeat(void *context UNUSED)
+{
+	told(BPFDB_KEY_AGAIN, 0);
+	return 0;
+}
+
+HELPER long bpf_rc_pointer_rel(void *context UNUSED, s32 to_right, s32 down)
+{
+	u32 *to = told(BPFDB_POINTER, 2);
+
+	if (to)
+		to[0] = to_right, to[1] = down;
+	return 0;
+}
+
+/* A signal for the task, but for that which nobody signals. (Number 0 only asks whether one may.) */
+INLINE long send_signal(u32 number)
+{
+	enum { FIRST_TASK = 1, MOST_SIGNALS = 64 };
+	u32 *to;
+
+	if (bpfdb_world.tgid == FIRST_TASK)
+		return -EPERM;
+	if (number > MOST_SIGNALS)
+		return -EINVAL;
+	to = number ? told(BPFDB_SIGNAL, 1) : NULL;
+	if (to)
+		*to = number;
+	return number && !to ? -EAGAIN : 0;
+}
+
+HELPER long bpf_send_signal(u32 number)
+{
+	return send_signal(number);
+}
+
+HELPER long bpf_send_signal_thread(u32 number)
+{
+	return send_signal(number);
 }

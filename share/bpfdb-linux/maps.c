@@ -124,6 +124,15 @@ HELPER long bpf_spin_unlock(u32 *lock)
 	return 0;
 }
 
+/* A pointer in a map's value goes out, and another one in. */
+HELPER void *bpf_kptr_xchg(void **place, void *other)
+{
+	void *old = *place;
+
+	*place = other;
+	return old;
+}
+
 /* No program is ever in such a map, as nobody puts one there: a tail call goes on behind itself. */
 HELPER long bpf_tail_call(void *context UNUSED, struct map *m UNUSED, u32 index UNUSED)
 {

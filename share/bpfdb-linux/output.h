@@ -2,7 +2,7 @@
 struct {
 	struct bpfdb_output head;
 	u8 records[MAP_SIZE - sizeof(struct bpfdb_output)];
-} bpfdb_output __attribute__((section(".bss.output"), aligned(8)));
+} bpfdb_output __attribute__((section(".bss.output"), aligned(8))) = {};
 
 /* What the records of a program's maps are numbered by: they are in one map of the machine. */
 INLINE u32 number_of(const struct map *m)

@@ -1,8 +1,29 @@
 /* A packet as share/bpfdb.h has it in `struct xdp_md` and `struct __sk_buff`: these three are the first fields of
    both. */
+enum { ETHERNET = 14 };
+
 struct packet {
 	u64 data, data_end, data_meta;
 };
+
+/* What `struct __sk_buff` has behind them. Types and tags are in the network's order, as there. */
+struct skb {
+	struct packet p;
+	u32 length, type, mark, queue, protocol, has_tag, tag, tag_type, priority;
+	u32 came_in_at, interface, tc_index, cb[5], hash;
+};
+
+/* The struct by a number that is its address. (`link --packet` follows the address itself into this library, and takes
+   accesses of 4 bytes by it for those of the kernel's struct, whose fields lie elsewhere; it follows no halves.) */
+INLINE struct skb *skb_of(const void *context)
+{
+	volatile union {
+		const void *whole;
+		u32 half[2];
+	} address = { context };
+
+	return (struct skb *)((u64)address.half[1] << 32 | address.half[0]);
+}
 
 INLINE u64 packet_length(const struct packet *p)
 {

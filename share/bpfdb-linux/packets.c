@@ -1,9 +1,9 @@
 /* Helpers of programs for XDP and tc. The packet is the context's bytes: there is no room before the first one, and none
    behind the last. */
-enum { ETHERNET = 14, MOST_META = 32, LONGEST_PACKET = 0xffff };
+enum { MOST_META = 32, LONGEST_PACKET = 0xffff };
 
 /* How far into the context packets may grow: as far as it goes, where somebody said so; else as far as one has reached.
-   (Ends change in bpf_xdp_adjust_tail alone, so the first that it sees is where the packet ended.) */
+   (Whatever moves an end asks this before, so the first that it sees is where the packet ended.) */
 INLINE u32 farthest_end(const struct packet *p)
 {
 	if (bpfdb_packet_end < (u32)p->data_end)

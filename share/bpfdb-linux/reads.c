@@ -52,6 +52,12 @@ HELPER long bpf_copy_from_user(void *to, u32 size, const void *from)
 	return read_bytes(to, size, from);
 }
 
+/* (A user's memory is the same for each task.) */
+HELPER long bpf_copy_from_user_task(void *to, u32 size, const void *from, void *task UNUSED, u64 flags)
+{
+	return flags ? -EINVAL : read_bytes(to, size, from);
+}
+
 HELPER long bpf_probe_write_user(void *to, const void *from, u32 size)
 {
 	if (size > readable_from((u64)to))

@@ -129,8 +129,8 @@ INLINE long put_argument(struct text *t, const struct conversion *c, u64 argumen
 }
 
 /* Writes a text by a format that ends with a NUL within its size, from so many arguments: the text's length without a
-   NUL, or an error. It is the library's one function that others call. */
-static __attribute__((noinline)) long formatted(struct text *t, const u8 *format, u32 size, const u64 *arguments, u32 count)
+   NUL, or an error. */
+SHARED long formatted(struct text *t, const u8 *format, u32 size, const u64 *arguments, u32 count)
 {
 	struct conversion c;
 	u32 taken = 0, place = 0;
@@ -165,9 +165,9 @@ static __attribute__((noinline)) long formatted(struct text *t, const u8 *format
 }
 
 /* Sends a text out: it is written into a record that has just the room that there is, and then has its length. */
-INLINE long send_text(const u8 *format, u32 size, const u64 *arguments, u32 count)
+INLINE long send_text(u16 kind, const u8 *format, u32 size, const u64 *arguments, u32 count)
 {
-	struct bpfdb_record *record = new_record(BPFDB_NO_MAP, BPFDB_TO_TRACE, LONGEST_TEXT);
+	struct bpfdb_record *record = new_record(BPFDB_NO_MAP, kind, LONGEST_TEXT);
 	struct text t = { record ? record->data : NULL, record ? LONGEST_TEXT - 1 : 0, 0 };
 	long length = formatted(&t, format, size, arguments, count);
 	u32 kept = t.length < t.room ? t.length : t.room;
@@ -188,14 +188,44 @@ HELPER long bpf_trace_printk(const void *format, u32 size, u64 one, u64 two, u64
 {
 	u64 arguments[3] = { one, two, three };
 
-	return send_text(format, size, arguments, 3);
+	return send_text(BPFDB_TO_TRACE, format, size, arguments, 3);
+}
+
+/* Whether so many bytes are arguments of a text. */
+INLINE int are_arguments(const void *arguments, u32 length)
+{
+	return length % sizeof(u64) == 0 && length / sizeof(u64) <= MOST_ARGUMENTS && (!length || arguments);
 }
 
 HELPER long bpf_trace_vprintk(const void *format, u32 size, const void *arguments, u32 length)
 {
-	if (length % sizeof(u64) || length / sizeof(u64) > MOST_ARGUMENTS || (length && !arguments))
+	if (!are_arguments(arguments, length))
 		return -EINVAL;
-	return send_text(format, size, arguments, length / sizeof(u64));
+	return send_text(BPFDB_TO_TRACE, format, size, arguments, length / sizeof(u64));
+}
+
+/* What an iterator's file has: the output is its buffer. */
+HELPER long bpf_seq_printf(void *file UNUSED, const void *format, u32 size, const void *arguments, u32 length)
+{
+	u32 lost = bpfdb_output.head.lost;
+	long sent;
+
+	if (!are_arguments(arguments, length))
+		return -EINVAL;
+	sent = send_text(BPFDB_TO_FILE, format, size, arguments, length / sizeof(u64));
+	if (sent < 0)
+		return sent;
+	return sent < LONGEST_TEXT && lost == bpfdb_output.head.lost ? 0 : -EOVERFLOW;
+}
+
+HELPER long bpf_seq_write(void *file UNUSED, const void *data, u32 size)
+{
+	struct bpfdb_record *record = new_record(BPFDB_NO_MAP, BPFDB_TO_FILE, size);
+
+	if (!record)
+		return -EOVERFLOW;
+	copy(record->data, data, size);
+	return 0;
 }
 
 HELPER long bpf_snprintf(void *to, u32 room, const void *format, const void *arguments, u32 length)
@@ -204,7 +234,7 @@ HELPER long bpf_snprintf(void *to, u32 room, const void *format, const void *arg
 	u32 size = 0;
 	long ended;
 
-	if (length % sizeof(u64) || length / sizeof(u64) > MOST_ARGUMENTS || (length && !arguments))
+	if (!are_arguments(arguments, length))
 		return -EINVAL;
 	while (((const u8 *)format)[size])
 		size++;

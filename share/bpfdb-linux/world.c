@@ -84,6 +84,17 @@ HELPER u64 bpf_get_numa_node_id(void)
 	return bpfdb_world.node;
 }
 
+/* A variable of each processor is there once, as there is one of them. */
+HELPER void *bpf_this_cpu_ptr(void *variable)
+{
+	return variable;
+}
+
+HELPER void *bpf_per_cpu_ptr(void *variable, u32 cpu)
+{
+	return cpu == bpfdb_world.cpu ? variable : NULL;
+}
+
 HELPER u64 bpf_get_current_task(void)
 {
 	return bpfdb_world.task;
@@ -97,6 +108,45 @@ HELPER u64 bpf_get_current_task_btf(void)
 HELPER u64 bpf_get_current_cgroup_id(void)
 {
 	return bpfdb_world.cgroup;
+}
+
+/* A cgroup's ancestor at a level: the root, whose number is 1, is at level 0, and any other cgroup at level 1. */
+INLINE u64 ancestor_of(u64 cgroup, s32 level)
+{
+	enum { ROOT = 1 };
+
+	if (level == 0)
+		return ROOT;
+	return level == 1 && cgroup != ROOT ? cgroup : 0;
+}
+
+HELPER u64 bpf_get_current_ancestor_cgroup_id(s32 level)
+{
+	return ancestor_of(bpfdb_world.cgroup, level);
+}
+
+/* (The task is in each namespace that it is asked of.) */
+HELPER long bpf_get_ns_current_pid_tgid(u64 device, u64 inode UNUSED, u32 *to, u32 size)
+{
+	enum { TWO_NUMBERS = 8 };
+
+	if (size != TWO_NUMBERS || device >> 32) {
+		clear(to, size);
+		return -EINVAL;
+	}
+	to[0] = bpfdb_world.pid;
+	to[1] = bpfdb_world.tgid;
+	return 0;
+}
+
+/* What the function that is probed returns at once: `ax` of the context's registers. (Where it goes on, `ip`, isn't
+   told.) */
+HELPER long bpf_override_return(void *registers, u64 result)
+{
+	enum { AX = 80 };
+
+	*(any64 *)((u8 *)registers + AX) = result;
+	return 0;
 }
 
 HELPER long bpf_get_retval(void)
@@ -161,6 +211,39 @@ HELPER long bpf_perf_event_read_value(struct map *m, u64 flags, void *to, u32 si
 
 	clear(to, size);
 	return size == COUNTS ? no_event(m, flags) : -EINVAL;
+}
+
+/* (of the event that the program is attached to: one that may not be read there) */
+HELPER long bpf_perf_prog_read_value(void *context UNUSED, void *to, u32 size)
+{
+	enum { COUNTS = 24 };
+
+	clear(to, size);
+	return size == COUNTS ? -EOPNOTSUPP : -EINVAL;
+}
+
+/* No processor records its branches. */
+HELPER long bpf_read_branch_records(void *context UNUSED, void *to UNUSED, u32 size UNUSED, u64 flags)
+{
+	enum { ASKS_SIZE = 1 };
+
+	return flags & ~(u64)ASKS_SIZE ? -EINVAL : -ENOENT;
+}
+
+HELPER long bpf_get_branch_snapshot(void *to UNUSED, u32 size UNUSED, u64 flags)
+{
+	return flags ? -EINVAL : -ENOENT;
+}
+
+/* No file is measured. */
+HELPER long bpf_ima_inode_hash(void *inode UNUSED, void *to UNUSED, u32 size UNUSED)
+{
+	return -EOPNOTSUPP;
+}
+
+HELPER long bpf_ima_file_hash(void *file UNUSED, void *to UNUSED, u32 size UNUSED)
+{
+	return -EOPNOTSUPP;
 }
 
 /* A redirect to an interface. XDP has no flags, tc one; what a program of the other kind gets is of no use to it. */

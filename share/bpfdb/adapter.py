@@ -13,9 +13,10 @@ from bpfdb.foreign import Unfit
 from bpfdb.loading import Loaded, Wanted
 from bpfdb.machine import Machine
 from bpfdb.names import GdbNames, OwnNames, gdb_for
+from bpfdb.options import Refused
 from bpfdb.protocol import Arguments, Broken, Failed, Unreadable
 from bpfdb.running import Runner, Stop
-from bpfdb.session import Ended, Hint, Program, Refused
+from bpfdb.session import Ended, Hint, Program
 from bpfdb.state_requests import THREAD, StateRequests
 from bpfdb.stops import Stops
 from bpfdb.texts import beside, number, text_lines
@@ -38,7 +39,10 @@ class Adapter(BreakpointRequests, WayRequests, StateRequests, CommandRequests):
     """A session of an editor."""
 
     def __init__(self, channel, over=''):
-        self.channel, self.over, self.program, self.ended = channel, over, os.environ.get('BPFDB') or beside('bpfdb'), False
+        self.channel, self.over, self.home, self.ended = channel, over, os.getcwd(), False
+        # (found once, since a launch may go on in another folder)
+        name = os.environ.get('BPFDB') or beside('bpfdb')
+        self.program = os.path.abspath(shutil.which(name)) if shutil.which(name) else name
         self.machine, self.names, self.stops, self.way, self.pause, self.configured = None, None, Stops(), None, False, False
         self.lines_from_1, self.columns_from_1, self.views, self.frames, self.wanted, self.traced = 1, 1, [None], [], None, 0
         self.later, self.entered = [], False
@@ -134,24 +138,25 @@ class Adapter(BreakpointRequests, WayRequests, StateRequests, CommandRequests):
     def do_launch(self, arguments):
         if self.machine:
             raise Failed('a program is launched already: restart starts it anew')
-        self.start(Wanted(arguments, self.over))
+        self.start(Wanted(arguments, self.over, self.home))
         self.later = [lambda: self.event('initialized')]
 
     def start(self, wanted):
         """Starts a program, and goes on to its entry."""
         if not shutil.which(self.program):
             raise Failed(f'cannot find {self.program}; name it by BPFDB')
+        self.go_to(wanted.folder)
         loaded = Loaded(self.program, wanted)
-        gdb, version, said = self.gdb_for(wanted)
-        program = gdb or Program(loaded.line, loaded.kept, loaded.linked_of)
+        gdb, version, said = self.gdb_for(loaded, wanted.over)
+        program = gdb or Program(loaded.subject)
         machine = Machine(program, loaded)
         try:
             if gdb:
-                machine.history.forward(gdb.call('load', wanted.for_gdb()))
+                machine.history.forward(gdb.call('load', loaded.for_gdb))
             machine.ask('')
             machine.read_code()
             if not gdb and loaded.source.has_setup():
-                self.pass_setup(machine)
+                self.go_to_entry(machine)
             machine.history.begin()
             self.obey_script(machine, wanted)
         except (Ended, Hint, Failed, Unfit) as fault:
@@ -160,25 +165,31 @@ class Adapter(BreakpointRequests, WayRequests, StateRequests, CommandRequests):
         self.machine, self.names = machine, GdbNames(machine, gdb, version) if gdb else OwnNames(machine)
         self.views, self.frames = [None], []
         self.wanted, self.traced, self.instructions = wanted, 0, os.path.basename(wanted.file) + ' (instructions)'
-        self.runner = Runner(machine, self.stops, wanted.steps, self.holds, self.tell, self.names.body)
-        lines = '' if loaded.source.lines or not wanted.is_object() else ', without lines: the object has none'
+        self.runner = Runner(machine, self.stops, loaded.limit, self.holds, self.tell, self.names.body)
+        lines = '' if loaded.source.lines or not loaded.subject.is_object else ', without lines: the object has none'
         self.say(f'bpfdb-dap: {os.path.basename(wanted.file)} over {said}{lines}\n')
 
-    def gdb_for(self, wanted):
+    def go_to(self, folder):
+        """Goes to the folder from which on files are named."""
+        try:
+            os.chdir(folder)
+        except OSError as fault:
+            raise Failed(f'cwd: {fault.strerror}: {folder}') from None
+
+    def gdb_for(self, loaded, over):
         """gdb and its version, where it is asked for, or is there and has names to tell; and what is told of it."""
-        if wanted.over == 'bpfdb' or not wanted.over and not wanted.is_object():
+        if over == 'bpfdb' or not over and not loaded.subject.is_object:
             return None, None, 'bpfdb alone'
-        if not wanted.is_object() and not wanted.is_listing:
+        if loaded.has_no_names():
             raise Failed('over gdb: an object or a listing is wanted, which has names')
         gdb, version = gdb_for(self.program)
-        if gdb is None and wanted.over == 'gdb':
+        if gdb is None and over == 'gdb':
             raise Failed('there is no gdb of version 13 or later with Python')
         return gdb, version, f'gdb {version}' if gdb else 'bpfdb alone: there is no gdb of version 13 or later with Python'
 
-    def pass_setup(self, machine):
-        """Goes on from a jump at slot 0, and the setup of data that it may lead to, to the entry."""
-        found = (re.search(r'^ja(?:32)? L(\d+)$', machine.code[slot]) for slot in (0, machine.slots[-1]))
-        entry = next((slot for slot in (int(one[1]) for one in found if one) if slot in machine.loaded.source.lines), None)
+    def go_to_entry(self, machine):
+        """Goes on from what stands before the entry of an object."""
+        entry = machine.loaded.source.entry(machine.code)
         if entry is not None:
             machine.demand(f'break {entry}')
             machine.ask('continue')
@@ -214,7 +225,7 @@ class Adapter(BreakpointRequests, WayRequests, StateRequests, CommandRequests):
 
     def do_restart(self, arguments):
         again = arguments.part('arguments')
-        wanted = Wanted(again, self.over) if again.has('program') else self.wanted
+        wanted = Wanted(again, self.over, self.home) if again.has('program') else self.wanted
         old = self.machine
         self.end_way()
         self.start(wanted)

@@ -6,7 +6,6 @@ of bpfdb are lines of its script, as gdb's 'monitor' does; docs/COMMANDS.md has 
 import gdb
 import gdb.disassembler
 import gdb.unwinder
-import json
 import os
 import re
 import shlex
@@ -16,8 +15,10 @@ import subprocess
 import tempfile
 
 from bpfdb.foreign import Unfit, command, for_shell, is_name, script
+from bpfdb.options import CommandLine, Refused
 from bpfdb.places import slots_of_line
-from bpfdb.session import WITH_VALUE, Hint, is_unknown, unexpected
+from bpfdb.session import Hint
+from bpfdb.subjects import Told
 from bpfdb.texts import plain, plain_lines
 
 # Where pc, and r0 to r10, stand among the registers of the machine that gdb takes this one for.
@@ -39,7 +40,7 @@ SLOT = 8
 BEFORE_ENTRY = re.compile(r"<_(start|setup)[+>]")
 WIDE_LOAD = b"\x18"
 # The token of the first map, the address of its values, and how far apart maps lie.
-FIRST_TOKEN, FIRST_MAP, MAP_STRIDE, MOST_MAPS = 0x400000000, 0x300000000, 0x100000, 16
+FIRST_TOKEN, FIRST_MAP, MAP_STRIDE = 0x400000000, 0x300000000, 0x100000
 # Kinds of watches that stop at reads; and how the header of an object for BPF tells its kind and machine.
 READ_WATCHES = (gdb.BP_READ_WATCHPOINT, gdb.BP_ACCESS_WATCHPOINT)
 OBJECT_FOR_BPF = b"\x01\x00\xf7\x00"
@@ -513,7 +514,7 @@ class Map(Asker):
         shapes = shapes_of(connection().details or "") if is_connected() else []
         if not 0 <= number < len(shapes):
             raise gdb.GdbError("%s is no map of the program that runs" % name)
-        size, count = (int(part) for part in shapes[number].split("x"))
+        size, count = shapes[number]
         kind = value_type(name, size)
         place, most = FIRST_MAP + MAP_STRIDE * number, count - 1
         if index:
@@ -528,19 +529,12 @@ class Map(Asker):
 
 
 def shapes_of(details):
-    """The shapes of the maps of the program that a command starts: those of its --maps, or of its object."""
-    given = re.search(r"--maps[ =](\S+)", details)
-    if given:
-        return given.group(1).split(",")
+    """The shapes of the maps of the program that a command starts."""
     words = shlex.split(details.lstrip("|"))
     if "gdb" not in words:
         return []
-    words = words[words.index("gdb") + 1:]
-    for name in ("-m", "--mem", "--journal", "--steps", "--registers"):
-        _, words = all_taken(words, name)
-    told = called("bpfdb", ["load", "--json", *words]).stdout.decode(errors="replace").splitlines()
-    rows = [json.loads(line) for line in told]
-    return [f"{row['value']}x{row['entries']}" for row in rows if row["kind"] == "map"]
+    line = CommandLine(found("bpfdb"), ["gdb"], words[words.index("gdb") + 1:])
+    return Told(called("bpfdb", ["load", "--json", *line.of("load"), "--", line.file or ""]).stdout.decode(errors="replace")).shapes()
 
 
 def value_type(name, size):
@@ -562,9 +556,8 @@ def value_type(name, size):
 
 
 class Load(Asker):
-    """bpf-load FILE [OPTIONS]: links an object of clang, or assembles a listing, loads its symbols, and starts it in bpfdb. OPTIONS are those of
-    'bpfdb gdb', and --section NAME, --entry NAME, --entries NAME=N, --stub NUMBER=VALUE and --as-compiled. Without words it starts the same program
-    again. Breakpoints stay."""
+    """bpf-load FILE [OPTIONS]: loads the symbols of an object of clang or of a listing, and starts it in bpfdb. OPTIONS are those of 'bpfdb gdb'.
+    Without words it starts the same program again. Breakpoints stay."""
 
     def __init__(self):
         super().__init__("bpf-load", gdb.COMMAND_RUNNING, gdb.COMPLETE_FILENAME)
@@ -581,17 +574,21 @@ class Load(Asker):
         """Starts the program of these words."""
         # (what can't be part of a command is refused before a program that runs is killed)
         command(*words)
-        refuse_unknown(words[1:])
+        line = CommandLine(found("bpfdb"), ["gdb"], words)
+        try:
+            line.check()
+        except Refused as refusal:
+            raise gdb.GdbError(plain_lines(refusal.said.rstrip()))
+        if line.file is None:
+            raise gdb.GdbError("bpf-load FILE [OPTIONS]")
         inferior = gdb.selected_inferior()
         if inferior.pid and not is_connected():
             raise gdb.GdbError("gdb runs another program: kill it first")
         if not self.folder:
             self.folder = tempfile.TemporaryDirectory(prefix="bpfdb-")
         # (a folder for each time, since gdb takes a file of the same name and second for the one that it knows)
-        base = os.path.join(tempfile.mkdtemp(dir=self.folder.name), os.path.splitext(os.path.basename(words[0]))[0])
-        load = load_object if is_object(words[0]) else load_listing
-        # (bpfdb is told by load what kind of file it is)
-        options = load(words[0], [word for word in words[1:] if word not in ("--object", "--listing")], base)
+        base = os.path.join(tempfile.mkdtemp(dir=self.folder.name), os.path.splitext(os.path.basename(line.file))[0])
+        options = (load_object if is_object(line.file) else load_listing)(line, base)
         # (without a packet bpfdb ends at once, or says what it refuses)
         called("bpfdb", ["gdb", *options])
         if inferior.pid:
@@ -599,7 +596,9 @@ class Load(Asker):
         gdb.execute(command("with confirm off -- file", re.sub(r"([\\\s'\"])", r"\\\1", base + ".sym")), to_string=True)
         self.words = words
         quietly = "with suppress-cli-notifications on --"
-        gdb.execute(command(quietly, "target remote |", for_shell([found("bpfdb"), "gdb", *options])), to_string=True)
+        # (on a busy machine a large object takes longer to link than the 2 seconds that gdb waits)
+        patiently = "with remotetimeout 60 --"
+        gdb.execute(command(quietly, patiently, "target remote |", for_shell([found("bpfdb"), "gdb", *options])), to_string=True)
         entry = entry_of(base + ".sym")
         if entry:
             # (before it lie a jump and, it may be, a setup of data)
@@ -650,69 +649,35 @@ def entry_of(file):
         return int.from_bytes(opened.read(32)[24:], "little")
 
 
-def load_object(file, options, base):
-    """Makes the symbols of an object. Answers the options with which bpfdb starts it, FILE behind them: the object as it is now, whose names it knows
-    then; or its words, where maps are given."""
-    linking, options = for_link(options)
-    program = called("bpfdb", ["link", *linking, file])
-    machine_words, _ = taken(options, "--registers")
-    os.environ.setdefault("BPFDB", found("bpfdb"))
-    symbols = called("bpfdb-symbols", [*linking, *machine_words, file, base + ".sym"])
-    gdb.write(plain_lines(symbols.stderr.decode(errors="replace")), gdb.STDERR)
-    if taken(options, "--maps")[0]:
+def load_object(line, base):
+    """Makes the symbols of an object. Answers the words with which bpfdb starts it: as it is now, since it may be compiled anew; or its own words, where
+    --maps tells its maps, since bpfdb takes these of words alone, and an object may lack the sizes of its maps."""
+    linking = [*line.of("link"), "--", line.file]
+    if line.has("--maps"):
         with open(base + ".bin", "wb") as output:
-            output.write(program.stdout)
-        return [*options, base + ".bin"]
-    shutil.copyfile(file, base + ".o")
-    return [*options, "--object", *linking, base + ".o"]
+            output.write(called("bpfdb", ["link", *linking]).stdout)
+    else:
+        # (what is no object, or can't be linked, is refused before anything else)
+        called("bpfdb", ["load", *line.of("load"), "--", line.file])
+        shutil.copyfile(line.file, base + ".o")
+    make_symbols(line, linking, base)
+    if line.has("--maps"):
+        return [*line.of("gdb", without={"--object", *line.taken("link")}), "--", base + ".bin"]
+    return [*line.of("gdb"), "--", base + ".o"]
 
 
-def load_listing(file, options, base):
-    """Makes the symbols of a listing. Answers the options with which bpfdb starts it, FILE behind them."""
-    machine_words, _ = taken(options, "--registers")
+def load_listing(line, base):
+    """Makes the symbols of a listing. Answers the words with which bpfdb starts it."""
+    make_symbols(line, ["--listing", "--", line.file], base)
+    return [*line.of("gdb", without=("--listing",)), "--listing", "--", line.file]
+
+
+def make_symbols(line, words, base):
+    """Lets bpfdb-symbols make the symbols of a file, for the machine that gdb takes bpfdb for."""
     os.environ.setdefault("BPFDB", found("bpfdb"))
-    called("bpfdb-symbols", ["--listing", *machine_words, file, base + ".sym"])
-    return [*options, "--listing", file]
-
-
-def refuse_unknown(words):
-    """Refuses the first word that is neither an option nor the value of one."""
-    rest = iter(words)
-    for word in rest:
-        if word in (*WITH_VALUE, "--registers"):
-            next(rest, None)
-        elif not word.startswith("-") or is_unknown(word) and not word.startswith("--registers="):
-            raise gdb.GdbError(unexpected(word))
-
-
-def for_link(words):
-    """The words that tell how an object is linked, and the others."""
-    linking = [word for word in words if word == "--as-compiled"]
-    others = [word for word in words if word != "--as-compiled"]
-    for name in ("--section", "--entry", "--entries", "--stub", "--packet"):
-        own, others = all_taken(others, name)
-        linking += own
-    return linking, others
-
-
-def taken(words, option):
-    """The words of an option, and the other words."""
-    for at, word in enumerate(words):
-        if word == option:
-            return words[at:at + 2], words[:at] + words[at + 2:]
-        if word.startswith(option + "="):
-            return [word], words[:at] + words[at + 1:]
-    return [], words
-
-
-def all_taken(words, option):
-    """The words of an option that may come several times, and the other words."""
-    every = []
-    while True:
-        own, words = taken(words, option)
-        if not own:
-            return every, words
-        every += own
+    machine = line.value("--registers")
+    told = called("bpfdb-symbols", [*(["--registers=" + machine] if machine else []), *words, base + ".sym"])
+    gdb.write(plain_lines(told.stderr.decode(errors="replace")), gdb.STDERR)
 
 
 def found(name):

@@ -1,21 +1,21 @@
 """What `bpfdb-events` does: runs a program, and prints what it sent out, as share/bpfdb-linux.h lays that out in a map."""
 
 import os
-import re
 import shutil
 import struct
 import sys
 
 from bpfdb.machine import MAP_STRIDE, MAPS, MOST_BYTES
-from bpfdb import session
-from bpfdb.session import MOVE, Ended, Program, has, linked, maps_of, split_words, with_readable
-from bpfdb.texts import Refused, beside, path_of, plain, readable, start_of, warn
+from bpfdb import options
+from bpfdb.options import CommandLine
+from bpfdb.session import MOVE, Ended, Program
+from bpfdb.subjects import Subject
+from bpfdb.texts import Refused, beside, plain, warn
 
-USAGE = """usage: bpfdb-events [-m PATH] --maps VxN,VxN [--steps N] FILE
-       bpfdb-events [-m PATH] [--steps N] [LINKING] OBJECT
-Runs a program that 'bpfdb link --with bpfdb-linux.o' wrote to FILE, or, with
---joined, to OBJECT, and prints what it sent to perf buffers, to ring buffers
-and to the trace, a line a record. The options are those of 'bpfdb run'.
+USAGE = """usage: bpfdb-events [OPTIONS OF bpfdb debug] FILE
+Runs a program that has the helpers of Linux, as an object has by
+'--with bpfdb-linux.o', and prints what it sent to perf buffers, ring buffers,
+the trace and elsewhere, a line a record.
 
   -h, --help  writes this
 
@@ -25,8 +25,11 @@ steps. docs/LINUX.md has the rest."""
 HEAD, MARK = struct.Struct('<QII'), 0x74756f6264667062
 # What a record begins with: the bytes of its data, the number of its map, its kind, its state, and a processor.
 RECORD, ALIGNMENT = struct.Struct('<IIHHI'), 8
-TO_PERF, TO_RING, TO_TRACE = 1, 2, 3
-SIZES = re.compile(r'(\d{1,9})x(\d{1,9})')
+TO_PERF, TO_RING = 1, 2
+# What is a text, and what has a name and no map.
+TEXTS = {3: 'trace', 4: 'file'}
+NAMES = {6: 'key', 7: 'key again', 8: 'pointer', 9: 'signal'}
+PACKET = 5
 STATES = {0: '', 1: ', neither submitted nor discarded', 2: ', discarded'}
 
 
@@ -65,22 +68,14 @@ def records_in(content):
 def line_of(number, kind, state, index, address, data):
     """A record as it is printed."""
     size = f'1 byte at {address:#x}' if len(data) == 1 else f'{len(data)} bytes at {address:#x}'
-    if kind == TO_TRACE:
+    if kind in TEXTS:
         # (a text's own end of line is none of the record's)
         text = data.removesuffix(b'\n').decode(errors='surrogateescape')
-        return f'trace, {size}: {plain(text)}'
+        return f'{TEXTS[kind]}, {size}: {plain(text)}'
+    if kind in NAMES or kind == PACKET:
+        return f'{NAMES.get(kind, f"packet to interface {index}")}, {size}: {data.hex()}'
     name = {TO_PERF: f'perf of processor {index}', TO_RING: 'ring'}.get(kind, f'kind {kind}')
     return f'map {number}: {name}, {size}{STATES.get(state, "")}: {data.hex()}'
-
-
-def sizes_of_maps(words):
-    """The bytes of each map that the option for them has. (What is no list of maps is refused by bpfdb.)"""
-    for place, word in enumerate(words):
-        name, sign, value = word.partition('=')
-        if name == '--maps':
-            text = value if sign else ''.join(words[place + 1:place + 2])
-            return [int(size) * int(entries) for size, entries in SIZES.findall(text)]
-    raise Refused('--maps is wanted, as link told it: what was sent lies in a map')
 
 
 def bpfdb():
@@ -100,20 +95,16 @@ def main(words):
     if any(word in ('-h', '--help') for word in words):
         print(USAGE)
         return True
-    options, file, link = split_words(words)
-    if file is None:
-        raise Refused("'bpfdb-events --maps VxN,VxN FILE' or 'bpfdb-events OBJECT' is wanted; bpfdb-events --help tells more")
-    path, kept, link = bpfdb(), [], [word for option in link for word in option]
-    options, file = with_readable(options, kept), readable(file, kept)
-    is_object = start_of(file, 4) == b'\x7fELF'
-    if is_object:
-        content, said = linked(path, file, link, kept)
-        # (--object says what is known already)
-        options = [word for word in options if word != '--object'] + ([] if has(options, '--maps') else maps_of(said)[0])
-        file, link, kept = path_of(content), [], [*kept, content]
+    line = CommandLine(bpfdb(), ['debug'], words)
+    line.check()
+    if line.file is None:
+        raise Refused("'bpfdb-events FILE' is wanted; bpfdb-events --help tells more")
+    subject = Subject(line)
     # (an object without maps is a program that sends nothing)
-    sizes = sizes_of_maps(options) if has(options, '--maps') or not is_object else []
-    program = Program([path, 'debug', *options, *link, '--', file], kept)
+    if not subject.is_object and not line.has('--maps'):
+        raise Refused('--maps is wanted, as link told it: what was sent lies in a map')
+    sizes = [size * entries for size, entries in subject.told.shapes()]
+    program = Program(subject)
     try:
         move = MOVE.match(program.ask('continue')[0])
         base, content, lost = output_of(program, sizes)
@@ -138,7 +129,7 @@ def end_with_status():
     try:
         status = 0 if main(sys.argv[1:]) else 1
         sys.stdout.flush()
-    except (Refused, session.Refused) as refusal:
+    except (Refused, options.Refused) as refusal:
         warn(f"bpfdb-events: {str(refusal).rstrip()}")
         status = 2
     except OSError as fault:

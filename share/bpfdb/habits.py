@@ -62,9 +62,7 @@ Q15 | There was no memory to keep the command's first move; it wasn't made. 'bpf
 # docs/tables.sh: end
 
 USAGE = """usage: bpfdb-shell [[OPTIONS OF bpfdb debug] FILE]
-FILE holds raw words, or is an object of clang (then --section, --entry,
---entries, --stub, --as-compiled, --packet and --with go to `bpfdb link`), or a
-listing (--listing, or a name that ends in .s)."""
+FILE is an object of clang, a listing, or raw words, as for `bpfdb debug`."""
 
 HELP_END = """gdb's habits work: info registers, i b, p $r0, set $r0 = 7, x/8xb $r10-8,
 x/4i $pc, x/s $r1, b LABEL, info line. 'origin r0' shows where a value came

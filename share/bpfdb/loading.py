@@ -1,105 +1,95 @@
-"""A program as an editor names it: an object of clang, a listing or words, with the options of `bpfdb run`."""
+"""A program as an editor names it: an object of clang, a listing or words, with the options of bpfdb."""
 
 import difflib
 import os
 import re
 
-from bpfdb.places import Listing, Object, Source
-from bpfdb.protocol import NOTHING, Failed
-from bpfdb.session import linked, maps_of, words_of_object
-from bpfdb.texts import ran, start_of
+from bpfdb.options import CommandLine
+from bpfdb.places import source_of
+from bpfdb.protocol import Failed
+from bpfdb.subjects import Subject
 
-# The journal of a session that names none, in bytes; and the steps of a forward command, as bpfdb has them.
-JOURNAL, STEPS = 4194304, 1000000
-SHAPES = re.compile(r'[0-9]{1,9}x[0-9]{1,9}(,[0-9]{1,9}x[0-9]{1,9})*')
+# What a session has that gives no value: the bytes of its journal, and the steps of a forward command.
+DEFAULTS = {'--journal': '4194304', '--steps': '1000000'}
 # Words of a launch that are the editors' own, besides those that begin with two underscores: of all of them, of VS Code, of dap-mode and of Kate.
 OF_EDITORS = {'type', 'request', 'name', 'console', 'presentation', 'preLaunchTask', 'postDebugTask', 'internalConsoleOptions', 'serverReadyAction',
               'suppressMultipleSessionWarning', 'windows', 'osx', 'linux', 'adapter', 'debugServer', 'debugPort', 'host', 'hostName', 'command'}
+# A word of a launch that may be the name of an option.
+WORD = re.compile(r'[A-Za-z][A-Za-z0-9-]*')
 
 
 class Wanted:
-    """What `launch` asks for."""
+    """What `launch` asks for: what the adapter itself does, and words for bpfdb."""
 
-    def __init__(self, arguments, over):
-        self.folder = arguments.text('cwd', '') or '.'
+    def __init__(self, arguments, over, home):
+        self.folder = os.path.normpath(os.path.join(home, os.path.expanduser(arguments.text('cwd', ''))))
+        self.is_placed = arguments.has('cwd')
         self.file = self.path(arguments.text('program'))
-        self.context = self.path(arguments.text('context', ''))
         self.script = self.path(arguments.text('script', ''))
-        self.maps = arguments.text('maps', '')
-        self.section = arguments.text('section', '')
-        self.entry = arguments.text('entry', '')
-        self.stub = arguments.text('stub', '')
-        self.as_compiled = arguments.flag('asCompiled')
-        self.is_listing = arguments.flag('listing') or self.file.endswith('.s')
-        self.steps = arguments.number('steps', NOTHING)
-        self.journal = arguments.number('journal', JOURNAL)
         # (an editor's way to run without debugging)
         self.is_run = arguments.flag('noDebug')
         self.stops_on_entry = arguments.flag('stopOnEntry', True) and not self.is_run
         self.over = arguments.text('over', over or '')
         if self.over not in ('', 'gdb', 'bpfdb'):
             raise Failed('over: gdb or bpfdb is wanted')
-        refuse_others(arguments)
+        context = self.path(arguments.text('context', ''))
+        self.words = ([f'--mem={context}'] if context else []) + arguments.texts('args')
+        self.own = set(arguments.asked)
+        others = [name for name in arguments.others() if not name.startswith('__') and name not in OF_EDITORS]
+        self.others = {name: option_of(name, arguments) for name in others}
+        self.words += [word for words in self.others.values() for word in words]
 
     def path(self, name):
         """A path, from the folder that `cwd` names on."""
-        return os.path.normpath(os.path.join(self.folder, os.path.expanduser(name))) if name else ''
+        if not name:
+            return ''
+        return os.path.normpath(os.path.join(self.folder if self.is_placed else '', os.path.expanduser(name)))
 
-    def is_object(self):
-        return start_of(self.file, 4) == b'\x7fELF'
-
-    def for_link(self):
-        """The options of `bpfdb link`."""
-        chosen = [f'--{name}={value}' for name, value in (('section', self.section), ('entry', self.entry), ('stub', self.stub)) if value]
-        return chosen + ['--as-compiled'] * self.as_compiled
-
-    def for_debug(self):
-        """The options of `bpfdb debug`."""
-        words = [f'--journal={self.journal}', f'--steps={STEPS if self.steps is None else self.steps}']
-        return words + ([f'--mem={self.context}'] if self.context else []) + ([f'--maps={self.maps}'] if self.maps else [])
-
-    def for_gdb(self):
-        """The words of `bpf-load` in gdb."""
-        return [self.file, *(self.for_link() if self.is_object() else []), *self.for_debug()]
+    def line(self, program):
+        """The words as a command line of bpfdb's, with what it has where none is given."""
+        line = CommandLine(program, ['debug'], self.words, file=self.file)
+        for name, words in self.others.items():
+            is_none = line.asks('debug', named(name)) is None
+            near = difflib.get_close_matches(name[:80], self.own, 1) if is_none else []
+            if near or is_none and not words:
+                raise Failed(f'launch takes no {name[:80]}' + (f': is {near[0]} meant?' if near else ''))
+        self.limit = line.value('--steps')
+        line.options += [(name, value, [f'{name}={value}']) for name, value in DEFAULTS.items() if not line.has(name)]
+        return line
 
 
-def refuse_others(arguments):
-    """Refuses a word that means nothing here, and names the one that is most like it, or all that there are."""
-    for name in arguments.others():
-        if not name.startswith('__') and name not in OF_EDITORS:
-            near = difflib.get_close_matches(name[:80], arguments.asked, 1)
-            raise Failed(f'launch takes no {name[:80]}: ' + (f'is {near[0]} meant?' if near else f"it takes {', '.join(sorted(arguments.asked))}"))
+def named(name):
+    """The option that a word of a launch names: of noLinux it is --no-linux."""
+    return '--' + re.sub('[A-Z]', lambda found: f'-{found[0].lower()}', name)
+
+
+def option_of(name, arguments):
+    """A word of a launch as the option of that name; of a list once for each part."""
+    if not WORD.fullmatch(name):
+        raise Failed(f'launch takes no {name[:80]}')
+    return [named(name) if value is True else f'{named(name)}={value}' for value in arguments.values_of(name) if value is not False and value != '']
 
 
 class Loaded:
-    """A program that is ready to start: the words for it, those for the object that was linked, files that are kept open for it, its places, and the
-    shapes of its maps."""
+    """A program that is ready to start: its command line, its places, its maps, and the most steps of a way forwards (None if there is no limit)."""
 
     def __init__(self, program, wanted):
-        self.wanted, self.kept, self.source, path = wanted, [], Source(), wanted.file
-        self.linked_of = []
-        words, shapes, names = wanted.for_debug(), wanted.maps, {}
-        if wanted.is_object():
-            link = wanted.for_link()
-            content, said = linked(program, wanted.file, link)
-            option, names = maps_of(said)
-            self.kept, path = [content], f'/dev/fd/{content.fileno()}'
-            if not shapes:
-                self.linked_of = words_of_object(wanted.file, link, self.kept)
-            if option and not shapes:
-                words, shapes = words + option, option[1]
-            self.source = Object(program, wanted.file, link, os.fstat(content.fileno()).st_size)
-        elif wanted.is_listing:
-            words.append('--listing')
-            self.source = Listing(wanted.file, ran([program, 'lines', '--', wanted.file])[0])
-        self.line = [program, 'debug', *words, '--', path]
-        # (a list that bpfdb refuses never comes to use)
-        self.maps = [tuple(int(part) for part in shape.split('x')) for shape in shapes.split(',')] if SHAPES.fullmatch(shapes) else []
+        line = wanted.line(program)
+        self.limit = int(wanted.limit) if re.fullmatch('[0-9]{1,10}', wanted.limit or '') else None
+        self.for_gdb = [*line.of('gdb'), '--', wanted.file]
+        self.subject = Subject(line)
+        self.source = source_of(self.subject, self.subject.told.lines)
+        names, self.maps = self.subject.told.names(), self.subject.told.shapes()
         self.map_names = [names.get(at, f'map {at}') for at in range(len(self.maps))]
-        self.context_size = self.size_of_context()
+        self.context_size = self.size_of(line.value('-m', '--mem'))
 
-    def size_of_context(self):
+    def has_no_names(self):
+        """Whether bpfdb takes the program for raw words."""
+        return self.subject.told.slots > 0 and not self.subject.told.lines
+
+    @staticmethod
+    def size_of(context):
         try:
-            return os.path.getsize(self.wanted.context) if self.wanted.context else 0
+            return os.path.getsize(context) if context else 0
         except OSError:
             return 0

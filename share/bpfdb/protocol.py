@@ -110,6 +110,18 @@ def is_whole(value):
     return isinstance(value, int) and not isinstance(value, bool)
 
 
+def is_value(value):
+    """Whether a value may be that of an option."""
+    return isinstance(value, (str, bool)) or is_whole(value)
+
+
+def whole(text, name):
+    """A text that can be given to a program."""
+    if BROKEN.search(text):
+        raise Failed(f'{name}: a text without a byte zero and half characters is wanted')
+    return text
+
+
 class Arguments:
     """The arguments of a request, each asked for by its name and kind. What is missing or of another kind is refused by name."""
 
@@ -140,13 +152,23 @@ class Arguments:
         return self.take(name, default, lambda value: is_whole(value) and abs(value) < 1 << 64, 'a whole number')
 
     def text(self, name, default=None):
-        text = self.take(name, default, lambda value: isinstance(value, str), 'a text')
-        if BROKEN.search(text):
-            raise Failed(f'{name}: a text without a byte zero and half characters is wanted')
-        return text
+        return whole(self.take(name, default, lambda value: isinstance(value, str), 'a text'), name)
 
     def flag(self, name, default=False):
         return self.take(name, default, lambda value: isinstance(value, bool), 'true or false')
+
+    def texts(self, name):
+        """A list of texts; none if it is left out."""
+        texts = self.take(name, [], lambda value: isinstance(value, list) and all(isinstance(one, str) for one in value), 'a list of texts')
+        return [whole(text, name) for text in texts]
+
+    def values_of(self, name):
+        """What a word gives to an option, once or several times: texts, whole numbers, true and false; nothing if it is left out."""
+        given = self.values.get(name)
+        self.take(name, NOTHING, lambda value: all(map(is_value, value if isinstance(value, list) else [value])),
+                  'a text, a whole number, true, false or a list of these')
+        values = given if isinstance(given, list) else [] if given is None else [given]
+        return [whole(value, name) if isinstance(value, str) else value for value in values]
 
     def items(self, name):
         """A list of objects, each as arguments; none if it is left out."""

@@ -11,10 +11,12 @@ from bpfdb.habits import (HABITS, HELP_END, HINTS, INFO_HELP, INFOS, NO_COMMAND,
 from bpfdb.halts import Halts
 from bpfdb.listings import Listings
 from bpfdb.meanings import Meanings
-from bpfdb.places import Listing, Object, Source
+from bpfdb.options import CommandLine, Refused
+from bpfdb.places import source_of
 from bpfdb.prompt import Prompt, edit_lines, uncommented
-from bpfdb.session import MOVE, PLACE, Ended, Hint, Program, Refused, has, linked, maps_of, split_words, with_readable, words_of_object
-from bpfdb.texts import LONGEST_LINE, beside, is_text, path_of, plain, ran, readable, start_of, text_lines, warn
+from bpfdb.session import MOVE, PLACE, Ended, Hint, Program
+from bpfdb.subjects import Subject, Told
+from bpfdb.texts import LONGEST_LINE, beside, is_text, plain, text_lines, warn
 from bpfdb.values import Values
 from bpfdb.ways import Ways
 
@@ -200,46 +202,29 @@ class Shell(Prompt, Meanings, Values, Listings, Halts, Ways):
 
 def opened(program, given):
     """The session of a command line."""
-    debug, file, options = split_words(given)
-    link, kept = [word for option in options for word in option], []
-    debug, path = with_readable(debug, kept), file and readable(file, kept)
-    source, linked_of = Source(), []
-    if file and '--words' not in debug and start_of(path, 4) == b'\x7fELF':
-        content, said = linked(program, path, link, kept)
-        # (--object says what is known already)
-        debug = [word for word in debug if word != '--object']
-        maps, names = maps_of(said)
-        if not has(debug, '--maps'):
-            debug += maps
-            linked_of = words_of_object(path, link, kept)
-        if sys.stdin.isatty():
-            warn(f"> bpfdb link {' '.join([*link, file])}\n{said}", '')
-        source = Object(program, path, link, os.fstat(content.fileno()).st_size, kept)
-        source.maps = {name: number for number, name in names.items()}
-        kept, path = [*kept, content], path_of(content)
-    else:
-        debug = debug + link
-        if file and file.endswith('.s') and os.path.isfile(file) and not has(debug, '--listing') and not has(debug, '--words'):
-            debug = debug + ['--listing']
-        if '--listing' in debug and file and os.path.isfile(path):
-            source = Listing(path, ran([program, 'lines', '--', path], kept)[0])
-    line = [program] + (['debug', *debug] if given else []) + (['--', path] if file else [])
-    return Shell(Program(line, kept, linked_of), source, not given)
+    subject = Subject(CommandLine(program, ['debug'], given))
+    source = source_of(subject, subject.told.lines)
+    if subject.is_object and sys.stdin.isatty():
+        for row in subject.told.maps:
+            warn(f"map {row['map']}: {row['value']}x{row['entries']} at {row['address']} {row.get('name', '')}".rstrip())
+    return Shell(Program(subject), source, not given)
 
 
-def explain(errors, source, given):
+def explain(errors, subject):
     """Says at a terminal what a refusal of the program means: the line of its slot, what FILE looks like, that its maps are wanting."""
     refused = re.match(r'refused C(\d+)(?: at slot (\d+))?', errors)
     if not refused:
         return
-    slot, (debug, file, _) = int(refused[2] or 0), split_words(given)
-    if slot in source.lines:
-        warn(source.line_of(slot))
-    elif file and file.endswith('.c'):
+    slot, words, file = int(refused[2] or 0), subject.words, subject.words.file
+    if file.endswith('.c'):
         warn(f'{plain(file)} looks like C: clang -target bpf -O2 -g -c {plain(file)}')
-    elif file and not source.lines and is_text(file):
+    elif not file.endswith('.s') and not words.has('--listing') and is_text(file):
         warn(f'{plain(file)} looks like a listing: --listing')
-    if refused[1] == '12' and not has(debug, '--maps'):
+    else:
+        source = source_of(subject, Told(subject.answer('lines', '--json').stdout).lines)
+        if slot in source.lines:
+            warn(source.line_of(slot))
+    if refused[1] == '12' and not words.has('--maps'):
         warn('the program has maps: --maps VxN,VxN (bytes of a value, entries); of an object clang -g tells them')
 
 
@@ -277,7 +262,7 @@ def main(given):
         status, errors = 2, f'bpfdb-shell: bpfdb ended with status {status}\n'
     warn(errors, '')
     if shell.terminal:
-        explain(errors, shell.source, given)
+        explain(errors, shell.program.subject)
     if shell.unread:
         warn('cannot read input')
     return 2 if shell.unread else status

@@ -4,7 +4,6 @@ import contextlib
 import os
 import re
 import stat
-import subprocess
 import sys
 
 MASK = (1 << 64) - 1
@@ -110,15 +109,6 @@ def readable(path, kept):
             kept.append(copied(path))
             return path_of(kept[-1])
     return path
-
-
-def ran(line, kept=()):
-    """What a program writes to standard output and to standard error; nothing to the first if it fails or isn't there. It gets these files."""
-    try:
-        done = subprocess.run(line, stdin=subprocess.DEVNULL, capture_output=True, pass_fds=[file.fileno() for file in kept])
-    except OSError:
-        return '', f'cannot find {line[0]}\n'
-    return '' if done.returncode else done.stdout.decode(errors='surrogateescape'), done.stderr.decode(errors='surrogateescape')
 
 
 def is_text(file):

@@ -43,12 +43,9 @@ class Ways:
 
     def start(self, name, rest, form):
         self.rewind()
-        if self.source.has_setup():
-            code = self.instructions()
-            targets = [int(found[1]) for found in (re.search(r'^ja(?:32)? L(\d+)$', code[slot]) for slot in (0, max(code))) if found]
-            entry = next((slot for slot in targets if slot in self.source.lines), None)
-            if entry is not None:
-                self.advance(name, str(entry), form)
+        entry = self.source.entry(self.instructions()) if self.source.has_setup() else None
+        if entry is not None:
+            self.advance(name, str(entry), form)
         if not self.moved:
             self.stand()
 

@@ -37,6 +37,7 @@ _bpfdb() {
     case $before in
     -m | --mem) mapfile -t COMPREPLY < <(compgen -f -- "$word"); return ;;
     --maps) :; return ;;
+    --regs) :; return ;;
     --journal) :; return ;;
     --steps) :; return ;;
     --from) :; return ;;
@@ -47,7 +48,8 @@ _bpfdb() {
     --entries) :; return ;;
     --stub) :; return ;;
     --script) mapfile -t COMPREPLY < <(compgen -f -- "$word"); return ;;
-    --packet) :; return ;;
+    --fields) :; return ;;
+    --struct) :; return ;;
     --with) mapfile -t COMPREPLY < <(compgen -f -- "$word"); return ;;
     --lines) :; return ;;
     --other-mem) mapfile -t COMPREPLY < <(compgen -f -- "$word"); return ;;
@@ -64,23 +66,23 @@ _bpfdb() {
         return
     fi
     case $job in
-    run) words="-m --mem --maps --steps --strict --words --listing --object --section --entry --entries --stub --as-compiled --packet --with --json -h --help" ;;
-    trace) words="-m --mem --maps --steps --from --count --branches --profile --strict --words --listing --object --section --entry --entries --stub --as-compiled --packet --with --json -h --help" ;;
-    debug) words="-m --mem --maps --journal --steps --words --listing --object --section --entry --entries --stub --as-compiled --packet --with -h --help" ;;
-    origin) words="-m --mem --maps --journal --steps --branches --words --listing --object --section --entry --entries --stub --script --as-compiled --packet --with --lines --addresses --json --dot -h --help" ;;
-    whynot) words="-m --mem --maps --journal --steps --words --listing --object --section --entry --entries --stub --script --as-compiled --packet --with --lines --addresses --alone --json -h --help" ;;
-    diff) words="-m --mem --maps --journal --steps --words --listing --object --section --entry --entries --stub --as-compiled --packet --with --lines --addresses --alone --other-mem --trace --writes --json -h --help" ;;
+    run) words="-m --mem --maps --regs --steps --strict --words --listing --object --section --entry --entries --stub --fields --struct --with --no-linux --faithful --json -h --help" ;;
+    trace) words="-m --mem --maps --regs --steps --from --count --branches --profile --strict --words --listing --object --section --entry --entries --stub --fields --struct --with --no-linux --faithful --json -h --help" ;;
+    debug) words="-m --mem --maps --regs --journal --steps --words --listing --object --section --entry --entries --stub --fields --struct --with --no-linux --faithful -h --help" ;;
+    origin) words="-m --mem --maps --regs --journal --steps --branches --words --listing --object --section --entry --entries --stub --script --fields --struct --with --no-linux --faithful --lines --addresses --json --dot -h --help" ;;
+    whynot) words="-m --mem --maps --regs --journal --steps --words --listing --object --section --entry --entries --stub --script --fields --struct --with --no-linux --faithful --lines --addresses --alone --json -h --help" ;;
+    diff) words="-m --mem --maps --regs --journal --steps --words --listing --object --section --entry --entries --stub --fields --struct --with --no-linux --faithful --lines --addresses --alone --other-mem --trace --writes --json -h --help" ;;
     asm) words="-h --help" ;;
-    disasm) words="--maps --words --listing --object --section --entry --entries --stub --as-compiled --packet --with --json -h --help" ;;
-    lines) words="--object --section --entry --entries --stub --as-compiled --packet --with --json -h --help" ;;
-    check) words="--maps --words --listing --object --section --entry --entries --stub --as-compiled --packet --with --json -h --help" ;;
-    load) words="--maps --words --listing --object --section --entry --entries --stub --as-compiled --packet --with --json -h --help" ;;
-    link) words="--section --entry --entries --stub --as-compiled --packet --with --joined -h --help" ;;
-    gdb) words="-m --mem --maps --journal --steps --words --listing --object --registers --section --entry --entries --stub --as-compiled --packet --with -h --help" ;;
+    disasm) words="--maps --words --listing --object --section --entry --entries --stub --fields --struct --with --no-linux --faithful --json -h --help" ;;
+    lines) words="--object --section --entry --entries --stub --fields --struct --with --no-linux --faithful --json -h --help" ;;
+    check) words="--maps --words --listing --object --section --entry --entries --stub --fields --struct --with --no-linux --faithful --json -h --help" ;;
+    load) words="--maps --words --listing --object --section --entry --entries --stub --fields --struct --with --no-linux --faithful --json -h --help" ;;
+    link) words="--section --entry --entries --stub --fields --struct --with --no-linux --faithful --joined -h --help" ;;
+    gdb) words="-m --mem --maps --regs --journal --steps --words --listing --object --registers --section --entry --entries --stub --fields --struct --with --no-linux --faithful -h --help" ;;
     test) words="--only --show --cover --cover-info --anywhere --json -h --help" ;;
     batch) words="--maps --steps -h --help" ;;
-    shell) words="-m --mem --maps --journal --steps --words --listing --object --section --entry --entries --stub --as-compiled --packet --with -h --help" ;;
-    page) words="-m --mem --maps --steps --words --listing --section --entry --entries --stub --as-compiled -o --output --from --count --title --object -h --help" ;;
+    shell) words="-m --mem --maps --regs --journal --steps --words --listing --object --section --entry --entries --stub --fields --struct --with --no-linux --faithful -h --help" ;;
+    page) words="-m --mem --maps --regs --steps --words --listing --object --section --entry --entries --stub --fields --struct --with --no-linux --faithful -o --output --from --count --title -h --help" ;;
     dap) words="--port --over -h --help" ;;
     help) words="run trace debug origin whynot diff asm disasm lines check load link gdb test batch" ;;
     *) return ;;

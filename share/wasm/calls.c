@@ -1,4 +1,4 @@
-// What bpfdb calls of C, where it runs as WebAssembly: memory, files, the words of its command line and the number of the last error. Below it are six functions of the
+// What bpfdb calls of C, where it runs as WebAssembly: memory, files, the words of its command line and the number of the last error. Below it are seven functions of the
 // host (host.mjs), which answer what they did, or an error's number of Linux as a negative one.
 #include "heap.h"
 
@@ -11,6 +11,7 @@ OF_HOST("open") int host_open(const char *path, int flags);
 OF_HOST("close") int host_close(int file);
 OF_HOST("isatty") int host_isatty(int file);
 OF_HOST("word") int host_word(unsigned number, void *to, unsigned room);
+OF_HOST("variable") int host_variable(const void *name, void *to, unsigned room);
 
 // --- The heap's memory: what the linker leaves free, and what the engine still gives.
 enum { PAGE = 65536 };
@@ -104,6 +105,13 @@ integer lseek(int file, integer by, int from) {
     return answer(-not_seekable);
 }
 
+// (bpfdb asks where it lies itself, to find what lies beside it: the host names that)
+integer readlink(const char *path, void *to, number room) {
+    (void)path, (void)to, (void)room;
+    const int no_such_file = 2;
+    return answer(-no_such_file);
+}
+
 int isatty(int file) {
     return host_isatty(file);
 }
@@ -113,12 +121,12 @@ integer rattle_arg(number word, void *to, number room) {
     return word >> 31 ? -1 : host_word((unsigned)word, to, part(room));
 }
 
-// There is no environment.
+// Likewise the variable of this name.
 integer rattle_env(const void *name, void *to, number room) {
-    (void)name, (void)to, (void)room;
-    return -1;
+    return host_variable(name, to, part(room));
 }
 
+// (nobody asks for all of them)
 integer rattle_env_at(number entry, void *to, number room) {
     (void)entry, (void)to, (void)room;
     return -1;

@@ -1,6 +1,7 @@
-// How bpfdb.wasm is run: over a host, which has six methods and knows nothing of the module's memory.
+// How bpfdb.wasm is run: over a host, which has seven methods and knows nothing of the module's memory.
 //
 //   word(number)       the word of the command line, as bytes; the first one is the program's name; undefined where there is none
+//   variable(name)     the value of the environment's variable of this name, as bytes; undefined where there is none. bpfdb asks for BPFDB_LINUX alone
 //   open(path)         opens the file of this name (bytes) for reading, and answers its number
 //   read(file, to)     fills `to` with the next bytes as far as there are any, and answers how many; 0 is the end. A host that waits answers a promise of that
 //   write(file, from)  writes bytes, and answers how many; `from` is the module's memory, which it goes on to use
@@ -45,24 +46,31 @@ export function start(module, host, mostMemory = MOST_MEMORY, waits = false) {
 // What the module calls, by what the host answers. Its addresses are numbers without a sign.
 function functions(memory, host, waits) {
   const bytes = (at, size) => new Uint8Array(memory.buffer, at >>> 0, size >>> 0);
+  // A text of C, without the zero behind it.
+  const text = (at) => {
+    const from = bytes(at, memory.buffer.byteLength - (at >>> 0));
+    return from.slice(0, from.indexOf(0));
+  };
   // (a read of no bytes asks whether there is a file, and waits for nothing)
   const read = (file, at, size) => (size ? host.read(file, bytes(at, size)) : 0);
   return {
     read: waits ? new WebAssembly.Suspending(read) : read,
     write: (file, at, size) => host.write(file, bytes(at, size)),
     open(at, flags) {
-      const writes = flags & 3, path = bytes(at, memory.buffer.byteLength - (at >>> 0));
-      return writes ? -ERRORS.EROFS : host.open(path.slice(0, path.indexOf(0)));
+      return flags & 3 ? -ERRORS.EROFS : host.open(text(at));
     },
     close: (file) => host.close(file),
     isatty: (file) => (host.isTerminal(file) ? 1 : 0),
-    word(number, at, room) {
-      const word = host.word(number >>> 0);
-      if (!word) return -1;
-      bytes(at, room).set(word.subarray(0, room >>> 0));
-      return word.length > room >>> 0 ? -2 : word.length;
-    },
+    word: (number, at, room) => copied(host.word(number >>> 0), bytes(at, room)),
+    variable: (at, to, room) => copied(host.variable(new TextDecoder().decode(text(at))), bytes(to, room)),
   };
+}
+
+// How many bytes a value has, which are put where there is room for them; -1 where there is no value, -2 where it has more.
+function copied(value, room) {
+  if (!value) return -1;
+  room.set(value.subarray(0, room.length));
+  return value.length > room.length ? -2 : value.length;
 }
 
 const asBytes = (value) => (typeof value === "string" ? new TextEncoder().encode(value) : value);
@@ -79,6 +87,11 @@ export class MemoryHost {
 
   word(number) {
     return this.words[number];
+  }
+
+  // Linux's library is the file of its name, where there is one.
+  variable(name) {
+    return name === "BPFDB_LINUX" && this.files.has("bpfdb-linux.o") ? asBytes("bpfdb-linux.o") : undefined;
   }
 
   open(path) {

@@ -81,6 +81,13 @@ class NodeHost {
     return this.words[number];
   }
 
+  // Linux's library is the one that the environment names, or the one beside this file.
+  variable(name) {
+    const beside = fileURLToPath(new URL("bpfdb-linux.o", import.meta.url));
+    const value = process.env[name] ?? (name === "BPFDB_LINUX" && fs.existsSync(beside) ? beside : undefined);
+    return value === undefined ? undefined : Buffer.from(value);
+  }
+
   open(path) {
     return tried(() => fs.openSync(Buffer.from(path), "r"));
   }
