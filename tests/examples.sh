@@ -52,8 +52,8 @@ replies() {
 round() {
     maps=$(sed -n 's/.*--maps \([^ ]*\).*/--maps \1/p' arguments)
     case $(cat arguments) in
-    *--listing*) "$BPFDB" asm program.s > "$work/bytes" || fault "examples/$1/program.s doesn't assemble" ;;
-    *) cp program.bin "$work/bytes" ;;
+    *program.s) "$BPFDB" asm program.s > "$work/bytes" || fault "examples/$1/program.s doesn't assemble" ;;
+    *) cp program.bin "$work/bytes" || fault "examples/$1 has no program.bin" ;;
     esac
     # shellcheck disable=SC2086
     "$BPFDB" disasm $maps "$work/bytes" > "$work/listing" || fault "examples/$1 doesn't disassemble"

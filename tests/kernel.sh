@@ -4,7 +4,8 @@
 # starts in qemu without hardware of its own, in a few minutes. Each difference is a line; what is lacking is told in one, and the status is 0.
 #
 # In the kernel tests/kernel/runner.c runs programs by BPF_PROG_TEST_RUN: the tests of tests/program/linux/*.c, whose result is 0 (of bpfdb the part `linux` of
-# tests/program.sh tries them); the random calls of model.py; and programs for XDP and tc on packets, whose results, packets and maps become tests of bpfdb.
+# tests/program.sh tries them); the random calls of model.py; programs for XDP and tc on packets, whose results, packets and maps become tests of bpfdb; and
+# the bugs of XDP and tc in examples/README.md, whose verdicts are those of the page (the part `bugs` holds bpfdb's against it).
 set -u
 cd "$(dirname "$0")/.." || exit 1
 case ${1-} in
@@ -64,7 +65,7 @@ compiled() {
 
 # Each test of the library whose result the kernel gives, too, on the context 0 to 15.
 awk 'BEGIN { printf "\\020\\000"; for (i = 0; i < 16; i++) printf "\\%03o", i }' | xargs -0 printf > "$plan/context"
-for name in tables tries queues reads world events stacks; do
+for name in tables tries queues reads world events stacks storage numbers dynptrs; do
     source=tests/program/linux/$name.c
     compiled "$plan/$name.o" -DFOR_KERNEL=16 "$source"
     sed -n "s/^TEST(\([a-z_]*\))\$/$name.o \1 context/p" "$source" >> "$plan/plan"
@@ -82,6 +83,7 @@ done
 # Programs for XDP and tc: source, function, XDP or TC, inputs, where what is left of a packet lies, and whether the library is linked in.
 python3 tests/kernel/packets.py frames 1 > "$plan/frames"
 python3 tests/kernel/packets.py calls 1 > "$plan/calls"
+python3 tests/kernel/packets.py layouts 1 > "$plan/layouts"
 {
     echo 'examples/firewall/firewall.c firewall XDP frames front alone'
     echo 'examples/xdp/xdp.c filter XDP frames front alone'
@@ -90,12 +92,17 @@ python3 tests/kernel/packets.py calls 1 > "$plan/calls"
     awk '
         /SEC\("xdp"\)/ { kind = "XDP" }
         /SEC\("tc"\)/ { kind = "TC" }
+        # (those behind this line have frames that change, of which their results tell)
+        /^enum \{ ROOM/ { changes = 1 }
         /^int [a-z_]*\(struct/ {
             name = $2
             sub(/\(.*/, "", name)
-            print "tests/kernel/packets.c", name, kind, name == "length" || name == "told" ? "frames" : "calls", name == "head" || name == "metadata" ? "back" : "front", "with"
+            inputs = changes ? "layouts" : name == "length" || name == "told" ? "frames" : "calls"
+            place = changes ? "nowhere" : name == "head" || name == "metadata" ? "back" : "front"
+            print "tests/kernel/packets.c", name, kind, inputs, place, "with"
         }
         /^REDIRECT_BY\(/ { sub(/REDIRECT_BY\(/, ""); sub(/\)/, ""); print "tests/kernel/packets.c to_" $0 " XDP calls front with" }
+        /^READ_BY\(/ { sub(/READ_BY\(/, ""); sub(/,.*/, ""); print "tests/kernel/packets.c read_" $0 " TC calls nowhere with" }
     ' tests/kernel/packets.c
 } > "$work/programs"
 while read -r source entry kind inputs place library; do
@@ -103,6 +110,24 @@ while read -r source entry kind inputs place library; do
     [ -f "$plan/$name.o" ] || compiled "$plan/$name.o" "$source"
     echo "$name.o $entry $inputs" >> "$plan/plan"
 done < "$work/programs"
+
+# The bugs: a line `OBJECT PACKET VERDICT` for each run that the page shows, of what its commands made of the sources.
+cp -R examples/bugs "$work/bugs"
+awk -v folder="$work" '
+    /^## / { inside = $0 == "## bugs of XDP and tc" }
+    /^```/ { block = !block; next }
+    inside && block && /^\$ (for|sed) / { print substr($0, 3) > (folder "/bugs/commands") }
+    inside && block && /^\$ bpfdb run / { object = $NF; packet = $(NF - 1); getline; print object, packet, $0 > (folder "/verdicts") }
+' examples/README.md
+(cd "$work/bugs" && PATH=$top/share:$PATH && sh commands) > "$work/told" 2>&1
+[ ! -s "$work/told" ] || complain "the bugs of examples/README.md: $(cat "$work/told")"
+while read -r object packet verdict; do
+    size=$(wc -c < "$work/bugs/$packet")
+    { printf '%b' "\\0$(printf '%03o' $((size % 256)))\\0$(printf '%03o' $((size / 256)))"; cat "$work/bugs/$packet"; } > "$plan/$packet"
+    cp "$work/bugs/$object" "$plan"
+    echo "$object $(sed -n 's/^int \([a-z]*\)(struct .*/\1/p' "$work/bugs/${packet%.packet}.c") $packet $verdict" >> "$work/bugs/plan"
+done < "$work/verdicts"
+cut -d ' ' -f 1-3 "$work/bugs/plan" >> "$plan/plan"
 [ "$failures" -eq 0 ] || exit 1
 
 # The kernel's own answers.
@@ -140,6 +165,11 @@ for seed in 1 2 3 4 5; do
     count=$((count + $(sed -n '$s/^[0-9]*$/&/p' "$work/told" | grep . || echo 0)))
     [ "$(wc -l < "$work/told")" = 1 ] || complain "random calls, seed $seed: $(head -n 3 "$work/told")"
 done
+while read -r object entry packet verdict; do
+    found=$(cut -d ' ' -f 1-2 "$work/$object-$entry-$packet.runs")
+    [ "$found" = "= $((verdict))" ] || complain "$object of examples/README.md: $found, and not $verdict"
+    count=$((count + 1))
+done < "$work/bugs/plan"
 compiled "$work/library.o" share/bpfdb-linux.c
 while read -r source entry kind inputs place library; do
     section=xdp

@@ -76,6 +76,21 @@ has_clang() {
     return 1
 }
 
+# has_clang_14 WHAT: whether clang is of version 14, by whose slots the pages show what it makes; without it WHAT is left out.
+has_clang_14() {
+    has_clang "$1" || return
+    clang --version | grep -q 'version 14\.' && return
+    left_out "$1" 'there is no clang 14'
+    return 1
+}
+
+# has_headers WHAT: whether clang finds the headers of the kernel and of libbpf; without them WHAT is left out.
+has_headers() {
+    echo '#include <bpf/bpf_helpers.h>' | clang "-I/usr/include/$(uname -m)-linux-gnu" -include linux/bpf.h -target bpf -x c -fsyntax-only - 2> /dev/null && return
+    left_out "$1" 'there are no headers of the kernel and of libbpf (linux-libc-dev and libbpf-dev)'
+    return 1
+}
+
 # find_compilers WHAT: `compilers` are those of C for BPF that are here, clang and clang-19; without clang none, and WHAT is left out.
 find_compilers() {
     compilers=''

@@ -215,7 +215,8 @@ same_words() {
 # subcommand's help has those that are said to be for it.
 options() {
     {
-        sed -n 's/.* long = Some (codes "\([a-z-]*\)").*/--\1/p' crates/bpfdb_cli/specs/CommandLine.antt
+        # (but for an older word that asks for nothing, which help leaves out)
+        sed -n 's/.* long = Some (codes "\([a-z-]*\)").*/--\1/p' crates/bpfdb_cli/specs/CommandLine.antt | grep -v -x -e --as-compiled
         sed -n 's/.*ShortText(.\([a-zA-Z]\).).*/-\1/p' crates/bpfdb_cli/src/options.rt
         printf '%s\n' -h --help -V --version
     } | sort -u > "$work/sorted"
@@ -252,7 +253,7 @@ refusals() {
         BEGIN {
             letter["LoadFault"] = letter["PieceFault"] = letter["WordFault"] = "C"
             letter["LineFault"] = letter["AsmFault"] = "A"
-            letter["MapFault"] = "M"; letter["LinkFault"] = letter["RelocationFault"] = letter["BtfFault"] = letter["UseFault"] = "E"; letter["OpenFault"] = "O"; letter["JournalFault"] = "J"; letter["Refusal"] = "Q"; letter["WhatFault"] = letter["GoalFault"] = "V"
+            letter["MapFault"] = "M"; letter["LinkFault"] = letter["RelocationFault"] = letter["BtfFault"] = letter["UseFault"] = "E"; letter["OpenFault"] = letter["OpeningFault"] = "O"; letter["JournalFault"] = "J"; letter["Refusal"] = "Q"; letter["WhatFault"] = letter["GoalFault"] = "V"
             # (those of test files count from when the page has them)
             if (tested) letter["SectionFault"] = letter["NamedFault"] = "T"
         }
@@ -313,7 +314,7 @@ libraries() {
 
 # helpers: docs/LINUX.md names each helper of share/bpfdb-linux.c, and in its table no other.
 helpers() {
-    sed -n 's/^HELPER .*[ *]\(bpf_[a-z0-9_]*\)(.*/\1/p; s/^READ[A-Z_]*(\(.*\))$/\1/p' share/bpfdb-linux/*.c | sort > "$work/helpers"
+    sed -n 's/^HELPER .*[ *]\(bpf_[a-z0-9_]*\)(.*/\1/p; s/^\(READ[A-Z_]*\|NO_SOCKET\)(\(.*\))$/\2/p' share/bpfdb-linux/*.c | sort > "$work/helpers"
     [ -s "$work/helpers" ] || fault 'share/bpfdb-linux has no helpers'
     awk '/^## / { inside = $0 == "## Helpers" } inside && /^\|/' docs/LINUX.md | quoted | grep -x 'bpf_[a-z0-9_]*' | sort | diff "$work/helpers" - > "$work/differ" ||
         fault "docs/LINUX.md has other helpers than share/bpfdb-linux: $(grep '^[<>]' "$work/differ" | tr '\n' ' ')"

@@ -1,6 +1,7 @@
-"""Packets and what the kernel made of them: 'packets.py frames SEED' and 'packets.py calls SEED' write inputs of runner.c to standard output, the frames of
-networks or the arguments of packets.c; 'packets.py tests INPUTS WORDS MAPS AT < RUNS' makes what the kernel said of each input a test of bpfdb. AT is where
-a packet that became shorter has its bytes: `front` or `back`. MAPS is `-`, or the sizes of maps, of which the kernel's cells are wanted, too."""
+"""Packets and what the kernel made of them: 'packets.py frames|calls|layouts SEED' writes inputs of runner.c to standard output: the frames of networks, the
+arguments of packets.c, or such within frames of 110 bytes. 'packets.py tests INPUTS WORDS MAPS AT < RUNS' makes what the kernel said of each input a test of
+bpfdb. AT is where a packet that became shorter has its bytes: `front` or `back`, or `nowhere`, where the program's result tells of them. MAPS is `-`, or the
+sizes of maps, of which the kernel's cells are wanted, too."""
 
 import random
 import re
@@ -70,6 +71,16 @@ def calls(r):
         yield asked + rest[:r.randrange(len(rest) + 1)] if r.random() < 0.5 else asked + rest
 
 
+def layouts(r):
+    """Arguments within the addresses of a frame of 110 bytes, whose type is most often that of a header or of a tag."""
+    for _ in range(1500):
+        kind = r.choice(('0800', '0800', '0800', '86dd', '86dd', '8100', '88a8', '0806', '0005'))
+        body = bytes((0x45 if kind == '0800' else 0x60,)) + r.choice((r.randbytes(95), bytes(95)))
+        if kind in ('8100', '88a8'):
+            body = r.randbytes(2) + bytes.fromhex(r.choice(('0800', '86dd', '8100', '88a8', '0123', '0123ffff'))) + body
+        yield (r.randbytes(12) + bytes.fromhex(kind) + body)[:110]
+
+
 def inputs_of(path):
     with open(path, 'rb') as source:
         content = source.read()
@@ -92,7 +103,7 @@ def tests(inputs, words, maps, place):
             sys.exit(f'packets.py: input {number}: {line}')
         result = int(found[1]) - (1 << 32 if int(found[1]) >> 31 else 0)
         missing = '..' * (len(given) - len(found[2]) // 2)
-        after = missing + found[2] if place == 'back' else found[2] + missing
+        after = {'front': found[2] + missing, 'back': missing + found[2], 'nowhere': '..' * len(given)}[place]
         cells = ''.join(f'\n{cell.replace(":", " ")}' for cell in found[3].split())
         print(f'-- name\n{number}\n-- mem\n{given.hex()}\n-- result\n{result % (1 << 64):#x}\n-- mem-after\n{after}' + (cells and '\n-- map-after' + cells))
 
@@ -101,7 +112,7 @@ def main(what, *arguments):
     if what == 'tests':
         tests(*arguments)
         return
-    for made in {'frames': frames, 'calls': calls}[what](random.Random(int(arguments[0]))):
+    for made in {'frames': frames, 'calls': calls, 'layouts': layouts}[what](random.Random(int(arguments[0]))):
         sys.stdout.buffer.write(struct.pack('<H', len(made)) + made)
 
 

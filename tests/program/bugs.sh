@@ -1,5 +1,6 @@
-# The five bugs of examples/bugs: each session that examples/README.md shows of them finds the line of its bug in at most four commands, the first of which
-# is bpfdb-shell, and its lines are those that the shell prints at a terminal, but for what it sends, where it stands, and which registers changed.
+# The bugs of examples/bugs, as examples/README.md shows them. The five of C alone: each session finds the line of its bug in at most four commands, the first
+# of which is bpfdb-shell, and its lines are those that the shell prints at a terminal, but for what it sends, where it stands, and which registers changed.
+# The six of XDP and tc: each command prints the lines below it. That the kernel gives the same verdicts is for tests/kernel.sh.
 
 # session FILE: what a terminal shows, without these.
 session() {
@@ -21,11 +22,8 @@ bug() {
     same "examples/README.md: the session of $1.c" wanted/out found/out
 }
 
-if ! has_clang 'the five bugs of examples/bugs'; then
-    :
-elif ! clang --version | grep -q 'version 14\.'; then
-    left_out 'the five bugs of examples/bugs' 'there is no clang 14'
-elif has python3 'the five bugs of examples/bugs'; then
+# five_bugs: those of the section '## bugs'.
+five_bugs() {
     compile terminal
     cp "$top"/examples/bugs/* .
     mkdir sessions
@@ -43,4 +41,44 @@ elif has python3 'the five bugs of examples/bugs'; then
     bug oversize 18 3
     bug classes 22 3
     [ "$(ls sessions | wc -l)" -eq 5 ] || complain 'examples/README.md shows other than five bugs'
+}
+
+# verdict_of NAME: what a run of the object of this name prints on the page.
+verdict_of() {
+    grep -l "^bpfdb run .* $1\.o\$" shown/command-* | sed 's/command-/text-/' | xargs cat
+}
+
+# way NAME LINE COMMANDS: it takes so many commands from the wrong verdict of this program to the line, which is then mended, and the verdict is another.
+way() {
+    count=$((count + 1))
+    [ "$(grep -l -e "-m $1\.packet .*$1\.o" shown/command-* | wc -l)" -eq "$3" ] || complain "examples/README.md: $1.c takes other than $3 commands"
+    grep -q "^sed '$2s/.*' $1\.c | " shown/command-* || complain "examples/README.md: no mend of line $2 of $1.c"
+    verdict_of "$1" > wrong
+    verdict_of "$1-mended" > right
+    [ "$(cat wrong right | grep -c -x '0x[0-9a-f]*')" -eq 2 ] && ! cmp -s wrong right || complain "examples/README.md: the verdicts of $1.c"
+}
+
+# six_bugs: those of the section '## bugs of XDP and tc', whose commands are typed in order in one folder.
+six_bugs() {
+    mkdir bin typed
+    ln -s "$program" bin/bpfdb
+    ln -s "$top/share/bpfdb-context" bin
+    cp "$top"/examples/bugs/* typed
+    clang -target bpf -mcpu=v3 -O2 -g -c "$top/share/bpfdb-linux.c" -o bpfdb-linux.o 2> found/err || complain "share/bpfdb-linux.c: $(cat found/err)"
+    commands_of examples/README.md 'bugs of XDP and tc' shown
+    for command in $(seq "$(ls shown/command-* | wc -l)"); do
+        (cd typed && PATH=$PWD/../bin:$PATH BPFDB_LINUX=../bpfdb-linux.o && export BPFDB_LINUX && unset BPFDB && sh "../shown/command-$command") > found/out 2>&1
+        same "examples/README.md: $(cat "shown/command-$command")" "shown/text-$command" found/out
+    done
+    way tunnel 34 3
+    way relay 35 2
+    way precedence 23 2
+    way stations 33 4
+    way offers 19 2
+    way router 14 3
+}
+
+if has_clang_14 'the bugs of examples/bugs' && has python3 'the bugs of examples/bugs'; then
+    five_bugs
+    if has_headers 'the bugs of XDP and tc'; then six_bugs; fi
 fi

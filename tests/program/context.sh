@@ -50,7 +50,7 @@ read_back() {
 
 # linked NAME: that program of fields.c.
 linked() {
-    "$program" link --as-compiled --section "in_$1" fields.o > "$1.bin" 2> said || complain "bpfdb link --section in_$1: $(cat said)"
+    "$program" link --section "in_$1" fields.o > "$1.bin" 2> said || complain "bpfdb link --section in_$1: $(cat said)"
 }
 
 # known NAME: what the compiler knows, in decimal.

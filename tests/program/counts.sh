@@ -81,7 +81,7 @@ for compiler in $compilers; do
         usage "$own" run --object --entries many=5 --entries "$word" sized.o
     done
     usage "$own" link --section prog/shared --entries few=5 --entries many=5 --entries few=5 sized.o
-    usage "'--section', '--entry', '--entries', '--stub', '--as-compiled', '--packet' and '--with' are of objects: without '--words', '--listing' and '--maps'" run --words --entries few=5 words
+    usage "'--section', '--entry', '--entries', '--stub', '--fields', '--struct' and '--with' are of objects: without '--words', '--listing' and '--maps'" run --words --entries few=5 words
     refused 'refused E1: no ELF file' run --entries few=5 words
     seventeen=$(for n in $(seq 17); do printf -- ' --entries m%s=1' "$n"; done)
     # shellcheck disable=SC2086

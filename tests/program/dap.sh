@@ -51,6 +51,7 @@ if has python3 'bpfdb-dap'; then
         cp "$parts/gdb/verdict.c" .
         clang -g -O2 -target bpf -c verdict.c
         printf '\7\2' > kind
+        limiter
     fi
     [ -f /usr/share/nodejs/@vscode/debugprotocol/lib/debugProtocol.d.ts ] ||
         left_out "the protocol's declarations" 'there is no node-vscode-debugprotocol'

@@ -70,7 +70,7 @@ done <<'ROWS'
 --section b|two.o
 --entry first|programs.o
 --entry second --stub 5=-1|programs.o
---as-compiled|overrun.o
+--fields compiled|overrun.o
 |overrun.o
 ROWS
 # (gdb's packets: a step, the registers, a step back, what the monitor shows, and leaving)

@@ -25,7 +25,7 @@ if has bash 'completion in bash'; then
     completed 'help\n' bpfdb he
     completed '--version\n' bpfdb --v
     completed '--maps\n' bpfdb run --ma
-    completed '--steps\n--strict\n--stub\n' bpfdb run --st
+    completed '--steps\n--strict\n--stub\n--struct\n' bpfdb run --st
     completed '\n' bpfdb run --journal
     completed '--journal\n' bpfdb debug --j
     completed '--section\n' bpfdb link --sec
@@ -38,11 +38,13 @@ if has bash 'completion in bash'; then
     completed '--addresses\n' bpfdb origin --ad
     completed '--journal\n' bpfdb-shell --j
     completed '--section\n' bpfdb-shell --sec
-    completed '\n' bpfdb-shell --reg
+    completed '--regs\n' bpfdb-shell --reg
     completed 'program.bin\n' bpfdb-shell prog
-    completed '--output\n--object\n' bpfdb-page --o
+    completed '--object\n--output\n' bpfdb-page --o
     completed '--journal\n' bpfdb-shell --jou
     completed '\n' bpfdb-page --jou
+    completed '--struct\n' bpfdb-page --stru
+    completed '--with\n' bpfdb-shell --wit
     completed 'program.bin\n' bpfdb-page -o prog
     completed '--port\n--over\n-h\n--help\n' bpfdb-dap -
     completed 'gdb\nbpfdb\n' bpfdb-dap --over ''

@@ -122,9 +122,8 @@ if has python3 'sessions in gdb'; then
     done
     story 1 XDP.md > firewall.txt
     [ "$(wc -l < firewall.txt)" -gt 2 ] || complain 'docs/XDP.md shows no session'
-    # (this object has lines of share/bpfdb.h, too: examples/README.md says how it is made anew)
     bytes firewall.o $(sed 's/../& /g' "$top/examples/firewall/object.hex")
-    "$program" link --section xdp --entry bpfdb firewall.o > firewall.bin 2> told
+    "$program" link firewall.o > firewall.bin 2> told
     same 'examples/firewall/program.bin is linked from its object' "$top/examples/firewall/program.bin" firewall.bin
 
     # Names that gdb takes apart at blanks and quotes.
@@ -176,6 +175,15 @@ if has python3 'sessions in gdb'; then
             cp "$sessions/taken.c" .
             clang -g -O1 -fstack-size-section -target bpf -c taken.c
             transcript gdb "$sessions/taken.txt"
+            # (one with a hash, as the kernel loads it, to which functions are joined that answer its helpers)
+            limiter
+            # (and one that has lines by BTF alone)
+            clang -g -O1 -fdebug-prefix-map="$PWD"=. -target bpf -c limit.c -o named.o
+            LC_ALL=C sed 's/\.debug_/.other_/g' named.o > bare.o
+            transcript gdb "$sessions/limit.txt"
+            # (programs in turn, of several sections)
+            compiled turns
+            transcript gdb "$sessions/turns.txt"
             cp "$sessions/verdict.c" .
             clang -g -O2 -target bpf -c verdict.c
             printf '\7\2' > kind

@@ -137,6 +137,15 @@ object() {
     bytes "$1.o" $(sed '/^#/d; s/../& /g' "$parts/objects/$1.txt")
 }
 
+# limiter: an XDP program with a hash, as the kernel loads it; functions that answer its helpers, from a file that is named from here on; those of Linux; and
+# a packet of IPv6.
+limiter() {
+    cp "$parts/doors/limit.c" "$parts/doors/mock.c" "$top/examples/firewall/ipv6.bin" .
+    clang -g -O1 -fstack-size-section -target bpf -c limit.c
+    clang -g -O1 -fdebug-prefix-map="$PWD"=. -target bpf -c mock.c
+    clang -g -O2 -mcpu=v3 -target bpf -I"$top/share" -c "$top/share/bpfdb-linux.c"
+}
+
 # told_maps: the option for the maps in what `link` told.
 told_maps() {
     sed -n '/^--maps /p' told
@@ -159,6 +168,18 @@ bytes() {
         esac
     done
     printf '%b' "$text" > "$file"
+}
+
+# commands_of PAGE SECTIONS FOLDER: each command after '$ ' in the page's sections of these names (an expression of awk) is the file command-N of a new
+# folder, and the lines below it are text-N.
+commands_of() {
+    mkdir "$3" || exit 1
+    awk -v sections="^## ($2)$" -v folder="$3" '
+        /^## / { inside = $0 ~ sections }
+        /^```/ { block = !block; next }
+        inside && block && /^\$ / { n++; print substr($0, 3) > (folder "/command-" n); printf "" > (folder "/text-" n); next }
+        inside && block { print > (folder "/text-" n) }
+    ' "$top/$1"
 }
 
 # same NAME FILE FILE: two files have the same bytes.

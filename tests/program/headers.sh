@@ -74,9 +74,7 @@ if has_clang 'programs with the headers of libbpf'; then
     unfit 'linux-libc-dev' -nostdinc -DBPFDB_XDP=f f.c
     unfit 'bpfdb.h: add -I/usr/include/$(uname -m)-linux-gnu' -nostdinc -isystem few -DBPFDB_XDP=f f.c
 
-    if ! printf '#include <linux/bpf.h>\n#include <bpf/bpf_helpers.h>\n' | clang $architecture -target bpf -x c -fsyntax-only - 2> /dev/null; then
-        left_out 'programs with the headers of libbpf' 'there are no headers of the kernel and of libbpf (linux-libc-dev and libbpf-dev)'
-    else
+    if has_headers 'programs with the headers of libbpf'; then
         # A line for each packet: its name, the verdicts of the firewall, of the counter and of the classifier (-1 is 0xffffffffffffffff), the protocol that is
         # counted, and its bytes. XDP_DROP is 1 and XDP_PASS 2; TC_ACT_UNSPEC is -1, TC_ACT_OK 0, TC_ACT_RECLASSIFY 1 and TC_ACT_SHOT 2.
         #
@@ -175,7 +173,7 @@ PACKETS
 
             # vmlinux.h, whose structs of packets have relocations of fields.
             with $compiler -O2 -DBPFDB_VMLINUX -I"$parts/headers" -DBPFDB_XDP=no_arp "$parts/headers/relocated.c"
-            linked relocated 'fields left by --as-compiled: 1' --section xdp --entry bpfdb --as-compiled
+            linked relocated 'fields left as compiled: 1' --section xdp --entry bpfdb
             for row in 'ARP 0x1' 'ICMP 0x2' 'Ethernet alone, of IPv4 0x2' 'nothing 0x0'; do
                 packet_of "$(sed -n "s/^${row% *}|.*|//p" packets)"
                 verdict "${row% *}, $compiler" relocated "${row##* }"
@@ -211,21 +209,21 @@ PACKETS
         unfit "static declaration of 'filter' follows non-static declaration" $architecture -DBPFDB_XDP=filter elsewhere.c
         unfit "redefinition of 'xdp_md'" $architecture -I"$parts/headers" -DBPFDB_XDP=no_arp "$parts/headers/relocated.c"
 
-        # Without the header `link` refuses them, and takes them with --packet: the verdicts are those of the header.
-        kernels="E55: entry takes the kernel's own struct of a packet: link --packet, in tests -- struct, or clang -include bpfdb.h, gives it one of the machine's"
+        # Without the header `link` refuses them with --struct none, and takes them as they are, by their types: the verdicts are those of the header.
+        kernels="E55: entry takes the kernel's own struct of a packet: --struct, in tests -- struct, gives it one of the machine's"
         for row in "firewall xdp $top/examples/firewall/firewall.c" "filter xdp $top/examples/xdp/xdp.c" "classify tc $parts/headers/classifier.c"; do
             # (no name here has a blank within)
             set -- $row
             clang $architecture -g -O2 -target bpf -c -o program.o "$3"
             stub=--stub=6=0
-            refused_link "$1 without the header" "$kernels: $1" --section "$2" $stub
-            linked "bare-$1" '*' --section "$2" --packet "$2" $stub
+            refused_link "$1 without the header" "$kernels: $1" --section "$2" --struct none $stub
+            linked "bare-$1" '*' --section "$2" $stub
         done
         while IFS='|' read -r name of_firewall of_counter of_classifier protocol digits; do
             packet_of "$digits"
-            verdict "$name, --packet" bare-firewall "$of_firewall" 40 "$((of_firewall))"
-            verdict "$name, --packet" bare-filter "$of_counter" 256 "$protocol"
-            verdict "$name, --packet" bare-classify "$of_classifier"
+            verdict "$name, as it is" bare-firewall "$of_firewall" 40 "$((of_firewall))"
+            verdict "$name, as it is" bare-filter "$of_counter" 256 "$protocol"
+            verdict "$name, as it is" bare-classify "$of_classifier"
         done < packets
 
         # What docs/XDP.md shows at a shell, in a copy of the example.

@@ -77,7 +77,7 @@ for compiler in $compilers; do
     # (an object that nothing is joined to would be copied, whatever it is; that of a packet's program isn't written)
     usage "'--joined' needs '--with', '--entries', or several '--entry'" link --joined program.o
     usage "'--joined' needs '--with', '--entries', or several '--entry'" link --joined --section cells --entry cells --stub 8=7 program.o
-    usage "the argument '--joined' cannot be used with '--packet <KIND>'" link --joined --packet xdp --with functions.o program.o
+    usage "the argument '--joined' cannot be used with '--struct <KIND>'" link --joined --struct xdp --with functions.o program.o
 
     # What is wanting, and what is wrong with either object.
     refused 'refused E25 at slot 0: unknown helper 8 (bpf_get_smp_processor_id): --with OBJECT or --stub 8=VALUE answers it: unanswered, slot 0' \
@@ -118,10 +118,10 @@ for compiler in $compilers; do
     refused 'refused E25 at slot 0: unknown helper 8 (bpf_get_smp_processor_id): --with OBJECT or --stub 8=VALUE answers it: unanswered, slot 0' \
         link --with mock.o --with functions.o --section unanswered program.o
     refused 'refused E39: addresses in the data of an object of functions (--with)' link --with pointers.o --section time program.o
-    refused 'refused E36 at slot 2: relocations of fields, 1 in all: --as-compiled leaves them undone: .text' link --with functions.o fields.o
-    "$program" link --with functions.o --as-compiled fields.o > words 2> told || complain "fields: $(cat told)"
+    refused 'refused E36 at slot 2: relocations of fields, 1 in all: --fields compiled leaves them undone: .text' link --fields strict --with functions.o fields.o
+    "$program" link --with functions.o fields.o > words 2> told || complain "fields: $(cat told)"
     count=$((count + 1))
-    [ "$(cat told)" = 'fields left by --as-compiled: 1' ] || complain "what is told of fields: $(cat told)"
+    [ "$(cat told)" = 'fields left as compiled: 1' ] || complain "what is told of fields: $(cat told)"
 
     # Damaged objects, and what stands in each part.
     if has python3 'joined objects'; then

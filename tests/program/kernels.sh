@@ -1,4 +1,4 @@
-# link --packet: programs for XDP and tc as the kernel takes them, compiled by each clang that is installed with the kernel's own structs
+# link --struct: programs for XDP and tc as the kernel takes them, compiled by each clang that is installed with the kernel's own structs
 # (tests/program/kernels/), on packets. Verdicts were worked out from the packets' bytes by hand; what is refused, and why, stands beside its name.
 
 # bytes_of DIGITS: the file `packet`.
@@ -8,14 +8,14 @@ bytes_of() {
 
 # gives VALUE NAME: the program of this name, for the struct $struct, gives this on `packet`.
 gives() {
-    "$program" link --packet "$struct" --section "$struct" --entry "$2" works.o > words 2> told || complain "$compiler $level: $2: $(cat told)"
+    "$program" link --struct "$struct" --section "$struct" --entry "$2" works.o > words 2> told || complain "$compiler $level: $2: $(cat told)"
     result "$1\n" run $(told_maps) -m packet words
 }
 
 # unfit LINE NAME: the program of this name isn't taken, and this line says why, from the slot on (whose number clang's version decides).
 unfit() {
     printf '%b' "$script_unread" > script
-    run link --packet "$struct" --section "$struct" --entry "$2" refused.o
+    run link --struct "$struct" --section "$struct" --entry "$2" refused.o
     sed -i 's/ at slot [0-9]*:/:/; s/slot [0-9]*$/slot/' found/err
     check "$compiler $level: $2" 2 '' "refused $1, slot\n"
 }
@@ -26,9 +26,9 @@ no_field="E56: access to no field of the packet's struct"
 mixed="E57: access to the packet's struct on some ways, to something else on others"
 arithmetic="E58: arithmetic on the address of the packet's struct"
 escapes="E59: address of the packet's struct is stored, passed or returned"
-kernels="refused E55: entry takes the kernel's own struct of a packet: link --packet, in tests -- struct, or clang -include bpfdb.h, gives it one of the machine's"
+kernels="refused E55: entry takes the kernel's own struct of a packet: --struct, in tests -- struct, gives it one of the machine's"
 
-find_compilers 'link --packet'
+find_compilers 'link --struct'
 for compiler in $compilers; do
     for level in '-O1' '-O2' '-O2 -mcpu=v3'; do
         # (options have no blanks within)
@@ -71,7 +71,7 @@ for compiler in $compilers; do
         # Programs in turn get one struct, whatever the ones before have left in registers, in r2 too, by which the length was told: here 14 and 8 bytes.
         for names in 'spilled length' 'called firewall spilled length' 'length length'; do
             # (names without blanks)
-            "$program" link --packet xdp $(printf -- '--entry %s ' $names) works.o > words 2> told || complain "$compiler $level: $names: $(cat told)"
+            "$program" link --struct xdp $(printf -- '--entry %s ' $names) works.o > words 2> told || complain "$compiler $level: $names: $(cat told)"
             result '0x16\n' run -m packet words
         done
 
@@ -116,10 +116,17 @@ for compiler in $compilers; do
         unfit "$no_field: tc" socket
         unfit "$no_field: tc" stored_len
 
-        # Without the option an entry that takes the kernel's struct is refused, whatever it does with it.
-        refused "$kernels: firewall" link --section xdp --entry firewall works.o
-        refused "$kernels: unread" link --section xdp --entry unread works.o
-        refused "$kernels: classify" run --object --section tc --entry classify works.o
+        # Without the option the entry's type says which of the structs it takes, and with `none` such an entry is refused, whatever it does with it.
+        for row in 'xdp firewall' 'xdp unread' 'tc classify'; do
+            # (no name here has a blank within)
+            set -- $row
+            "$program" link --struct "$1" --section "$1" --entry "$2" works.o > wanted/out 2> wanted/err
+            run link --section "$1" --entry "$2" works.o
+            echo 0 > wanted/status
+            compare "$compiler $level: $2 by its type"
+            refused "$kernels: $2" link --struct none --section "$1" --entry "$2" works.o
+        done
+        refused "$kernels: classify" run --object --struct none --section tc --entry classify works.o
     done
 
     # What isn't compiled with -g says nothing of its entry, and is taken with the option, too.
@@ -134,6 +141,6 @@ for compiler in $compilers; do
 done
 
 if [ -n "$compilers" ]; then
-    # A word that is none of the two.
-    usage "a value is none of those that its option takes" link --packet skb works.o
+    # A word that is none of the three.
+    usage "a value is none of those that its option takes" link --struct skb works.o
 fi

@@ -267,7 +267,7 @@ in_stack() {
     (
         ulimit -s "$1"
         shift
-        exec env -i "ROOM=$room" "$program" "$@"
+        exec env -i "ROOM=$room" "BPFDB_LINUX=$BPFDB_LINUX" "$program" "$@"
     ) < script > found/out 2> found/err
     echo $? > found/status
 }
@@ -345,7 +345,7 @@ nothing|link --section none --with calls.o overrun.o
 nothing|link --with calls.o --with calls.o --with calls.o overrun.o
 nothing|link --joined --with calls.o overrun.o
 nothing|link --entries events=7 typed.o
-nothing|link --packet xdp overrun.o
+nothing|link --struct xdp overrun.o
 nothing|asm labels.s
 cases|batch
 nothing|test cells.test

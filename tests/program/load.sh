@@ -36,7 +36,7 @@ refused 'refused E8: no such code section: a, b' load --section c two.o
 find_compilers load
 for compiler in $compilers; do
     "$compiler" -g -O2 -target bpf -c "$parts/load/maps.c" -o maps.o 2> found/err || complain "$compiler: maps.c: $(cat found/err)"
-    for options in '' '--section prog' '--entry entry' '--entries flows=9' '--as-compiled'; do
+    for options in '' '--section prog' '--entry entry' '--entries flows=9' '--fields compiled'; do
         entries=5
         [ "$options" != '--entries flows=9' ] || entries=9
         # shellcheck disable=SC2086

@@ -230,10 +230,10 @@ if has_clang 'link --entries where memory is refused'; then
     wants "$plain$e26" 0 "$(od -An -v -b linked | tr -d '\n' | sed 's/ /\\0/g')" "$(cat told)\n" link --section prog/zero --entries zero=3 --entries few=2 sized.o
 fi
 # A program of the kernel's for packets.
-if has_clang 'link --packet where memory is refused'; then
+if has_clang 'link --struct where memory is refused'; then
     clang -g -O2 -target bpf -c "$parts/kernels/works.c" -o works.o 2> found/err || complain "works.c: $(cat found/err)"
-    "$program" link --packet xdp --section xdp --entry negative works.o > linked 2> told || complain "negative: $(cat told)"
-    wants "$plain$e26" 0 "$(od -An -v -b linked | tr -d '\n' | sed 's/ /\\0/g')" '' link --packet xdp --section xdp --entry negative works.o
+    "$program" link --struct xdp --section xdp --entry negative works.o > linked 2> told || complain "negative: $(cat told)"
+    wants "$plain$e26" 0 "$(od -An -v -b linked | tr -d '\n' | sed 's/ /\\0/g')" '' link --struct xdp --section xdp --entry negative works.o
 fi
 # A file of tests: where memory runs out, no test fails by it, and what was reported before stands.
 printf -- '-- maps\n2x2\n-- listing\nmov r0, 2\nexit\n-- name\na\n-- result\n2\n' > two.test

@@ -46,10 +46,13 @@ if has python3 'pages of runs'; then
     usage_end="\\n\\nFor more information, try '--help'.\\n"
     made 2 "error: -o PAGE names no file to write$usage_end" two.s
     made 2 "error: FILE is missing$usage_end" -o left/run.html
-    # (what stands behind an option that it doesn't have isn't FILE)
-    for words in '--frob missing two.s' '--strict two.s' 'two.s --json' '-x two.s' '--frob=3 two.s'; do
+    # (what is no word of its own goes to trace and to debug, and what one of them doesn't take that one refuses)
+    for row in 'trace --frob missing two.s' 'debug --strict two.s' 'debug two.s --json' 'trace -x two.s' 'trace --frob=3 two.s' 'trace two.s --journal 1024' 'trace two.s wrong.s'; do
+        words=${row#* }
         # shellcheck disable=SC2086
-        made 2 "error: unexpected argument '$(echo "$words" | grep -o -e '-[-a-z]*')' found$usage_end" -o left/run.html $words
+        "$program" $row 2>&1 | grep -q '^error: unexpected argument' || complain "tests/program/page.sh: bpfdb takes $row"
+        # shellcheck disable=SC2086
+        made 2 "$(told $row)" -o left/run.html $words
     done
     made 2 'cannot read missing\n' -o left/run.html missing
     made 2 'cannot read missing\n' -o left/run.html -m missing two.s
@@ -57,6 +60,7 @@ if has python3 'pages of runs'; then
     made 2 "$(told link cut.o)" -o left/run.html cut.o
     made 2 "$(told link --section none overrun.o)" -o left/run.html --section none overrun.o
     made 2 "$(told link --entry none overrun.o)" -o left/run.html overrun.o --entry=none
+    made 2 "$(told link --struct xdp --with nothing.o overrun.o)" -o left/run.html overrun.o --struct xdp --with nothing.o
     made 2 "$(told link two.s)" -o left/run.html --object two.s
     made 2 "$(told trace --profile --words --maps 8 overrun.o)" -o left/run.html --maps 8 overrun.o
     made 2 'bpfdb-page: the run has 2 steps, and none from 3 on\n' -o left/run.html --from 3 two.s
@@ -264,6 +268,32 @@ C
         variables=variables
     fi
 
+    # What a page holds of an XDP program with a hash as the kernel loads it: the object's functions behind the 13 slots that give it its packet, and those of
+    # what is joined to it, with their lines; and the variables of the one above.
+    if has_clang 'a page of joined objects'; then
+        limiter
+        cat > held.py <<'PYTHON'
+import json, re, sys
+run = json.loads(re.search(r'(\{"title".*?\})</script>', open(sys.argv[1]).read(), re.DOTALL)[1])
+print(run['end'])
+print(*sorted(name for _, name in run['functions']))
+names = dict(run['functions'])
+print(*sorted({f"{names[max(start for start in names if start <= slot)]}:{run['files'][file]['name']}:{line}" for slot, file, line in run['lines']
+               if line in (8, 9, 22, 33)}))
+print(*sorted(f'{name} {size}' for _, size, name in run['variables']))
+PYTHON
+        made 0 '' -o left/limit.html --struct xdp --with mock.o -m ipv6.bin limit.o
+        python3 held.py left/limit.html > found/held
+        printf '%s\n' 'exited at 12: r0 0x2' '_setup _start bpf_map_lookup_elem bpf_map_update_elem is_known limit' \
+            'bpf_map_update_elem:mock.c:9 is_known:limit.c:22 limit:limit.c:33' '' > wanted/held
+        same 'the page of limit.o' wanted/held found/held
+        # (16 flows of 16 bytes, and a number of 4)
+        python3 held.py variables/variables.html | sed -n 4p > found/held
+        echo 'flows 256 total 4' > wanted/held
+        same 'the variables of a page' wanted/held found/held
+        rm left/limit.html
+    fi
+
     # The programs whose pages are held to bpfdb: the examples, and a listing for each kind of step, of end, and of excerpt. They are made side by side.
     # page NAME WORD..: the page states/NAME.html of a run, and the words for bpfdb beside it.
     page() {
@@ -379,7 +409,7 @@ LISTING
     page wide --listing "$PWD/wide.s"
     python3 -c 'import sys; sys.stdout.buffer.write(bytes.fromhex(sys.stdin.read()))' < "$top/examples/firewall/object.hex" > firewall.o
     cp "$top/examples/firewall/firewall.c" .
-    page firewall -m "$top/examples/firewall/context.bin" --section xdp --entry bpfdb firewall.o
+    page firewall -m "$top/examples/firewall/context.bin" firewall.o
     # (the words for bpfdb are those of the linked program)
     printf '%s\n' -m "$top/examples/firewall/context.bin" --maps 8x5 "$top/examples/firewall/program.bin" > states/firewall.words
 

@@ -11,9 +11,9 @@ sed -i '2s/.*/i h/' commands
 echo 'source itself' > itself
 compile terminal
 
-# shown FILE: what a terminal shows of a session, without prompts and empty lines, and without the number of the file of linked words.
+# shown FILE: what a terminal shows of a session, without prompts and empty lines, and without the number of the copy of an object.
 shown() {
-    sed 's/(bpfdb) //g; s|/dev/fd/[0-9]*|LINKED|' "$1" | grep -v '^$'
+    sed 's/(bpfdb) //g; s|/dev/fd/[0-9]*|KEPT|' "$1" | grep -v '^$'
 }
 
 # habit BEFORE TYPED LINES: what is typed after other lines, in a session of the words $opened, prints these lines, a slash between two.
@@ -113,11 +113,14 @@ if has python3 'bpfdb-shell'; then
     check 'bpfdb-shell: bpfdb beside it' 0 '1 forward; done; at 1: exit\n' ''
     plainly 'no program' 2 'si\n' '' 'cannot read missing\n' missing
     plainly 'a refused program' 2 'si\n' '' 'refused C3: length is no multiple of 8\n' context
-    plainly 'an option with a slip' 2 'si\n' '' "error: unexpected argument '--step' found\n\n  tip: a similar argument exists: '--steps'\n\nFor more information, try '--help'.\n" --step 5 plain.s
-    # An option that it doesn't have is refused by its name: what stands behind it isn't FILE.
-    for words in --frob '--frob plain.s' '--frob=3 plain.s' 'plain.s --frob 3' '-m context --frob plain.s first.s'; do
+    # Words that bpfdb doesn't take it refuses itself, whatever stands behind them.
+    for words in --frob '--frob plain.s' '--frob=3 plain.s' 'plain.s --frob 3' '-m context --frob plain.s first.s' '--step 5 plain.s' 'plain.s first.s' 'plain.s -m' \
+        '--words=3 plain.s'; do
         # shellcheck disable=SC2086
-        plainly "no option: $words" 2 'si\n' '' "error: unexpected argument '--frob' found\n\nFor more information, try '--help'.\n" $words
+        "$program" debug $words < /dev/null 2> wanted/err
+        grep -q '^error: ' wanted/err || complain "tests/program/shell.sh: bpfdb takes $words"
+        # shellcheck disable=SC2086
+        plainly "no option: $words" 2 'si\n' '' "$(text wanted/err)" $words
     done
     if [ -c /dev/full ]; then
         printf 'si\nsi\n' | "$shell" > /dev/full 2> found/err
@@ -174,7 +177,7 @@ if has python3 'bpfdb-shell'; then
         check "bpfdb-shell ${row%%|*} at a terminal" 2 '' "$(echo "${row#*|}" | sed 's/|/\\n/g')\n"
     done
 
-    # An object is linked, with its maps; one that is refused ends it.
+    # An object is taken with its maps; one that is refused ends it.
     python3 -c 'import sys; sys.stdout.buffer.write(bytes.fromhex(sys.stdin.read()))' < "$top/examples/overrun/object.hex" > overrun.o
     cp "$top/examples/overrun/overrun.c" .
     cp "$top/examples/overrun/context.bin" .
@@ -237,13 +240,27 @@ PYTHON
             '8 forward; end; exited at 8: r0 0x2\nit was reached 1 moves back\nok\nbreak 8\n' \
             "$near:8: the nearest are at verdict.c:7, verdict.c:9\nbpfdb-shell: there is no instruction at ./verdict.c:8: the nearest are at ./verdict.c:7, ./verdict.c:9\n"\
 "$near:1: the nearest are at verdict.c:3\n$near:99: the nearest are at verdict.c:9\nbpfdb-shell: there is no instruction at other.c:8\n" -m kind verdict.o
+
+        # An XDP program as the kernel loads it, whose entry's 13 slots come first, and which is joined to what answers its helpers: its packet is the first of
+        # its protocol, and passes (2). Names and lines are right wherever its code lies.
+        limiter
+        for joined in mock.o bpfdb-linux.o; do
+            printf 'b limit.c:22\nc\nbt\nc\nwhynot limit.c:32\norigin r0\nstart\ninfo symbol\nb bpf_map_update_elem\nc\nc\nbt\n' > script
+            "$shell" --struct xdp --with "$joined" -m ipv6.bin limit.o < script 2> found/err > found/all
+            echo $? > found/status
+            grep -o -e 'in [a-z_]* (limit.c:.*' -e 'in _start$' -e 'exited at.*' -e '^[0-9]*: limit$' -e 'in bpf_map_update_elem' -e '^left r0.*' found/all |
+                sed 's/^[0-9]*: //' > found/out
+            check "bpfdb-shell: an XDP program with a hash, joined to $joined" 0 \
+                'in is_known (limit.c:22)\nin limit (limit.c:33)\nin _start\nexited at 12: r0 0x2\nlimit\nin bpf_map_update_elem\nin is_known (limit.c:22)\nin limit (limit.c:33)\nin _start\n' \
+                'bpfdb-shell: there is no instruction at limit.c:32: the nearest are at limit.c:31, limit.c:33\n'
+        done
     fi
     plainly 'an object' 0 'c\n' '105 forward; end; fault access 0x10077656d at 25\n' '' -m context.bin overrun.o
     # Where bpfdb is killed, it says so.
     printf '#!/bin/sh\nkill -9 $$\n' > killed
     chmod 755 killed
     (BPFDB=$PWD/killed failures=0; plainly 'bpfdb is killed' 2 'si\n' '' 'bpfdb-shell: bpfdb ended with status -9\n' context
-        plainly 'link is killed' 2 'si\n' '' 'bpfdb ended with status -9\n' overrun.o; exit "$failures") || failures=$((failures + 1))
+        plainly 'bpfdb is killed, of an object' 2 'si\n' '' 'bpfdb-shell: bpfdb ended with status -9\n' overrun.o; exit "$failures") || failures=$((failures + 1))
     count=$((count + 2))
     # What comes by a pipe can be read but once, and origin needs it again.
     mkfifo pipe
@@ -264,25 +281,27 @@ PYTHON
         --section filter -m context.bin overrun.o
     plainly 'an object, and a section that it lacks' 2 'c\n' '' 'refused E8: no such code section: .text, filter\n' --section nothing overrun.o
 
-    # Its words go where they belong, to link or to debug, and link's maps to debug.
+    # Its words go on as they are, in their order: to debug, and those that load takes to load. With --maps an object is linked, since bpfdb takes
+    # --maps of words alone.
     cat > noted <<'SCRIPT'
 #!/bin/sh
-echo "$*" | sed 's|/dev/fd/[0-9]*|LINKED|' >> called
+[ "$2" != --help ] || exec "$REAL" "$@"
+echo "$*" | sed 's|/dev/fd/[0-9]*|KEPT|' >> called
 case $1 in
 link) printf '\225\0\0\0\0\0\0\0' && printf -- '--maps 8x2\nmap 0: counters\ncalls answered by --stub: 1\n' >&2 ;;
-*) exec "$REAL" ;;
+*) exec "$REAL" "$@" ;;
 esac
 SCRIPT
     chmod 755 noted
     for row in \
-        '-m context overrun.o|link -- overrun.o|lines --object -- overrun.o|debug -m context --maps 8x2 -- LINKED' \
-        '--section filter overrun.o --steps 9|link --section filter -- overrun.o|lines --object --section filter -- overrun.o|debug --steps 9 --maps 8x2 -- LINKED' \
-        '--as-compiled overrun.o --steps 9|link --as-compiled -- overrun.o|lines --object --as-compiled -- overrun.o|debug --steps 9 --maps 8x2 -- LINKED' \
-        '--entry=entry --section xdp --maps=1x1 overrun.o|link --entry=entry --section xdp -- overrun.o|lines --object --entry=entry --section xdp -- overrun.o|debug --maps=1x1 -- LINKED' \
-        '--stub 5=0,14=-1 overrun.o|link --stub 5=0,14=-1 -- overrun.o|lines --object --stub 5=0,14=-1 -- overrun.o|debug --maps 8x2 -- LINKED' \
-        '--journal=1024 sum.s|lines -- sum.s|debug --journal=1024 --listing -- sum.s' \
-        '--listing -m context -- sum.s|lines -- sum.s|debug --listing -m context -- sum.s' \
-        '--entry entry context|debug --entry entry -- context'; do
+        '-m context overrun.o|load --json -- KEPT|debug -m context -- KEPT' \
+        '--section filter overrun.o --steps 9|load --section filter --json -- KEPT|debug --section filter --steps 9 -- KEPT' \
+        '--steps=9 --no-linux overrun.o|load --no-linux --json -- KEPT|debug --steps=9 --no-linux -- KEPT' \
+        '--entry=entry --object -mcontext --section filter --maps=1x1 overrun.o|lines --entry=entry --object --section filter --json -- KEPT|link --entry=entry --section filter -- KEPT|load --maps=1x1 --json -- KEPT|debug -mcontext --maps=1x1 -- KEPT' \
+        '--stub 5=0,14=-1 --struct xdp --with mock.o overrun.o|load --stub 5=0,14=-1 --struct xdp --with mock.o --json -- KEPT|debug --stub 5=0,14=-1 --struct xdp --with mock.o -- KEPT' \
+        '--journal=1024 sum.s|load --json -- sum.s|debug --journal=1024 -- sum.s' \
+        '--listing -m context -- sum.s|load --listing --json -- sum.s|debug --listing -m context -- sum.s' \
+        '--entry entry context|load --entry entry --json -- context|debug --entry entry -- context'; do
         : > called
         # (the words have no blanks)
         # shellcheck disable=SC2086

@@ -104,6 +104,18 @@ if has python3 'bpfdb-symbols'; then
     convert --registers bpf overrun.o none.sym
     grep -q "invalid choice: 'bpf'" found/err || complain 'bpfdb-symbols --registers bpf'
 
+    # What isn't its own goes to `link`, which refuses what it doesn't take; and there are two files.
+    for words in '--frob' '--steps 5' '--section' 'other'; do
+        # shellcheck disable=SC2086
+        "$program" link overrun.o $words < /dev/null > /dev/null 2> wanted/err
+        grep -q '^error: ' wanted/err || complain "tests/program/symbols.sh: bpfdb takes $words"
+        # shellcheck disable=SC2086
+        convert overrun.o none.sym $words
+        check "bpfdb-symbols $words" 2 '' "$(text wanted/err)"
+    done
+    convert overrun.o
+    check 'bpfdb-symbols of one file' 2 '' 'bpfdb-symbols: OBJECT and OUTPUT are wanted\n'
+
     # What is damaged is refused by a line.
     python3 "$objects" damaged "$top/share/bpfdb-symbols" overrun.o > found/damaged
     : > wanted/damaged
@@ -159,8 +171,8 @@ if has python3 'bpfdb-symbols'; then
     [ "$(field x86.sym 16)" = $((2 + 65536 * 62 + 4294967296)) ] || complain 'bpfdb-symbols --listing: a program for x86-64'
     [ "$(field riscv.sym 16)" = $((2 + 65536 * 243 + 4294967296)) ] || complain 'bpfdb-symbols --listing: a program for RISC-V'
     converted --listing empty.s empty.sym
-    PATH=/usr/bin:/bin BPFDB= refused_object 'there is no program bpfdb' sum.s --listing
-    PATH=/usr/bin:/bin BPFDB= refused_object 'there is no program bpfdb' overrun.o
+    PATH=/usr/bin:/bin BPFDB= convert --listing sum.s none.sym
+    check 'bpfdb-symbols without bpfdb' 2 '' 'bpfdb-symbols: there is no program bpfdb\n'
 
     # The object that the clang which is here makes of the same C, where it knows BPF, has the same fault.
     if has_clang 'bpfdb-symbols of objects that are compiled here'; then
@@ -233,13 +245,35 @@ C
         # A program that takes the kernel's struct of a packet stands behind the slots that give it that.
         printf 'struct xdp_md { unsigned data, data_end; };\n__attribute__((section("prog"))) int entry(struct xdp_md *ctx) { return ctx->data_end - ctx->data; }\n' > taken.c
         clang -g -O1 -fstack-size-section -target bpf -c -o taken.o taken.c
-        converted --packet xdp taken.o taken.sym
+        converted --struct xdp taken.o taken.sym
         python3 "$objects" sections taken.sym | grep -v ' .debug' > found/sections
         printf '%s\n' '0 ' '68 prog' '0 _start' '0 .symtab' '0 .strtab' '0 .shstrtab' > wanted/sections
         same 'the sections of taken.sym' wanted/sections found/sections
         od -A n -t x1 -j 24 -N 8 taken.sym > found/begin
         echo ' 68 00 00 00 00 00 00 00' > wanted/begin
         same 'the entry of taken.sym' wanted/begin found/begin
+
+        # What is joined to an object lies behind its code, with functions and lines of its own; the object's functions are found wherever they lie. (The
+        # entry of a packet has 13 slots, and of the kernel's struct of tc 26; the library is one function of 2 instructions.)
+        cat > mock.c <<'C'
+long bpf_ktime_get_ns(void)
+{
+	return 7;
+}
+C
+        cat > timed.c <<'C'
+struct __sk_buff { unsigned len; };
+static long (*now)(void) = (void *)5;
+static __attribute__((noinline)) long twice(long n) { return n * now(); }
+__attribute__((section("prog"))) int entry(struct __sk_buff *ctx) { return twice(ctx->len); }
+C
+        clang -g -O1 -target bpf -c mock.c
+        clang -g -O1 -fstack-size-section -target bpf -c timed.c
+        converted --struct tc --with=mock.o timed.o timed.sym
+        python3 "$objects" functions timed.sym > found/functions
+        { echo '0 _start' && "$program" lines --struct tc --with mock.o timed.o | awk '$3 != told { printf "%x %s\n", 8 * $1, $3 } { told = $3 }'; } > wanted/functions
+        same 'the functions of timed.sym' wanted/functions found/functions
+        [ "$(field timed.sym 24)" = $((8 * 26)) ] || complain 'bpfdb-symbols timed.o: the entry'
 
         # gdb obeys scripts and looks for files that sections of some names tell of. So they are left out, and data of such a name have another.
         cat > scripts.c <<'C'

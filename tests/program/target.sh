@@ -51,7 +51,7 @@ needs() {
         # shellcheck disable=SC2086
         refused 'refused E1: no ELF file' $subcommand "$@" words $what
         # shellcheck disable=SC2086
-        [ "$subcommand" = lines ] || usage "'--section', '--entry', '--entries', '--stub', '--as-compiled', '--packet' and '--with' are of objects: without '--words', '--listing' and '--maps'" $subcommand "$@" --words words $what
+        [ "$subcommand" = lines ] || usage "'--section', '--entry', '--entries', '--stub', '--fields', '--struct' and '--with' are of objects: without '--words', '--listing' and '--maps'" $subcommand "$@" --words words $what
     done
 }
 
@@ -70,13 +70,15 @@ for compiler in $compilers; do
     each 0x384 '--section first --with late.o --with clock.o' reads.o
     each 0xc8 '--section first --stub 5=2' reads.o
     each 0xc9 '--section first --stub ktime_get_ns=2 --entries few=4' reads.o
-    each 0x2bd '--section first --with clock.o --entries few=4 --as-compiled' reads.o
+    each 0x2bd '--section first --with clock.o --entries few=4 --as-compiled --fields compiled' reads.o
     each 0x7 '--section second --entry two' reads.o
     each 0x8 '--section second --entry three' reads.o
     each 0x9 '--entry two --entry three@1' reads.o
     each 0x384 '--entry two --entry clock --with late.o' reads.o
     each 0x53 '--packet xdp' packet.o
-    each 0x53 '--packet xdp --with clock.o --section xdp --entry first_byte' packet.o
+    each 0x53 '--struct xdp' packet.o
+    each 0x53 '' packet.o
+    each 0x53 '--struct xdp --with clock.o --section xdp --entry first_byte' packet.o
 
     # What is refused is what `link` refuses, with the object whose fault it is.
 
@@ -94,5 +96,5 @@ for compiler in $compilers; do
         compare "$subcommand with an object that is cut"
     done
     needs --with clock.o
-    needs --packet xdp
+    needs --struct xdp
 done

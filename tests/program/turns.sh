@@ -116,14 +116,14 @@ exit'
     [ "$(awk '$NF == "-"' found/out | wc -l)" = 13 ] || complain "lines of the calls: $(cat found/out)"
     for row in 'store prog/one' 'take prog/two' 'count prog/two' 'call prog/two' 'twice prog/one' 'field prog/field' 'fields prog/fields'; do
         set -- $row
-        lines_of "$1" --as-compiled --section "$2" --entry "$( [ "$1" = twice ] && echo store || echo "$1")" > found/wanted
-        lines_of "$1" --as-compiled --entry store --entry take --entry field --entry fields > found/out
+        lines_of "$1" --section "$2" --entry "$( [ "$1" = twice ] && echo store || echo "$1")" > found/wanted
+        lines_of "$1" --entry store --entry take --entry field --entry fields > found/out
         [ -s found/wanted ] || complain "lines of $1 alone: $(cat told)"
         same "lines of $1 in turn" found/wanted found/out
     done
     # (by the source: the second line of each is told, and no other)
     count=$((count + 1))
-    [ "$(lines_of fields --as-compiled --entry fields --entry store | sed 's/.*pair.c:\([0-9]*\) .*/\1/')" = "$(grep -n 'it->one + 10' "$parts/turns/pair.c" | cut -d : -f 1)" ] || complain "line of fields: $(lines_of fields --as-compiled --entry fields --entry store)"
+    [ "$(lines_of fields --entry fields --entry store | sed 's/.*pair.c:\([0-9]*\) .*/\1/')" = "$(grep -n 'it->one + 10' "$parts/turns/pair.c" | cut -d : -f 1)" ] || complain "line of fields: $(lines_of fields --entry fields --entry store)"
     # One entry and no place make no turn: its section is the one in which it lies.
     "$program" link --section prog/one --entry store pair.o > found/wanted 2> told || complain "one entry: $(cat told)"
     "$program" link --entry store pair.o > found/out 2> told || complain "one entry, without its section: $(cat told)"
@@ -134,31 +134,37 @@ exit'
 
     # Of the packet 03 05: 3 + 10 * 5.
     printf '\003\005' > packet
-    "$program" link --packet xdp --entry one --entry two packets.o > words 2> told || complain "packets: $(cat told)"
+    "$program" link --struct xdp --entry one --entry two packets.o > words 2> told || complain "packets: $(cat told)"
     result '0x35\n' run $(told_maps) -m packet words
 
     # Relocations of fields are those of all programs, 1 and 2. The calls have thirteen slots before them: two, five for each, and an exit.
-    slot=$("$program" link --section prog/field pair.o 2>&1 | sed -n 's/^refused E36 at slot \([0-9]*\): .*/\1/p')
-    refused "refused E36 at slot $((slot + 13)): relocations of fields, 3 in all: --as-compiled leaves them undone: prog/field" link --entry field --entry fields pair.o
-    "$program" link --as-compiled --entry field --entry fields pair.o > words 2> told || complain "fields: $(cat told)"
+    slot=$("$program" link --fields strict --section prog/field pair.o 2>&1 | sed -n 's/^refused E36 at slot \([0-9]*\): .*/\1/p')
+    refused "refused E36 at slot $((slot + 13)): relocations of fields, 3 in all: --fields compiled leaves them undone: prog/field" link --fields strict --entry field --entry fields pair.o
+    "$program" link --entry field --entry fields pair.o > words 2> told || complain "fields: $(cat told)"
     count=$((count + 1))
-    [ "$(cat told)" = 'fields left by --as-compiled: 3' ] || complain "fields: $(cat told)"
+    [ "$(cat told)" = 'fields left as compiled: 3' ] || complain "fields: $(cat told)"
     # 3 + 10 * 0 of `fields`, whose ints lie in the first 8 bytes; `field` before it has the second 8, 5.
     result '0x3\n' run -m context words
-    "$program" link --as-compiled --entry fields --entry field@8 pair.o > words 2> told || complain "fields: $(cat told)"
+    "$program" link --entry fields --entry field@8 pair.o > words 2> told || complain "fields: $(cat told)"
     result '0x5\n' run -m context words
     # (where the first one has none, those of the others count, too)
-    "$program" link --as-compiled --entry store --entry fields pair.o > words 2> told || complain "fields: $(cat told)"
+    "$program" link --entry store --entry fields pair.o > words 2> told || complain "fields: $(cat told)"
     count=$((count + 1))
-    grep -qx 'fields left by --as-compiled: 2' told || complain "fields behind a program without any: $(cat told)"
+    grep -qx 'fields left as compiled: 2' told || complain "fields behind a program without any: $(cat told)"
     result '0x3\n' run $(told_maps) -m context words
 
-    # Symbols of programs in turn are those of their object, which link writes.
-    BPFDB=$program "$top/share/bpfdb-symbols" --entry store --entry take pair.o symbols > found/out 2> found/err
-    echo $? > found/status
-    check 'bpfdb-symbols of programs in turn' 2 '' "bpfdb-symbols: pair.o: programs in turn: the object that 'bpfdb link --joined' writes of them has their symbols\n"
-    "$program" link --joined --entry store --entry take@8 pair.o > joined.o && BPFDB=$program "$top/share/bpfdb-symbols" joined.o symbols 2> found/err || complain "symbols: $(cat found/err)"
-    count=$((count + 1))
+    # Symbols of programs in turn, of the object itself and of the one that link writes of them: functions at which `lines` tells them.
+    for words in '--entry store --entry take@8 pair.o' joined.o; do
+        # shellcheck disable=SC2086
+        case $words in joined.o) "$program" link --joined --entry store --entry take@8 pair.o > joined.o || complain 'link --joined of programs in turn' ;; esac
+        # shellcheck disable=SC2086
+        BPFDB=$program "$top/share/bpfdb-symbols" $words symbols 2> found/err || complain "symbols of $words: $(cat found/err)"
+        python3 "$top/tests/trials/objects.py" functions symbols | grep -v -e ' _start$' -e ' _setup$' > found/functions
+        # shellcheck disable=SC2086
+        "$program" lines $words | awk '$3 != told && $3 != "-" { printf "%x %s\n", 8 * $1, $3 } { told = $3 }' > wanted/functions
+        [ -s wanted/functions ] || complain "lines of $words"
+        same "the functions of $words" wanted/functions found/functions
+    done
 
     # Without debug information there is nothing to move but the code.
     "$compiler" -O2 -target bpf -c "$parts/turns/pair.c" -o pair.o
@@ -174,7 +180,7 @@ exit'
     done
     # shellcheck disable=SC2046
     usage "the argument '--entry <NAME>' is used more than 16 times" link $(entries $(yes count | head -n 17)) pair.o
-    usage "'--section', '--entry', '--entries', '--stub', '--as-compiled', '--packet' and '--with' are of objects: without '--words', '--listing' and '--maps'" run --listing --entry store --entry take words
+    usage "'--section', '--entry', '--entries', '--stub', '--fields', '--struct' and '--with' are of objects: without '--words', '--listing' and '--maps'" run --listing --entry store --entry take words
     refused 'refused E1: no ELF file' run --entry store --entry take words
     refused 'refused E31: no such function in the code section: none' link --entry store --entry none pair.o
     refused 'refused E31: no such function in the code section: none' link --entry none@8 --entry nothing pair.o

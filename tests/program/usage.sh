@@ -132,7 +132,7 @@ usage "unexpected argument '--Steps' found" run --Steps 7 first
 usage "unexpected argument 'second' found" run first second
 usage 'a value is none of those that its option takes' gdb --registers arm first
 # Options that don't go together: FILE is one thing, an object has its own maps, and of a link is asked where FILE is an object.
-of_objects="'--section', '--entry', '--entries', '--stub', '--as-compiled', '--packet' and '--with' are of objects: without '--words', '--listing' and '--maps'"
+of_objects="'--section', '--entry', '--entries', '--stub', '--fields', '--struct' and '--with' are of objects: without '--words', '--listing' and '--maps'"
 for subcommand in run trace debug origin whynot diff gdb disasm check load; do
     what=''
     [ $subcommand != whynot ] || what=0
@@ -145,7 +145,7 @@ for subcommand in run trace debug origin whynot diff gdb disasm check load; do
     usage "the argument '--object' cannot be used with '--listing'" $subcommand --listing --maps 8x2 --section a --object first $what
     usage "the argument '--object' cannot be used with '--maps <VxN,VxN>'" $subcommand --maps 8x2 --object first $what
     usage "the argument '--object' cannot be used with '--maps <VxN,VxN>'" $subcommand --object first $what --maps=
-    for option in --section=a --section= --entry=a --stub=5=0 --as-compiled --packet=xdp --with=a; do
+    for option in --section=a --section= --entry=a --stub=5=0 --as-compiled --fields=strict --struct=xdp --packet=xdp --with=a; do
         usage "$of_objects" $subcommand $option --maps 8x2 first $what
         usage "$of_objects" $subcommand first $what --listing $option
         usage "$of_objects" $subcommand first $what $option --words
@@ -300,9 +300,8 @@ for tool in conformance show dap page shell symbols; do
     }
 done
 # argparse knows no other options than help tells.
-for tool in dap symbols; do
-    has python3 "options of bpfdb-$tool" || continue
-    "$top/share/bpfdb-$tool" --help < /dev/null | grep -o -e '--[a-z]*' | sort -u > wanted/options
-    { "$top/share/bpfdb-$tool" --frob < /dev/null 2>&1 | sed '/error:/d' | grep -o -e '--[a-z]*'; echo --help; } | sort -u > found/options
-    same "bpfdb-$tool: options of its help" wanted/options found/options
-done
+if has python3 'options of bpfdb-dap'; then
+    "$top/share/bpfdb-dap" --help < /dev/null | grep -o -e '--[a-z]*' | sort -u > wanted/options
+    { "$top/share/bpfdb-dap" --frob < /dev/null 2>&1 | sed '/error:/d' | grep -o -e '--[a-z]*'; echo --help; } | sort -u > found/options
+    same "bpfdb-dap: options of its help" wanted/options found/options
+fi

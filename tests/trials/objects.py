@@ -4,7 +4,8 @@ objects.py names|maps|data COUNT FILE   writes an object that has so many sectio
                                         with the address of the next
 objects.py produced OBJECT FILE NAME    writes an object of clang's with another producer, which is no longer than its own
 objects.py damaged SCRIPT OBJECT        lets the script take the object with bytes changed, and cut off: tells what ends with other than a line
-objects.py sections FILE                the sections of an ELF file, each with its address and its name"""
+objects.py sections FILE                the sections of an ELF file, each with its address and its name
+objects.py functions FILE               its functions, the same way, by their addresses"""
 import contextlib
 import importlib.machinery
 import importlib.util
@@ -17,7 +18,7 @@ import traceback
 
 BPF = 247
 HEADER, SECTION, SYMBOL, RELOCATION = "<4sBBB9xHHIQQQIHHHHHH", "<IIQQQQIIQQ", "<IBxHQQ", "<QQ"
-CONTENTS, SYMBOLS, STRINGS, RELOCATIONS = 1, 2, 3, 9
+CONTENTS, SYMBOLS, STRINGS, RELOCATIONS, FUNCTION = 1, 2, 3, 9, 2
 IN_MEMORY, CODE = 2, 4
 OBJECT, GLOBAL, LOCAL = 1, 16, 0
 EXIT = bytes([0x95]) + bytes(7)
@@ -73,6 +74,14 @@ def sections_of(file):
     return [(bytes(file[strings + row[0]:file.index(0, strings + row[0])]).decode(), row[3], row[4], row[5]) for row in rows]
 
 
+def functions_of(file):
+    """The functions: address and name."""
+    parts = {name: (at, size) for name, _, at, size in sections_of(file)}
+    (at, size), (strings, _) = parts[".symtab"], parts[".strtab"]
+    rows = [struct.unpack_from(SYMBOL, file, place) for place in range(at, at + size, struct.calcsize(SYMBOL))]
+    return sorted((row[3], bytes(file[strings + row[0]:file.index(0, strings + row[0])]).decode()) for row in rows if row[1] & 15 == FUNCTION)
+
+
 def changes(file):
     """The file with a byte of its sections' headers or of its abbreviations changed, and cut off."""
     start, = struct.unpack_from("<Q", file, 40)
@@ -123,6 +132,10 @@ def main(what, *words):
     elif what == "sections":
         with open(words[0], "rb") as opened:
             for name, address, _, _ in sections_of(opened.read()):
+                print("%x %s" % (address, name))
+    elif what == "functions":
+        with open(words[0], "rb") as opened:
+            for address, name in functions_of(opened.read()):
                 print("%x %s" % (address, name))
     else:
         made = {"names": names, "maps": maps, "data": data}[what](int(words[0]))

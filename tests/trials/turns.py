@@ -1,6 +1,6 @@
 """Lets bpfdb link programs in turn of damaged objects: 'turns.py OBJECT PROGRAM'. Bytes of the tables are changed, and the object is cut off: what comes of
 it is words or a line of why not, in a moment. Of each byte of .BTF.ext that is changed, another reader of it here says what comes: the relocations of
-fields of these programs, which --as-compiled counts, or E53. At the end it tells how many trials held."""
+fields of these programs, which link counts, or E53. At the end it tells how many trials held."""
 import os
 import struct
 import subprocess
@@ -83,7 +83,7 @@ def linked(program, changed):
         file.write(changed)
         file.flush()
         entries = [word for name in ENTRIES for word in ('--entry', name)]
-        done = subprocess.run([program, 'link', '--as-compiled', *entries, file.name], capture_output=True, timeout=10, check=False)
+        done = subprocess.run([program, 'link', *entries, file.name], capture_output=True, timeout=10, check=False)
     return done.returncode, len(done.stdout), done.stderr.decode(errors='replace')
 
 
@@ -98,11 +98,13 @@ def hold(program, changed, what):
 def hold_ext(program, changed, strings, at, size, what):
     """What comes of an object whose .BTF.ext was changed is what the reader here says."""
     try:
-        wanted = 0, f'fields left by --as-compiled: {fields_in(bytes(changed[at:at + size]), strings)}\n'
+        count = fields_in(bytes(changed[at:at + size]), strings)
+        wanted = 0, f'fields left as compiled: {count}\n' if count else ''
     except Malformed:
         wanted = 2, 'refused E53: malformed section .BTF.ext\n'
     status, _, told = linked(program, changed)
-    if status != wanted[0] or not told.endswith(wanted[1]) or status and told != wanted[1]:
+    left = told[told.find('fields left'):] if 'fields left' in told else ''
+    if status != wanted[0] or (told if status else left) != wanted[1]:
         raise AssertionError(f'{what}: status {status}, and not {wanted}: {told}')
     return 1
 

@@ -42,7 +42,7 @@ const firewall = { "firewall.bin": file("firewall/program.bin"), "context.bin": 
   "firewall.o": hex("firewall/object.hex") };
 same("a packet that should be dropped", "0|0x2\n|", await told(["run", "--maps", "8x5", "-m", "context.bin", "firewall.bin"], { files: firewall }));
 same("why not", "0|exited at 12: r0 0x2\n-14 31: jne r5, 8, L52; r5 = 0xdd86; jumped to 52; in firewall (firewall.c:47)\n|", await told(
-  ["whynot", "--alone", "--object", "--section", "xdp", "--entry", "bpfdb", "-m", "ipv6.bin", "firewall.o", "firewall.c:54"], { files: firewall }));
+  ["whynot", "--alone", "--object", "-m", "ipv6.bin", "firewall.o", "firewall.c:54"], { files: firewall }));
 
 // 64 bits, to their last one.
 const large = { "large.s": "lddw r0, 0xfedcba9876543210\nlddw r1, 0x8000000000000003\nmul r0, r1\nexit\n" };

@@ -253,10 +253,10 @@ def damaged(page, trials, top):
     whole = bytes.fromhex(read(top, 'examples', 'firewall', 'object.hex'))
     marked = whole.replace(b'firewall.c', b'<b id=a>.c').replace(b'firewall\0', b'<i>x</i>\0')
     files, lines = {'ipv6.bin': content(top, 'examples', 'firewall', 'ipv6.bin'), 'marked.o': marked}, []
-    lines.append("whynot --alone --object --entry bpfdb -m ipv6.bin marked.o '<b id=a>.c:54'")
+    lines.append("whynot --alone --object -m ipv6.bin marked.o '<b id=a>.c:54'")
     for number, data in enumerate(turned(whole, 24)):
         files[f'object-{number}.o'] = data
-        lines.append(f'whynot --alone --object --entry bpfdb -m ipv6.bin object-{number}.o firewall.c:54')
+        lines.append(f'whynot --alone --object -m ipv6.bin object-{number}.o firewall.c:54')
     for number, data in enumerate(turned(content(top, 'examples', 'xdp', 'packets.pcap'), 12)):
         files[f'capture-{number}.pcap'] = data
         files[f'capture-{number}.test'] = f'-- listing\nldxb r0, [r1+37]\nexit\n-- packet capture-{number}.pcap 2\n-- result\n80\n'.encode()

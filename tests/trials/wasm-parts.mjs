@@ -4,7 +4,7 @@ import fs from "node:fs";
 
 const [, , path] = process.argv;
 const module = new WebAssembly.Module(fs.readFileSync(path));
-const HOST = Object.fromEntries(["read", "write", "open", "close", "isatty", "word"].map((name) => [name, () => -1]));
+const HOST = Object.fromEntries(["read", "write", "open", "close", "isatty", "word", "variable"].map((name) => [name, () => -1]));
 let count = 0, failures = 0;
 
 function same(what, wanted, found) {

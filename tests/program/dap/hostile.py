@@ -68,8 +68,19 @@ def out_of_order():
     hold(editor.refused('launch', program='overrun.o', maps='x', over='bpfdb'), 'refused M5: malformed map list', 'no maps')
     hold(editor.refused('launch', program='overrun.o', over='lldb'), 'over: gdb or bpfdb is wanted', 'another debugger')
     for words, why in (({'contex': 'context.bin'}, 'contex: is context meant?'), ({'stopAtEntry': False}, 'stopAtEntry: is stopOnEntry meant?'),
-                       ({'x' * 999: 1}, 'x' * 80 + ': it takes asCompiled, context, '), ({'Over': 'gdb', 'type': 'bpfdb'}, 'Over: is over meant?')):
+                       ({'': 1}, ''), ({'frob=--steps': 1}, 'frob=--steps'), ({'frob': False}, 'frob'), ({'frob': None}, 'frob'), ({'Over': 'gdb', 'type': 'bpfdb'}, 'Over: is over meant?')):
         hold(editor.refused('launch', program='overrun.o', **words)[:len('launch takes no ' + why)], 'launch takes no ' + why, f'a word that is none: {why}')
+    # (what isn't the adapter's is bpfdb's, and is refused by it: names in camel case have hyphens there, and lists give an option several times)
+    for words, why in (({'x' * 999: 1}, 'unexpected argument \'--' + 'x' * 999), ({'noSuchWord': True}, "unexpected argument '--no-such-word' found"),
+                       ({'args': ['--frob']}, "unexpected argument '--frob' found"), ({'args': ['overrun.o']}, "unexpected argument 'overrun.o' found"),
+                       ({'steps': [7, '8']}, "the argument '--steps <N>' cannot be used multiple times"), ({'steps': 'x'}, "invalid value 'x' for '--steps <N>'"),
+                       ({'args': ['-m']}, "a value is required for '--mem <PATH>' but none was supplied")):
+        hold(editor.refused('launch', program='overrun.o', **words)[:len('error: ' + why)], 'error: ' + why, f'a word for bpfdb: {why[:60]}')
+    for words, why in (({'args': '--words'}, 'args: a list of texts is wanted'), ({'args': [7]}, 'args: a list of texts is wanted'),
+                       ({'stub': {}}, 'stub: a text, a whole number, true, false or a list of these is wanted'),
+                       ({'args': ['a\0']}, 'args: a text without a byte zero and half characters is wanted')):
+        hold(editor.refused('launch', program='overrun.o', **words), why, f'another kind: {why}')
+    hold(editor.refused('launch', program='overrun.o', cwd='missing')[:len('cwd: No such file')], 'cwd: No such file', 'no folder')
     hold(editor.refused('launch', program='far.s'), 'refused C8 at slot 1: target is no instruction', 'a refused program')
     hold(editor.refused('launch', program='wrong.s'), 'refused A1 at line 1: unknown mnemonic', 'a refused listing')
     # (what VS Code, dap-mode and Kate add)

@@ -213,6 +213,38 @@ def other_programs():
 
 
 @trial
+def joined():
+    """An object that is joined to another one: its file, a function of it, and the file that its lines name are called so."""
+    name = 'j"$(touch pwned)`touch pwned`;'
+    with open('joined.c', 'w') as file:
+        file.write(f"""static long f(long n) __asm__("{name.replace('"', chr(92) + '"')}\\nshell touch pwned\\033[8m");
+# 2 "j$(touch pwned)\\nshell touch pwned\\n\\033[8m.c"
+static __attribute__((noinline)) long f(long n) {{ return n * 3; }}
+long bpf_ktime_get_ns(void) {{ volatile long seven = 7; return f(seven); }}
+""")
+    with open('timed.c', 'w') as file:
+        file.write('static long (*now)(void) = (void *)5; __attribute__((section("prog"))) long timed(void) { return now(); }\n')
+    for built_of, made in (('joined', f'{name}.o'), ('timed', 'timed.o')):
+        subprocess.run(['clang', '-g', '-O1', '-target', 'bpf', '-c', f'{built_of}.c', '-o', made], check=True)
+    for over in ('gdb', 'bpfdb'):
+        editor = Editor()
+        hold(editor.open('timed.o', over=over, args=['--with', f'{name}.o'])[1], 'timed', f'the entry over {over}')
+        editor.ask('setFunctionBreakpoints', breakpoints=[{'name': 'bpf_ktime_get_ns'}])
+        hold(editor.go('continue')[1:], ('bpf_ktime_get_ns', 3), f'the function over {over}')
+        hold(editor.go('stepIn')[2], 2, f'the one that it calls over {over}')
+        hold(editor.go('continue')[0], 'exited', f'the end over {over}')
+        hold(editor.body['description'].split(': ')[1], 'r0 0x15', f'three times 7 over {over}')
+        editor.leave()
+        unharmed(f'a joined object over {over}')
+    hold('in bpf_ktime_get_ns' in ran('bpfdb-shell', f'{SHARE}/bpfdb-shell', '--with', f'{name}.o', 'timed.o', typed='b bpf_ktime_get_ns\nc\nbt\ninfo functions\n'), True, 'bt')
+    ran('bpfdb-page', f'{SHARE}/bpfdb-page', '-o', 'page.html', '--with', f'{name}.o', 'timed.o')
+    with open('page.html', 'rb') as page:
+        hold(unseen(page.read().decode().replace('\t', ' '), True), '', 'the page')
+    ran('bpfdb-symbols', f'{SHARE}/bpfdb-symbols', '--with', f'{name}.o', 'timed.o', 'made.sym')
+    ran('bpfdb-events', f'{SHARE}/bpfdb-events', '--with', f'{name}.o', 'timed.o')
+
+
+@trial
 def files():
     """Objects, contexts and folders that are called so."""
     with open('context.bin', 'rb') as file:

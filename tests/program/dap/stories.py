@@ -82,7 +82,7 @@ def readme():
 @story
 def firewall():
     """README's second session: the packet to port 23 that passes, where its port is read, a word further on, and back."""
-    editor, _ = started('firewall.o', section='xdp', entry='bpfdb', context='packet.bin')
+    editor, _ = started('firewall.o', context='packet.bin')
     source = {'path': os.path.join(HERE, 'firewall.c')}
     hold(editor.ask('setBreakpoints', source=source, breakpoints=[{'line': 54}])['breakpoints'][0]['verified'], True, 'the breakpoint')
     hold(editor.go('continue')[::2], ('breakpoint', 54), 'where the port is read')
@@ -108,9 +108,40 @@ def firewall():
 
 
 @story
+def joined():
+    """A program with a hash, as the kernel loads it, whose helpers other objects answer: words of bpfdb in a list, as words of the launch, and from
+    another folder. (The packet is of IPv6, 0x86dd, and the first of its protocol, so it passes.)"""
+    if not os.path.isfile('limit.o'):
+        return
+    os.makedirs('joined', exist_ok=True)
+    for program, words in (('limit.o', {'args': ['--struct', 'xdp', '--with', 'bpfdb-linux.o', '-mipv6.bin']}),
+                           ('limit.o', {'packet': 'xdp', 'with': ['mock.o', 'bpfdb-linux.o'], 'context': 'ipv6.bin', 'asCompiled': True, 'object': False}),
+                           ('../limit.o', {'cwd': 'joined', 'context': '../ipv6.bin', 'args': ['--with=../mock.o', '--struct=xdp', '--object']})):
+        editor, stop = started(program, **words)
+        hold(stop[:2], ('entry', 'limit'), f'the entry by {words}')
+        hold(editor.lines(os.path.join(HERE, 'limit.c'), 22), [(True, 22)], 'the breakpoint')
+        hold(editor.go('continue'), ('breakpoint', 'is_known', 22), 'where an entry is made')
+        frames = editor.ask('stackTrace', threadId=1)['stackFrames']
+        hold([(frame['name'], frame['line'], frame['source']['name']) for frame in frames[:2]], [('is_known', 22, 'limit.c'), ('limit', 33, 'limit.c')], 'frames')
+        if OVER == 'gdb':
+            hold(editor.ask('evaluate', expression='protocol', frameId=frames[0]['id'])['result'], '34525', 'a variable')
+        if 'mock.o' in str(words):
+            hold(editor.go('stepIn'), ('step', 'bpf_map_update_elem', 9), "into a joined object's function")
+            hold(editor.go('stepOut')[1], 'is_known', 'out of it')
+        hold(editor.go('continue')[0], 'exited', 'the end')
+        hold(editor.body['description'], 'exited at 12: r0 0x2', 'XDP_PASS')
+        hold(editor.refused('bpfdb/whynot', what='limit.c:32'), 'there is no instruction at limit.c:32: the nearest are at limit.c:31, limit.c:33', 'why not')
+        hold(editor.go('reverseContinue'), ('breakpoint', 'is_known', 22), 'back')
+        hold(editor.hand('info frames').split('\n')[0], 'depth 2', 'the depth, below what gives the packet')
+        editor.ask('restart')
+        hold(editor.stop()[:2], ('entry', 'limit'), 'the entry again')
+        left(editor)
+
+
+@story
 def whynot():
     """README's packet of IPv6, which doesn't come to the port: the same answer of a line, of a slot, and behind a colon."""
-    editor, _ = started('firewall.o', section='xdp', entry='bpfdb', context='ipv6.bin')
+    editor, _ = started('firewall.o', context='ipv6.bin')
     hold(editor.go('continue')[0], 'exited', 'the end')
     before = editor.state()
     branch = '-14 31: jne r5, 8, L52; r5 = 0xdd86; jumped to 52' + ('; in firewall (firewall.c:47)' if OVER == 'bpfdb' else '')

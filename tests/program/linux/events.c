@@ -102,6 +102,68 @@ OWN_TEST(output_full)
 	return 0;
 }
 
+/* What a decoder of a remote control sends. */
+OWN_TEST(keys_and_pointers)
+{
+	WANT(rc_keydown(context, 0x40, 0x1122334455667788, 2) == 0);
+	WANT(rc_repeat(context) == 0);
+	WANT(rc_pointer_rel(context, -1, 5) == 0);
+	return 0;
+}
+
+OWN_TEST(signals)
+{
+	WANT(send_signal(9) == 0 && send_signal_thread(64) == 0);
+	WANT(send_signal(65) == -EINVAL && send_signal_thread(0xffffffff) == -EINVAL);
+	/* (number 0 asks whether one may) */
+	WANT(send_signal(0) == 0);
+	bpfdb_world.tgid = 1;
+	WANT(send_signal(9) == -EPERM && send_signal_thread(0) == -EPERM);
+	return 0;
+}
+
+/* A copy of the packet, which stays as it is. */
+OWN_TEST(packet_to_an_interface)
+{
+	struct { u64 data, data_end, data_meta; } packet = { (u64)context + 1, (u64)context + 6, (u64)context + 1 };
+
+	WANT(clone_redirect(&packet, 3, 0) == 0 && clone_redirect(&packet, 4, 1) == 0);
+	WANT(clone_redirect(&packet, 3, 2) == -EINVAL && clone_redirect(&packet, 0, 0) == -EINVAL &&
+	     clone_redirect(&packet, 0x80000000, 0) == -EINVAL);
+	WANT(packet.data == (u64)context + 1 && bpfdb_world.redirected_to == 0);
+	return 0;
+}
+
+#define SEQ(FORMAT, ...) ({ \
+		u64 arguments[] = { __VA_ARGS__ }; \
+		seq_printf(NULL, FORMAT, sizeof(FORMAT), arguments, sizeof(arguments)); \
+	})
+
+OWN_TEST(file_of_an_iterator)
+{
+	u8 bytes[3] = { 'x', 0, '\n' };
+
+	WANT(seq_printf(NULL, "name pid\n", 10, NULL, 0) == 0);
+	WANT(SEQ("%s %5d\n", (u64)"init", 1) == 0);
+	WANT(seq_write(NULL, bytes, 3) == 0 && seq_write(NULL, bytes, 0) == 0);
+	WANT(SEQ("%d %d", 1) == -EINVAL && SEQ("%z", 1) == -EINVAL && seq_printf(NULL, "%d", 3, bytes, 7) == -EINVAL);
+	WANT(seq_printf(NULL, "%d", 3, NULL, 8) == -EINVAL && seq_printf(NULL, "no end", 4, NULL, 0) == -EINVAL);
+	return 0;
+}
+
+/* One call writes at most 1,023 bytes; and the output has an end. */
+OWN_TEST(file_without_room)
+{
+	u32 key = 0;
+	u8 *bytes = map_lookup(&filler, &key);
+
+	WANT(SEQ("%1023d", 1) == 0 && SEQ("%1024d", 1) == -EOVERFLOW);
+	WANT(bytes && seq_write(NULL, bytes, 60000) == 0 && seq_write(NULL, bytes, 6000) == -EOVERFLOW);
+	WANT(bpfdb_world.no_room == 1 && seq_write(NULL, bytes, 2800) == 0);
+	WANT(SEQ("%d", 1) == -EOVERFLOW && rc_keydown(context, 1, 2, 0) == 0 && bpfdb_world.no_room == 2);
+	return 0;
+}
+
 #define PRINT(FORMAT, ...) trace_printk(FORMAT, sizeof(FORMAT), ##__VA_ARGS__)
 
 TEST(texts)
@@ -122,7 +184,8 @@ TEST(texts)
 	WANT(PRINT("%pks", "kernel") == 6);
 	OWN_WANT(PRINT("%pus", "user") == 4);
 	WANT(PRINT("%p ", 1) == 17);
-	OWN_WANT(PRINT("%pI4", "addr") == -EOPNOTSUPP && PRINT("%ps", "symbol") == -EOPNOTSUPP && PRINT("%pk", 1) == -EOPNOTSUPP);
+	OWN_WANT(PRINT("%pI4", "addr") == -EOPNOTSUPP && PRINT("%ps", "symbol") == -EOPNOTSUPP &&
+	     PRINT("%pk", 1) == -EOPNOTSUPP);
 	WANT(PRINT("%z", 1) == -EINVAL);
 	WANT(trace_printk("%d %d %d %d", 12, 1, 2, 3) == -EINVAL);
 	WANT(trace_printk(open_end, 3) == -EINVAL);

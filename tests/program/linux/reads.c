@@ -68,6 +68,17 @@ OWN_TEST(bytes_that_may_sleep)
 	return 0;
 }
 
+#define COPY_OF_TASK(TO, SIZE, FROM) copy_from_user_task(TO, SIZE, FROM, context, 0)
+
+OWN_TEST(bytes_of_a_task)
+{
+	u8 to[16];
+
+	BYTES(COPY_OF_TASK);
+	WANT(copy_from_user_task(to, 2, context, context, 1) == -EINVAL && to[0] == 14);
+	return 0;
+}
+
 /* Frames are read up to the reader's own, and maps, wherever values lie. */
 OWN_TEST(bytes_of_frames_and_maps)
 {

@@ -69,6 +69,87 @@ OWN_TEST(rest_is_told)
 	return 0;
 }
 
+/* A cgroup that isn't the root is right below it. */
+OWN_TEST(ancestors_of_the_cgroup)
+{
+	WANT(get_current_ancestor_cgroup_id(0) == 1 && get_current_ancestor_cgroup_id(1) == 0 &&
+	     get_current_ancestor_cgroup_id(-1) == 0);
+	bpfdb_world.cgroup = 77;
+	WANT(get_current_ancestor_cgroup_id(0) == 1 && get_current_ancestor_cgroup_id(1) == 77 &&
+	     get_current_ancestor_cgroup_id(2) == 0);
+	WANT(sk_cgroup_id(context) == 77 && sk_ancestor_cgroup_id(context, 1) == 77 &&
+	     sk_ancestor_cgroup_id(context, 2) == 0);
+	return 0;
+}
+
+OWN_TEST(task_in_a_namespace)
+{
+	u32 found[2] = { 1, 2 };
+
+	bpfdb_world.tgid = 7;
+	bpfdb_world.pid = 8;
+	WANT(get_ns_current_pid_tgid(4, 0xeffffffc, found, 8) == 0 && found[0] == 8 && found[1] == 7);
+	WANT(get_ns_current_pid_tgid(4, 0xeffffffc, found, 4) == -EINVAL && !found[0] && found[1] == 7);
+	WANT(get_ns_current_pid_tgid(1ull << 32, 1, found, 8) == -EINVAL && !found[1]);
+	return 0;
+}
+
+/* (the root's number is 1, and nothing is above it) */
+TEST(world_of_any_cgroup)
+{
+	u32 found[2] = { 1, 2 };
+
+	WANT(get_current_ancestor_cgroup_id(0) == 1 && get_current_ancestor_cgroup_id(-1) == 0 &&
+	     get_current_ancestor_cgroup_id(100) == 0);
+	WANT(get_ns_current_pid_tgid(1ull << 32, 1, found, 8) == -EINVAL && !found[0] && !found[1]);
+	return 0;
+}
+
+/* (`ax` is the eleventh of the registers, of 8 bytes each) */
+OWN_TEST(result_of_a_probed_function)
+{
+	u64 registers[21] = { 0 };
+
+	WANT(override_return(registers, -12) == 0 && registers[10] == (u64)-12 && !registers[9] && !registers[11] &&
+	     !registers[16]);
+	return 0;
+}
+
+OWN_TEST(no_counter_and_no_branches)
+{
+	u64 counts[3] = { 1, 2, 3 };
+
+	WANT(perf_prog_read_value(context, counts, 24) == -EOPNOTSUPP && !counts[0] && !counts[2]);
+	counts[1] = 2;
+	WANT(perf_prog_read_value(context, counts, 16) == -EINVAL && !counts[1]);
+	WANT(read_branch_records(context, counts, 24, 0) == -ENOENT &&
+	     read_branch_records(context, NULL, 0, 1) == -ENOENT);
+	WANT(read_branch_records(context, counts, 24, 2) == -EINVAL);
+	WANT(get_branch_snapshot(counts, 24, 0) == -ENOENT && get_branch_snapshot(counts, 24, 1) == -EINVAL);
+	WANT(ima_inode_hash(context, counts, 24) == -EOPNOTSUPP && ima_file_hash(context, counts, 24) == -EOPNOTSUPP);
+	return 0;
+}
+
+OWN_TEST(variables_of_a_processor)
+{
+	WANT(this_cpu_ptr(context) == context && per_cpu_ptr(context, 0) == context && per_cpu_ptr(context, 1) == NULL);
+	bpfdb_world.cpu = 1;
+	WANT(this_cpu_ptr(context) == context && per_cpu_ptr(context, 1) == context && per_cpu_ptr(context, 0) == NULL);
+	return 0;
+}
+
+MAP(pointers, BPFDB_ARRAY, 1, u32, void *);
+
+OWN_TEST(pointers_are_exchanged)
+{
+	u32 key = 0;
+	void **place = map_lookup(&pointers, &key);
+
+	WANT(place && kptr_xchg(place, context) == NULL && *place == context && kptr_xchg(place, NULL) == context &&
+	     !*place);
+	return 0;
+}
+
 /* (what any kernel on its first processor says) */
 TEST(world_of_any_kernel)
 {
@@ -93,7 +174,8 @@ TEST(nobody_put_one_there)
 	WANT(perf_event_read_value(&counters, 1, read, 16) == -EINVAL && !read[0]);
 	WANT(perf_event_read_value(&counters, 9, read, 24) == -E2BIG);
 	WANT(perf_event_read_value(&counters, 1ull << 40, read, 24) == -EINVAL);
-	OWN_WANT(perf_event_read(&counters, 0) == (u64)-ENOENT && perf_event_read(&counters, 0xffffffff) == (u64)-ENOENT);
+	OWN_WANT(perf_event_read(&counters, 0) == (u64)-ENOENT &&
+	     perf_event_read(&counters, 0xffffffff) == (u64)-ENOENT);
 	/* (nothing is told of what a tail call leaves in r0 where it leads to no program) */
 	tail_call(context, &programs, 0);
 	return 0;
