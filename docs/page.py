@@ -44,7 +44,7 @@ def overrun(browser, folder):
 def firewall(browser, folder):
     """The firewall, where it reads the port of a packet with options."""
     browser.size(1280, 720, dark=True)
-    browser.open(page(example(folder, 'firewall'), '-m', 'context.bin', '--section', 'xdp', '--entry', 'bpfdb', 'firewall.o'))
+    browser.open(page(example(folder, 'firewall'), '-m', 'context.bin', 'firewall.o'))
     browser.value('page.jump(page.run.slots.indexOf(44), "")')
 
 
