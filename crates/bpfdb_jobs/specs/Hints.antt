@@ -1,12 +1,14 @@
--- What is said at a terminal behind a refusal of a program: what FILE looks like where it isn't words, and the line of a slot where it is a
--- listing. bpfdb's own choice.
-use Rattle.std.specs.Prelude.{ℕ, ◌≡◌, ◌==◌, ◌&&◌, Bool, true, false, if◌then◌else◌, List, [], ◌∷◌, ◌++◌, Option, Some, None, option_map, codes, decimal}
+-- What is said at a terminal behind a refusal of a program: what FILE looks like where it isn't words, which helper a slot calls that bpfdb lacks,
+-- and the line of a slot where it is a listing. bpfdb's own choice.
+use Rattle.std.specs.Prelude.{ℕ, ◌+◌, ◌*◌, ◌/◌, length, nat_lt, ◌≡◌, ◌==◌, ◌&&◌, Bool, true, false, if◌then◌else◌, List, [], ◌∷◌, ◌++◌, Option, Some, None, option_map, codes, decimal}
 use Rattle.std.specs.List.{after_first, before_first}
 use Rattle.std.specs.Option.{option_and_then, option_map_or}
 use Rattle.bpf_isa.specs.declared.fault.LoadFault.{LoadFault}
 use Rattle.bpf_isa.specs.declared.fault.LoadFault.TheVariants.{Ragged, At}
-use Rattle.bpf_isa.specs.declared.fault.PieceFault.TheVariants.{Word}
+use Rattle.bpf_isa.specs.declared.fault.PieceFault.TheVariants.{Word, UnknownHelper}
 use Rattle.bpf_isa.specs.declared.fault.WordFault.TheVariants.{UnknownInstruction, UnusedField}
+use Rattle.bpf_isa.specs.Words.{u32_at}
+use Rattle.bpf_link.specs.Helpers.{helper_name}
 use Rattle.bpf_load.specs.Faults.{IsTargetFault}
 use Rattle.bpf_load.specs.Kinds.{is_object}
 use Rattle.bpf_load.specs.Targets.{Loads}
@@ -37,9 +39,17 @@ is_of_file fault = false
 abbrev pub look_of : List ℕ → Option Hint
 look_of file = if is_object file then Some hint.Object else if is_text file then Some hint.Listing else None
 
+-- The helper that the word at a slot calls: its imm (RFC 9669, 4.3.1).
+abbrev pub helper_at : ℕ → List ℕ → Option Hint
+helper_at slot file = if nat_lt slot (length file / 8) then Some (hint.Helper slot (u32_at file (8 * slot + 4))) else None
+
 -- After a refusal of words.
+abbrev pub hint_after : LoadFault → List ℕ → Option Hint
+hint_after (At slot UnknownHelper) file = helper_at slot file
+hint_after fault file = if is_of_file fault then look_of file else None
+
 abbrev pub look_after : TargetFault → List ℕ → Option Hint
-look_after (Program fault) file = if is_of_file fault then look_of file else None
+look_after (Program fault) file = hint_after fault file
 look_after why file = None
 
 -- The line of an instruction, by the rows of a listing's table: their first word is the slot, their second one the line.
@@ -76,9 +86,19 @@ pub data IsHintOf (job : Job) (hint : Option Hint) : Type 0 where
 abbrev pub place_line : List ℕ → ℕ → ℕ → List ℕ
 place_line name slot line = codes "slot " ++ decimal slot ++ codes " is line " ++ decimal line ++ codes " of " ++ shown name ++ codes "\n"
 
+-- The kernel's name of a helper, where it has one.
+abbrev pub named : List ℕ → List ℕ
+named [] = []
+named name = codes " (bpf_" ++ name ++ codes ")"
+
+abbrev pub helper_line : ℕ → ℕ → List ℕ
+helper_line slot helper = codes "slot " ++ decimal slot ++ codes " calls helper " ++ decimal helper ++ named (helper_name helper)
+    ++ codes ": in an object --with, --helper or Linux's library answers it\n"
+
 abbrev pub hint_line : List ℕ → Hint → List ℕ
 hint_line name hint.Object = shown name ++ codes " looks like an object: --object\n"
 hint_line name hint.Listing = shown name ++ codes " looks like a listing: --listing\n"
+hint_line name (hint.Helper slot helper) = helper_line slot helper
 hint_line name (hint.Line slot line) = place_line name slot line
 
 abbrev pub AddsLine : {E : Type 0} → List ℕ → Stream E → Option Hint → Type 0

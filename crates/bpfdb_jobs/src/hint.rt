@@ -1,14 +1,15 @@
-//! A hint at a terminal behind a refusal: what FILE looks like where it isn't words, and the line of
-//! a slot where it is a listing.
+//! A hint at a terminal behind a refusal: what FILE looks like where it isn't words, which helper a
+//! slot calls that bpfdb lacks, and the line of a slot where it is a listing.
 ghost use Rattle.std.specs.Prelude.{◌≡◌, IfNone, IfSome, option_map, true};
+ghost use Rattle.bpf_link.specs.Helpers.{helper_name};
 ghost use Rattle.bpf_load.specs.Faults.{IsTargetFault};
 ghost use Rattle.bpf_load.specs.Targets.{Loads};
 ghost use Rattle.bpf_load.specs.declared.program.Loaded.{Loaded};
 ghost use Rattle.bpf_load.specs.declared.target.SourceKind.TheVariants as kind;
 ghost use Rattle.counted_io.specs.Lines.{lines};
-ghost use Rattle.counted_io.specs.Writing.{Writes};
+ghost use Rattle.counted_io.specs.Writing.{Writes, WritesAfter};
 ghost use Rattle.bpfdb_faults.specs.Streams.{Told, stream};
-ghost use Rattle.bpfdb_jobs.specs.Hints.{AddsHint, AddsLine, IsHintOf, hint_line, is_of_file, line_at, look_after, look_of, place_after};
+ghost use Rattle.bpfdb_jobs.specs.Hints.{AddsHint, AddsLine, IsHintOf, helper_at, helper_line, hint_after, hint_line, is_of_file, line_at, look_after, look_of, named, place_after};
 ghost use Rattle.bpfdb_jobs.specs.Objects.{is_check};
 ghost use Rattle.bpfdb_jobs.specs.declared.hint.Hint.TheVariants as hint;
 
@@ -17,6 +18,7 @@ use crate::known::is_check;
 use crate::look::is_text;
 use crate::row::line_at;
 use bpf_isa::{LoadFault, PieceFault, WordFault};
+use bpf_link::{helper_name, u32_at};
 use bpf_load::{SourceKind, TargetFault, is_object, load};
 use bpf_text::line_table;
 use bpfdb_faults::flush_after;
@@ -32,6 +34,8 @@ pub enum Hint {
     Object,
     /// FILE looks like a listing, which `--listing` takes.
     Listing,
+    /// The word at this slot calls the helper of this number, which isn't one of bpfdb's.
+    Helper(usize, u32),
     /// The instruction at the slot of the fault stands in this line of the listing.
     Line(usize, u64),
 }
@@ -113,14 +117,35 @@ fn look_after(why: &TargetFault<'_>, file: &[u8]) -> Option<Hint>
     ensures { result ≡ look_after why.now file.now }
 {
     match why {
-        TargetFault::Program(fault) => {
-            if is_of_file(fault) {
-                look_of(file)
-            } else {
-                None
-            }
-        }
+        TargetFault::Program(fault) => hint_after(fault, file),
         _ => None,
+    }
+}
+
+/// The hint after a fault of words.
+fn hint_after(fault: &LoadFault, file: &[u8]) -> Option<Hint>
+    ensures { result ≡ hint_after fault.now file.now }
+{
+    if is_of_file(fault) {
+        return look_of(file);
+    }
+    match fault {
+        LoadFault::At {
+            slot,
+            fault: PieceFault::UnknownHelper,
+        } => helper_at(*slot, file),
+        _ => None,
+    }
+}
+
+/// The helper that the word at a slot calls: its imm.
+fn helper_at(slot: usize, file: &[u8]) -> Option<Hint>
+    ensures { result ≡ helper_at slot file.now }
+{
+    if slot < file.len() / 8 {
+        Some(Hint::Helper(slot, u32_at(file, 8 * slot + 4)))
+    } else {
+        None
     }
 }
 
@@ -216,6 +241,7 @@ fn write_hint<E: Write>(errors: &mut Counted<E>, name: &str, hint: &Hint) -> Res
             let named = put_shown(errors, Ok(()), name.as_bytes());
             put(errors, named, b" looks like a listing: --listing\n")
         }
+        Hint::Helper(slot, helper) => write_helper(errors, *slot, *helper),
         Hint::Line(slot, line) => {
             let pieces = [
                 Piece::Text(b"slot "),
@@ -229,4 +255,42 @@ fn write_hint<E: Write>(errors: &mut Counted<E>, name: &str, hint: &Hint) -> Res
             put(errors, named, b"\n")
         }
     }
+}
+
+/// Writes the line of a helper: its number, its name where it has one, and what answers it.
+fn write_helper<E: Write>(
+    errors: &mut Counted<E>,
+    slot: usize,
+    helper: u32,
+) -> Result<(), WriteFault>
+    ensures { Writes E.contents errors.old errors.new result (helper_line slot helper) }
+{
+    let pieces = [
+        Piece::Text(b"slot "),
+        Piece::Decimal(slot as u64),
+        Piece::Text(b" calls helper "),
+        Piece::Decimal(u64::from(helper)),
+    ];
+    let begun = put_all(errors, Ok(()), &pieces);
+    let told = write_name(errors, begun, helper_name(helper));
+    put(
+        errors,
+        told,
+        b": in an object --with, --helper or Linux's library answers it\n",
+    )
+}
+
+/// Writes the kernel's name of a helper in parentheses, where there is one.
+fn write_name<E: Write>(
+    errors: &mut Counted<E>,
+    so_far: Result<(), WriteFault>,
+    name: &[u8],
+) -> Result<(), WriteFault>
+    ensures { WritesAfter E.contents errors.old so_far errors.new result (named name.now) }
+{
+    if name.is_empty() {
+        return so_far;
+    }
+    let pieces = [Piece::Text(b" (bpf_"), Piece::Text(name), Piece::Text(b")")];
+    put_all(errors, so_far, &pieces)
 }

@@ -16,3 +16,6 @@ returns-in-Line g c =
     let begun = c.put_all-begun.ensures _ _ (Writes-none g.E.Write.contents c.args.errors.now _) in
     let named = rw c.as_bytes-in-Line.ensures.value at (c.put_shown-named-in-Line.ensures _ _ begun) in
     rw c.in-Line.is (c.put-in-Line.ensures _ _ named)
+
+pub returns-in-Helper : goal.returns-in-Helper
+returns-in-Helper g c = rw c.in-Helper.is c.write_helper.ensures
