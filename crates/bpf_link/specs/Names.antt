@@ -1,5 +1,5 @@
 -- The names that a fault of an object tells, as they stand there: each cut at 255 bytes, with a comma between two, and `..` for all from the 17th on.
-use Rattle.std.specs.Prelude.{ℕ, zero, suc, nat_lt, min, Bool, true, false, if◌then◌else◌, List, [], ◌∷◌, ◌++◌, Option, Some, None, Result, Ok, Err, length, codes, slice_index, slice_range, take}
+use Rattle.std.specs.Prelude.{ℕ, zero, suc, ◌+◌, nat_lt, min, Bool, true, false, ◌&&◌, if◌then◌else◌, List, [], ◌∷◌, ◌++◌, Option, Some, None, Result, Ok, Err, length, codes, slice_index, slice_range, take}
 use Rattle.bpf_link.specs.declared.fault.LinkFault.{LinkFault}
 use Rattle.bpf_link.specs.declared.fault.LinkFault.TheVariants as link
 use Rattle.bpf_link.specs.declared.layout.SymbolEntry.{SymbolEntry}
@@ -9,8 +9,8 @@ use Rattle.bpf_link.specs.Entries.{is_function, is_program}
 use Rattle.bpf_link.specs.Objects.{Elf, opened, section_at}
 use Rattle.bpf_link.specs.Links.{planned}
 use Rattle.bpf_link.specs.MapTypes.{name_from}
-use Rattle.bpf_link.specs.Plans.{symbol_place}
-use Rattle.bpf_link.specs.Sections.{section_place, is_code}
+use Rattle.bpf_link.specs.Plans.{names_in, symbol_place, symbols_of}
+use Rattle.bpf_link.specs.Sections.{section_place, is_chosen, is_code, roles_in}
 use Rattle.bpf_link.specs.Tables.{symbol_at}
 
 -- At most 255 bytes of the name at a place in the file.
@@ -37,6 +37,26 @@ with_code object i places =
 abbrev pub code_places : Result Elf LinkFault → List ℕ
 code_places (Ok object) = built (with_code object) (length object.sections)
 code_places (Err fault) = []
+
+-- Where the names of an object's programs stand: its functions that are known outside it, in the sections with code that aren't called `.text`.
+abbrev pub is_program_of : Elf → SymbolEntry → Bool
+is_program_of object symbol =
+    nat_lt symbol.section (length object.sections)
+    && (is_program symbol.section symbol && is_chosen object [] (section_at object symbol.section))
+
+abbrev pub with_program : Elf → ℕ → List SymbolEntry → ℕ → List ℕ → List ℕ
+with_program object names symbols i places =
+    let symbol = symbol_at symbols i in
+    if is_program_of object symbol then with_place (min (names + symbol.name) (length object.bytes)) places else places
+
+abbrev pub places_among : Elf → ℕ → Result (List SymbolEntry) LinkFault → List ℕ
+places_among object names (Ok symbols) = built (with_program object names symbols) (length symbols)
+places_among object names (Err fault) = []
+
+abbrev pub program_places : Result Elf LinkFault → List ℕ
+program_places (Ok object) =
+    let symbols = (roles_in object [] object.sections).symbols in places_among object (names_in object symbols) (symbols_of object symbols)
+program_places (Err fault) = []
 
 -- Where the names of the functions of a plan's section stand: of all, or of those that are known outside the object.
 abbrev pub is_listed : Bool → ℕ → SymbolEntry → Bool
@@ -69,7 +89,7 @@ fault_places object section (link.Program fault source) = source_places source
 fault_places object section (link.Packet fault slot source) = source_places source
 fault_places object section (link.Helper slot helper source others) = source_places source
 fault_places object section link.NoSection = code_places (opened object)
-fault_places object section link.ManySections = code_places (opened object)
+fault_places object section link.ManySections = program_places (opened object)
 fault_places object section link.ManyPrograms = function_places true (planned object section)
 fault_places object section link.NoEntry = function_places false (planned object section)
 fault_places object section fault = []

@@ -2,7 +2,9 @@
 ghost use Rattle.std.specs.Prelude.{◌≡◌, ◌≤◌, ◌<◌, ◌+◌, ◌*◌, ◌++◌, [], length, take};
 ghost use Rattle.bpf_link.specs.Links.{planned};
 ghost use Rattle.bpf_link.specs.Objects.{opened};
-ghost use Rattle.bpf_link.specs.Names.{cut, short_at, with_place, built, with_code, code_places, is_listed, with_function, function_places, source_places, fault_places, parted, name_of, with_name, names_at, fault_names};
+ghost use Rattle.bpf_link.specs.Plans.{names_in, symbols_of};
+ghost use Rattle.bpf_link.specs.Sections.{FoundBelow};
+ghost use Rattle.bpf_link.specs.Names.{cut, short_at, with_place, built, with_code, code_places, is_program_of, with_program, places_among, program_places, is_listed, with_function, function_places, source_places, fault_places, parted, name_of, with_name, names_at, fault_names};
 
 use crate::entry::{is_function, is_program};
 use crate::fault::LinkFault;
@@ -11,9 +13,10 @@ use crate::linker::planned;
 use crate::map_types::name_from;
 use crate::object::{Object, open};
 use crate::parts::Side;
-use crate::plan::{Plan, symbol_place};
-use crate::sections::{is_code, section_place};
+use crate::plan::{Plan, names_in, place_of_name, symbol_place, symbols_of};
+use crate::sections::{Found, is_chosen, is_code, roles_of, section_place};
 use crate::sources::Source;
+use crate::tables::Symbols;
 use arrayvec::ArrayVec;
 
 /// How many names a text has.
@@ -76,6 +79,72 @@ fn code_places_in(object: &Object<'_>) -> ArrayVec<usize, 17>
         places = with_code(object, i, places);
     }
     places
+}
+
+/// Whether a symbol is a program of an object: a function that is known outside it, in a section
+/// with code that isn't called `.text`.
+fn is_program_of(object: &Object<'_>, symbol: &SymbolEntry) -> bool
+    ensures { result ≡ is_program_of object.now symbol.now }
+{
+    let section = usize::from(symbol.section);
+    if section >= object.len() {
+        return false;
+    }
+    is_program(section, symbol) && is_chosen(object, b"", &object.section(section))
+}
+
+/// Places with that of the name of a symbol, if it is a program. The names of symbols begin at
+/// `names` in the file.
+fn with_program(
+    object: &Object<'_>,
+    names: u64,
+    symbols: &Symbols<'_>,
+    i: usize,
+    places: ArrayVec<usize, 17>,
+) -> ArrayVec<usize, 17>
+    requires { i < length symbols.now }
+    ensures { result.items ≡ with_program object.now names symbols.now i places.items }
+{
+    let symbol = symbols.at(i);
+    if !is_program_of(object, &symbol) {
+        return places;
+    }
+    with_place(place_of_name(object, names, &symbol), places)
+}
+
+/// The places of the names of the programs among symbols, the first 17.
+fn programs_among(object: &Object<'_>, names: u64, symbols: &Symbols<'_>) -> ArrayVec<usize, 17>
+    ensures { result.items ≡ built (with_program object.now names symbols.now) (length symbols.now) }
+{
+    let mut places = ArrayVec::new();
+    for i in 0..symbols.len() {
+        places = with_program(object, names, symbols, i, places);
+    }
+    places
+}
+
+/// Where the names of the programs of an object stand.
+fn program_places(bytes: &[u8]) -> ArrayVec<usize, 17>
+    ensures { result.items ≡ program_places (opened bytes.now) }
+{
+    match open(bytes) {
+        Ok(object) => {
+            let found = roles_of(&object, b"").symbols;
+            programs_of(&object, found)
+        }
+        Err(_) => ArrayVec::new(),
+    }
+}
+
+/// The same of an object, by the section that holds its symbols.
+fn programs_of(object: &Object<'_>, found: Found) -> ArrayVec<usize, 17>
+    requires { FoundBelow (length object.now.sections) found }
+    ensures { result.items ≡ places_among object.now (names_in object.now found) (symbols_of object.now found) }
+{
+    match symbols_of(object, found) {
+        Ok(symbols) => programs_among(object, names_in(object, found), &symbols),
+        Err(_) => ArrayVec::new(),
+    }
 }
 
 /// Whether a symbol is a function of a section; one that is known outside the object, if that
@@ -169,7 +238,7 @@ fn fault_places(object: &[u8], section: &[u8], fault: &LinkFault) -> ArrayVec<us
         LinkFault::Helper { source, .. } => source_places(*source),
         LinkFault::Packet { source, .. } => source_places(*source),
         LinkFault::NoSection => code_places(object),
-        LinkFault::ManySections => code_places(object),
+        LinkFault::ManySections => program_places(object),
         LinkFault::ManyPrograms => function_places(object, section, true),
         LinkFault::NoEntry => function_places(object, section, false),
         _ => ArrayVec::new(),
@@ -233,7 +302,8 @@ fn names_at(object: &[u8], places: &[usize]) -> ArrayVec<u8, 4369>
 /// The names that a fault of an object tells, as they stand there, with a comma between two.
 ///
 /// That is the name of a map, of a symbol, or of the section from which a slot comes; where a
-/// section or a function isn't chosen, the names of those that there are. Each is cut at 255 bytes,
+/// function isn't chosen, the names of the programs that there are, and of the sections where none has
+/// the name that was asked for. Each is cut at 255 bytes,
 /// and from the 17th on `..` stands for them. `section` is the one that was asked of the link. Takes
 /// time in proportion to the length of the object.
 pub fn fault_names(object: &[u8], section: &[u8], fault: &LinkFault) -> ArrayVec<u8, 4369>

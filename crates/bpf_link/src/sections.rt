@@ -92,7 +92,7 @@ fn is_text(object: &Object<'_>, section: &SectionHeader) -> bool
     is_code(section) && is_named(object, section, b".text")
 }
 
-fn is_chosen(object: &Object<'_>, name: &[u8], section: &SectionHeader) -> bool
+pub fn is_chosen(object: &Object<'_>, name: &[u8], section: &SectionHeader) -> bool
     ensures { result ≡ is_chosen object.now name.now section.now }
 {
     if !is_code(section) {

@@ -64,11 +64,11 @@ abbrev pub hint_of : LinkFault → List ℕ
 hint_of (linking.Context at) = codes ": --struct, in tests -- struct, gives it one of the machine's"
 hint_of fault = []
 
--- Of relocations of fields it is how many there are, and the option that leaves them; else the option that chooses a section or a function.
+-- Of relocations of fields it is how many there are, and the option that leaves them; else the option that chooses a function.
 abbrev pub more_of : LinkFault → List ℕ
 more_of (linking.Helper slot helper source others) = helpers_text helper others
 more_of (linking.Fields count slot at) = codes ", " ++ decimal count ++ codes " in all: --fields compiled leaves them undone"
-more_of linking.ManySections = codes ": --section NAME chooses one"
+more_of linking.ManySections = codes ": --entry NAME chooses one"
 more_of linking.ManyPrograms = codes ": --entry NAME chooses one"
 more_of fault = []
 
