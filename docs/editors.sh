@@ -125,7 +125,7 @@ _bpfdb_names() {
     --section) "$bpfdb" link "--section=?" -- "$file" 2>&1 > /dev/null | sed -n "s/^refused E8: no such code section: //p" | sed "s/, /\n/g" ;;
     --entry)
         "$bpfdb" link ${section:+"--section=$section"} "--entry=?" -- "$file" 2>&1 > /dev/null |
-            sed -n "s/^refused E31: no such function in the code section: //p" | sed "s/, /\n/g"
+            sed -n "s/^refused E31: no such function in the code section: //p; s/^refused E9: .* chooses one: //p" | sed "s/, /\n/g"
         ;;
     --only) timeout 2 "$bpfdb" test -- "$file" < /dev/null 2> /dev/null | sed -n "s/^\(not \)\{0,1\}ok [0-9]* - //p" | awk "!seen[\$0]++" ;;
     esac
@@ -309,7 +309,7 @@ function __bpfdb_of_file
         case section
             $bpfdb link '--section=?' -- $file 2>&1 >/dev/null | string replace -f -r '^refused E8: no such code section: ' '' | string split ', '
         case entry
-            $bpfdb link $section '--entry=?' -- $file 2>&1 >/dev/null | string replace -f -r '^refused E31: no such function in the code section: ' '' | string split ', '
+            $bpfdb link $section '--entry=?' -- $file 2>&1 >/dev/null | string replace -f -r '^refused (E31: no such function in the code section|E9: .* chooses one): ' '' | string split ', '
         case only
             timeout 2 $bpfdb test -- $file </dev/null 2>/dev/null | string replace -f -r '^(not )?ok [0-9]* - ' ''
     end

@@ -113,6 +113,26 @@ hinted 'refused E1: no ELF file' '' link plain.s
 hinted 'cannot read missing' '' run missing
 hinted 'refused J1: journal size out of range' '' debug --journal 0 program
 
+# Of words that call a helper that bpfdb lacks its number is told, and its name in the kernel where it has one (1 to 211 of its list of helpers), with what answers it.
+answers="in an object --with, --helper or Linux's library answers it"
+while IFS='|' read -r number imm name; do
+    bytes helper b7 00 00 00 00 00 00 00 85 00 00 00 $imm 95 00 00 00 00 00 00 00
+    hinted 'refused C11 at slot 1: unknown helper' "slot 1 calls helper $number$name: $answers" run helper
+done <<'ROWS'
+14|0e 00 00 00| (bpf_get_current_pid_tgid)
+211|d3 00 00 00| (bpf_cgrp_storage_delete)
+212|d4 00 00 00|
+65550|0e 00 01 00|
+4294967295|ff ff ff ff|
+0|00 00 00 00|
+ROWS
+bytes helper 18 01 00 00 05 00 00 00 00 00 00 00 00 00 00 00 85 00 00 00 19 00 00 00 95 00 00 00 00 00 00 00
+for subcommand in run trace debug origin gdb disasm check load; do
+    hinted 'refused C11 at slot 2: unknown helper' "slot 2 calls helper 25 (bpf_perf_event_output): $answers" "$subcommand" helper
+done
+printf 'mov r0, 0\ncall 14\nexit\n' > helper.s
+hinted 'refused C11 at slot 1: unknown helper' 'slot 1 is line 2 of helper.s' run helper.s
+
 # Of a listing whose program the checker refuses the line of the slot is told, by its table.
 printf 'mov r0, 0\nja end ; too far\nexit\nend:\n' > far.s
 printf '; two slots\nlddw r1, 5\n\nlast: mov r10, 1\nexit\n' > wide.s

@@ -98,7 +98,7 @@ head -c 63 calls.o > cut.o
 printf 'mov r0, 42\nexit\n' > program.s
 bytes program b7 00 00 00 2a 00 00 00 EXIT
 for subcommand in run trace debug origin gdb check disasm; do
-    refused 'refused E9: more than one code section: --section NAME chooses one: a, b' $subcommand --object two.o
+    refused 'refused E9: more than one code section: --entry NAME chooses one: first, second' $subcommand --object two.o
     refused 'refused E8: no such code section: a, b' $subcommand --object --section c two.o
     refused 'refused E32: malformed list of stubs' $subcommand --object --stub a two.o
     refused 'refused E1: no ELF file' $subcommand --object cut.o
@@ -108,13 +108,13 @@ for subcommand in run trace debug origin gdb check disasm; do
     refused 'cannot read /dev/zero' $subcommand --object /dev/zero
 done
 refused 'refused E1: no ELF file' whynot --object program.s 0
-refused 'refused E9: more than one code section: --section NAME chooses one: a, b' whynot --object two.o frob
-refused 'refused E9: more than one code section: --section NAME chooses one: a, b' run -m letter --object two.o
-refused 'refused E9: more than one code section: --section NAME chooses one: a, b' run -m large --object two.o
+refused 'refused E9: more than one code section: --entry NAME chooses one: first, second' whynot --object two.o frob
+refused 'refused E9: more than one code section: --entry NAME chooses one: first, second' run -m letter --object two.o
+refused 'refused E9: more than one code section: --entry NAME chooses one: first, second' run -m large --object two.o
 refused 'refused O1: context too long' run -m large --object text.o
-refused 'refused E9: more than one code section: --section NAME chooses one: a, b' debug --journal 7 --object two.o
+refused 'refused E9: more than one code section: --entry NAME chooses one: first, second' debug --journal 7 --object two.o
 refused 'refused J1: journal size out of range' debug --journal 7 --object text.o
-refused 'refused E9: more than one code section: --section NAME chooses one: a, b' origin --script wrong --object two.o
+refused 'refused E9: more than one code section: --entry NAME chooses one: first, second' origin --script wrong --object two.o
 refused 'refused Q1: unknown command' origin --script wrong --object text.o
 
 # Each line has an object, what is changed of it (places and bytes, in hexadecimal), and the fault. These are of the tests of the library.

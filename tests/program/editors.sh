@@ -17,6 +17,8 @@ PATH=$PWD/bin:$PATH
 bytes overrun.o $(sed 's/../& /g' "$top/examples/overrun/object.hex")
 # (a section whose name a shell would obey: `id`;x in the place of filter)
 bytes hostile.o $(sed 's/66696c746572/6069 64603b78/g; s/ //g; s/../& /g' "$top/examples/overrun/object.hex")
+# (programs in two sections)
+object two
 cp "$top/examples/suite/program.test" named.test
 if has bash 'completion in bash'; then
     completed 'run\n' bpfdb ru
@@ -59,6 +61,7 @@ if has bash 'completion in bash'; then
     completed '`id`;x\n' bpfdb link hostile.o --section '\`'
     completed 'entry\n' bpfdb link overrun.o --entry ''
     completed 'copy\nsize_of\n' bpfdb link --section .text overrun.o --entry ''
+    completed 'first\nsecond\n' bpfdb run two.o --entry ''
     completed 'a short header is dropped\n' bpfdb test named.test --only "'a sh"
     completed '\n' bpfdb test program.bin --only ''
     completed '\n' bpfdb link --section ''
@@ -72,7 +75,7 @@ if has bash 'completion in bash'; then
 fi
 if has fish 'completion in fish'; then
     for row in 'bpfdb ru|run' 'bpfdb run --ma|--maps' 'bpfdb run --jo|' 'bpfdb debug --jo|--journal' 'bpfdb gdb --registers ri|riscv' 'bpfdb-shell --jo|--journal' 'bpfdb-page --ti|--title' 'bpfdb-dap --over b|bpfdb' \
-        'bpfdb test --show sc|script' 'bpfdb link overrun.o --section f|filter' 'bpfdb link --section .text overrun.o --entry s|size_of' \
+        'bpfdb test --show sc|script' 'bpfdb link overrun.o --section f|filter' 'bpfdb link --section .text overrun.o --entry s|size_of' 'bpfdb run two.o --entry s|second' \
         'bpfdb link hostile.o --section \`|`id`;x' 'bpfdb test named.test --only a\ sh|a short header is dropped' \
         'bpfdb-context pac|packet' 'bpfdb-context --ou|--output' 'bpfdb-context struct pac|'; do
         HOME=$PWD fish --no-config -c "source '$top/share/completion/bpfdb.fish'; complete -C '${row%|*}'" 2> found/err | sed 's/\t.*//' > found/out

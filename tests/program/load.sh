@@ -28,7 +28,7 @@ for name in calls text two; do
     object $name
 done
 result 'ok 2 instructions in 2 slots\n0 - entry\n1 - entry\n' load text.o
-refused 'refused E9: more than one code section: --section NAME chooses one: a, b' load two.o
+refused 'refused E9: more than one code section: --entry NAME chooses one: first, second' load two.o
 refused 'refused E8: no such code section: a, b' load --section c two.o
 
 # Of objects with maps, by each compiler: the map of `.maps` and those of sections of data (of whole words of 8 bytes) are named, at their addresses; in front

@@ -241,11 +241,11 @@ unlinked 'refused E1: no ELF file' empty
 unlinked 'refused E1: no ELF file' cut.o
 unlinked 'refused E1: no ELF file' /dev/null
 unlinked 'cannot read /dev/zero' /dev/zero
-# A section or a function that isn't there, or isn't chosen: those that there are, in the order of the tables, and no empty one and no static function that couldn't
-# be meant.
+# A section or a function that isn't there, or isn't chosen: the sections or the programs that there are, in the order of the tables, and no empty one, no function
+# of .text and no static one that couldn't be meant.
 unlinked 'refused E8: no such code section: .text, prog' --section frob calls.o
 unlinked 'refused E8: no such code section: .text, prog' --section text calls.o
-unlinked 'refused E9: more than one code section: --section NAME chooses one: a, b' two.o
+unlinked 'refused E9: more than one code section: --entry NAME chooses one: first, second' two.o
 unlinked 'refused E30: more than one program in the code section: --entry NAME chooses one: first, second' programs.o
 unlinked 'refused E31: no such function in the code section: twice, first, second' --entry third programs.o
 # (`second` calls helper 5, which isn't there; behind the jump to it that is a slot later than in the section. `first` doesn't come there, so it is linked: what isn't
@@ -653,9 +653,28 @@ C
         result "0x${row%%:*}\n" run --entry "$entry" --section "$section" homes.o
     done
     for row in variable:homes.o third:homes.o :homes.o a_twice:twice.o; do
-        refused 'refused E9: more than one code section: --section NAME chooses one: a, b' run --entry "${row%:*}" "${row#*:}"
+        refused 'refused E9: more than one code section: --entry NAME chooses one: first, second' run --entry "${row%:*}" "${row#*:}"
     done
     result '0x4\n' run --section b --entry a_twice twice.o
+    # Without an entry the programs are told of all sections, in the order of the symbols: neither functions that are static nor those of .text, nor data.
+    cat > programs_of.c <<'C'
+__attribute__((section("a"))) int first(void) { return 1; }
+static __attribute__((section("a"), noinline, used)) int hidden(void) { return 2; }
+__attribute__((noinline)) int called(void) { return 3; }
+__attribute__((section("b"))) int second(void) { return called(); }
+__attribute__((section("b"), weak)) int third(void) { return 4; }
+__attribute__((section("a"))) int fourth(void) { return 5; }
+__attribute__((section("c"))) int variable = 5;
+C
+    clang -O1 -target bpf -c -o programs_of.o programs_of.c
+    refused 'refused E9: more than one code section: --entry NAME chooses one: first, second, third, fourth' run programs_of.o
+    refused 'refused E9: more than one code section: --entry NAME chooses one: first, second, third, fourth' run --entry variable programs_of.o
+    result '0x5\n' run --entry fourth programs_of.o
+    # (of seventeen the first sixteen)
+    for k in 1 2 3 4 5 6 7 8 9 10 11 12 13 14 15 16 17; do echo "__attribute__((section(\"s$k\"))) int f$k(void) { return $k; }"; done > many.c
+    clang -O1 -target bpf -c -o many.o many.c
+    refused "refused E9: more than one code section: --entry NAME chooses one: $(seq -f 'f%g' -s ', ' 16), .." run many.o
+    result '0x11\n' run --entry f17 many.o
     refused 'refused E31: no such function in the code section: b_twice, second' run --section b --entry first homes.o
     # Of two programs in a section the one that is asked for runs; without a name both are refused.
     cat > entries.c <<'C'

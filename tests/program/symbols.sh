@@ -92,7 +92,7 @@ if has python3 'bpfdb-symbols'; then
     refused_object 'refused E5: not for BPF' other.o
     changed table 58 077
     refused_object 'refused E6: malformed section table' table.o
-    refused_object 'refused E9: more than one code section: --section NAME chooses one: a, b' two.o
+    refused_object 'refused E9: more than one code section: --entry NAME chooses one: first, second' two.o
     refused_object 'refused E8: no such code section: a, b' two.o --section c
     length=$(wc -c < overrun.o)
     for size in 64 1000 $((length / 2)) $((length - 1)); do
@@ -219,7 +219,7 @@ __attribute__((section("prog"))) long entry(void) { mine++; return (long)&own; }
 __attribute__((section("prog/other"))) long second(void) { data++; return (long)&other; }
 C
         clang -g -O1 -target bpf -c -o apart.o apart.c
-        refused_object 'refused E9: more than one code section: --section NAME chooses one: prog, prog/other' apart.o
+        refused_object 'refused E9: more than one code section: --entry NAME chooses one: entry, second' apart.o
         converted --section prog apart.o apart.sym
         python3 "$objects" sections apart.sym | grep -v ' .debug' > found/sections
         printf '%s\n' '0 ' '8 prog' '400000000 maps' '300100000 .data.own' '0 _start' '48 _setup' '0 .symtab' '0 .strtab' '0 .shstrtab' > wanted/sections
