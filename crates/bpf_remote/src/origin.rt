@@ -23,6 +23,7 @@ use bpf_lines::{Names, put_named};
 use bpf_machine::Cpu;
 use bpf_origin::{Question, Wanted, What, WhatFault, look_back, parts_asked};
 use bpf_session::Session;
+use bpfdb_script::SlotTexts;
 use counted_io::{Counted, WriteFault, put, put_decimal};
 use std::alloc::Global;
 use std::io::Write;
@@ -99,16 +100,18 @@ fn answer_text<K: Keeper>(
     wanted: &mut Wanted,
     what: Option<What>,
     moves: u64,
+    places: SlotTexts<'_>,
 ) -> Answered
     ensures back { ComesBack K.holds K.refused K.room session.old session.new result.left }
     ensures text { IfOk result.written (λ _. (t : Track) → HasPast K.holds session.old t →
-        result.text.items ≡ (answer_about (question_of moves t)
+        result.text.items ≡ (answer_about (question_of places.entry moves t)
         (parts_asked session.old.moment.state what) t.history session.old.moment.state).text) }
 {
     let question = Question {
         addresses: false,
         lines: MOST_LINES,
         opening: session.kept() as u64 == moves,
+        places,
     };
     let parts = parts_asked(session.cpu(), what);
     let mut writer = Counted::new(ArrayVec::new());
@@ -196,7 +199,7 @@ fn show_answer<K: Keeper, W: Write>(
     show_answered(
         alloc,
         manners.target.names,
-        answer_text(session, wanted, what, manners.moves),
+        answer_text(session, wanted, what, manners.moves, manners.target.places),
         body,
         writer,
         so_far,
