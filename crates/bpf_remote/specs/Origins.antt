@@ -22,9 +22,10 @@ use Rattle.bpf_remote.specs.Numbers.{behind, hex_text}
 use Rattle.bpf_remote.specs.Packets.{framed}
 use Rattle.bpf_remote.specs.declared.manners.Manners.{Manners}
 
--- The most lines of moves that are told.
-abbrev pub most_lines : ℕ
-most_lines = 500
+-- The most lines of moves that are told: fewer where places stand in them, so that they fit as well.
+abbrev pub most_lines : SlotTexts → ℕ
+most_lines None = 500
+most_lines (Some texts) = 250
 
 -- What a line asks about, by the digits that gdb writes for it: nothing where it is `origin`, and the text behind `origin` and a blank; None
 -- for another line.
@@ -48,7 +49,7 @@ asked_in x digits = option_map (named_in x) (asks_origin digits)
 -- How it is asked, with what is told of slots, where so many moves lie before the state. The oldest kept state is the opening where each of them is
 -- kept.
 abbrev pub question_of : SlotTexts → ℕ → Track → Question
-question_of places moves t = record { addresses = false; lines = most_lines; opening = length t.history == moves; places = places }
+question_of places moves t = record { addresses = false; lines = most_lines places; opening = length t.history == moves; places = places }
 
 -- The line of a refusal.
 abbrev pub refused_line : List ℕ → ℕ → List ℕ → List ℕ

@@ -6,7 +6,7 @@ ghost use Rattle.bpf_journal.specs.Tracks.{Track};
 ghost use Rattle.bpf_lines.specs.NamedTexts.{named_text};
 ghost use Rattle.bpf_origin.specs.Asked.{answer_about, parts_asked};
 ghost use Rattle.bpf_remote.specs.Numbers.{hex_text};
-ghost use Rattle.bpf_remote.specs.Origins.{ComesBack, Fits, FitsNamed, Shows, TellsOrigin, asked_in, longest_part, named_in, question_of, refused_line, too_long};
+ghost use Rattle.bpf_remote.specs.Origins.{ComesBack, Fits, FitsNamed, Shows, TellsOrigin, asked_in, longest_part, most_lines, named_in, question_of, refused_line, too_long};
 ghost use Rattle.bpf_remote.specs.Packets.{framed, longest_body};
 ghost use Rattle.bpf_session.specs.Sessions.{HasPast};
 ghost use Rattle.counted_io.specs.Writing.{WritesAfter};
@@ -28,9 +28,6 @@ use counted_io::{Counted, WriteFault, put, put_decimal};
 use std::alloc::Global;
 use std::io::Write;
 
-/// The most lines of moves that are told.
-pub(crate) const MOST_LINES: u64 = 500;
-
 /// The longest answer, in bytes.
 const LONGEST_ANSWER: usize = 32768;
 
@@ -51,6 +48,16 @@ pub(crate) struct Answered {
     pub written: Result<(), WriteFault>,
     /// How many moves the session's keeper refused to keep again.
     pub left: u64,
+}
+
+/// The most lines of moves that are told: fewer where places stand in them, so that they fit as well.
+pub(crate) fn most_lines(places: SlotTexts<'_>) -> u64
+    ensures { result ≡ most_lines places.entry }
+{
+    match places {
+        None => 500,
+        Some(_) => 250,
+    }
 }
 
 /// What a line asks about a machine, which hexadecimal digits spell, or why that is refused. None
@@ -109,7 +116,7 @@ fn answer_text<K: Keeper>(
 {
     let question = Question {
         addresses: false,
-        lines: MOST_LINES,
+        lines: most_lines(places),
         opening: session.kept() as u64 == moves,
         places,
     };

@@ -15,7 +15,7 @@ ghost use Rattle.hex.specs.Hex.{decode_of};
 use crate::body::{Body, LONGEST_BODY};
 use crate::manners::Manners;
 use crate::number::behind;
-use crate::origin::{Answered, MOST_LINES, show_answered, show_refused};
+use crate::origin::{Answered, most_lines, show_answered, show_refused};
 use crate::parser::is;
 use arrayvec::ArrayVec;
 use bpf_isa::Program;
@@ -166,7 +166,7 @@ fn why_text<K: Keeper>(
 {
     let question = Question {
         addresses: false,
-        lines: MOST_LINES,
+        lines: most_lines(places),
         opening: session.kept() as u64 == moves,
         places,
     };
