@@ -383,8 +383,8 @@ class PastAsker(Asker):
             PastAsker.asks = False
 
     def source_of(self, line):
-        """The line of the source of a move, behind its own."""
-        slot = re.match(r"-\d+ (?:.*?; )?(\d+): ", line)
+        """The line of the source of a move, behind its own, where bpfdb doesn't tell it: of a program that it has no object of."""
+        slot = None if re.search(r"; in .* \(.*:\d+\)$", line) else re.match(r"-\d+ (?:.*?; )?(\d+): ", line)
         place = gdb.find_pc_line(SLOT * int(slot.group(1))) if slot else None
         return " (%s:%d)" % (plain(os.path.basename(place.symtab.filename)), place.line) if place and place.symtab else ""
 

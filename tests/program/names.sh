@@ -61,9 +61,9 @@ for compiler in $compilers; do
     # What the program wrote and read: a name a line.
     "$program" origin --object places.o "$(printf '0x%x:4' $((0x300000000 + 260)))" > found/out 2> found/err
     count=$((count + 4))
-    grep -q '^-[0-9]* 0x300000104:4 = 0xf; .*; from r[0-9]; in classes\[3\]\.limits\[1\]\.rate$' found/out || complain "a store: $(cat found/out found/err)"
-    grep -q '^-[0-9]* r[0-9] = 0x7; .*; from 0x[0-9a-f]*:8; in seed$' found/out || complain "a load: $(cat found/out)"
-    grep -q '^-[0-9]* r[0-9] = 0x5; .*; from 0x[0-9a-f]*:4; in level$' found/out || complain "a load: $(cat found/out)"
+    grep -q '^-[0-9]* 0x300000104:4 = 0xf; .*; from r[0-9]; in classes\[3\]\.limits\[1\]\.rate; in entry (places\.c:81)$' found/out || complain "a store: $(cat found/out found/err)"
+    grep -q '^-[0-9]* r[0-9] = 0x7; .*; from 0x[0-9a-f]*:8; in seed; in entry (places\.c:81)$' found/out || complain "a load: $(cat found/out)"
+    grep -q '^-[0-9]* r[0-9] = 0x5; .*; from 0x[0-9a-f]*:4; in level; in entry (places\.c:81)$' found/out || complain "a load: $(cat found/out)"
     grep -q '^-[0-9]* 0x[0-9a-f]*:8 = 0x3; .*; from r4; initial value of slow\.rate$' found/out || complain "what the setup stores: $(cat found/out)"
     # Stores of the program's own are no initial values, nor are edits; and so it is as JSON.
     count=$((count + 3))
@@ -77,7 +77,7 @@ for compiler in $compilers; do
     if command -v python3 > /dev/null; then
         count=$((count + 2))
         printf 'continue\norigin 0x300000104:4\n' | BPFDB=$program python3 "$top/share/bpfdb-shell" places.o > found/out 2> found/err
-        grep -q '^-[0-9]* 0x300000104:4 = 0xf; .*; in classes\[3\]\.limits\[1\]\.rate (places\.c:81)$' found/out || complain "the shell: $(cat found/out found/err)"
+        grep -q '^-[0-9]* 0x300000104:4 = 0xf; .*; in classes\[3\]\.limits\[1\]\.rate; in entry (places\.c:81)$' found/out || complain "the shell: $(cat found/out found/err)"
         # shellcheck disable=SC2046
         printf 'continue\norigin 0x300000104:4\n' | BPFDB=$program python3 "$top/share/bpfdb-shell" $(sed -n '1p' told) places.o > found/out 2> found/err
         grep -q '^-[0-9]* 0x300000104:4 = 0xf; [^;]*; from r[0-9] (places\.c:81)$' found/out || complain "the shell with maps: $(cat found/out found/err)"
@@ -88,16 +88,16 @@ for compiler in $compilers; do
     "$program" whynot --object branch.o drop > found/out 2> found/err
     count=$((count + 3))
     grep -q "$branch" found/out || complain "the branch: $(cat found/out found/err)"
-    grep -q '^-[0-9]* r[0-9] = 0x2; .*; from 0x3[0-9a-f]*:8; in mode$' found/out || complain "what it compared: $(cat found/out)"
+    grep -q '^-[0-9]* r[0-9] = 0x2; .*; from 0x3[0-9a-f]*:8; in mode; in entry (branch\.c:13)$' found/out || complain "what it compared: $(cat found/out)"
     grep -q '^-[0-9]* 0x3[0-9a-f]*:8 = 0x2; .*; initial value of mode$' found/out || complain "what the setup gave that: $(cat found/out)"
     "$program" whynot --json --object branch.o drop > found/out 2> found/err
     count=$((count + 1))
-    grep -q '^{"kind":"move",.*,"name":"mode","parts":\[{"part":"r[0-9]","value":"0x2"}\]}$' found/out || complain "whynot as JSON: $(cat found/out found/err)"
+    grep -q '^{"kind":"move",.*,"name":"mode","function":"entry","file":"branch.c","line":13,"parts":\[{"part":"r[0-9]","value":"0x2"}\]}$' found/out || complain "whynot as JSON: $(cat found/out found/err)"
     if command -v python3 > /dev/null; then
         count=$((count + 2))
         printf 'continue\nwhynot branch.c:8\n' | BPFDB=$program python3 "$top/share/bpfdb-shell" branch.o > found/out 2> found/err
         grep -q "$branch" found/out || complain "the branch in the shell: $(cat found/out found/err)"
-        grep -q '; in mode (branch\.c:13)$' found/out || complain "what it compared, in the shell: $(cat found/out)"
+        grep -q '; in mode; in entry (branch\.c:13)$' found/out || complain "what it compared, in the shell: $(cat found/out)"
     fi
     # So does `diff`, of the values in which two runs differ, of each run; without BTF by symbols. BTF that `link` refuses is refused as by `origin`.
     "$compiler" -g -O2 -target bpf -c "$parts/names/parted.c" -o parted.o 2> found/err || complain "parted.c: $(cat found/err)"

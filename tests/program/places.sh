@@ -1,5 +1,5 @@
-# The places of branches in C: with --object the lines of `trace --branches`, the branches of `origin --branches` and the branch of `whynot` end with them. By
-# hand from the lines of tests/program/places/branches.c; and of other objects each line is held against what `lines` tells of its slot.
+# Places in C: of an object the lines of `trace --branches` and those of moves, of `origin` with its branches and of `whynot`, end with them. By hand from the
+# lines of tests/program/places/branches.c; and of other objects each line is held against what `lines` tells of its slot.
 
 # places ARGUMENT..: the places of the branches that are told, a line each.
 places() {
@@ -16,7 +16,16 @@ stands() {
     [ "$(grep -c '^-*[0-9]* [0-9]*: j' found/out)" = "$(echo "$wanted" | wc -l)" ] || complain "$*: not each has a place: $(cat found/out)"
 }
 
-# held OBJECT OPTION..: each branch of a run has the place that `lines` tells of its slot, or none where that tells none.
+# moves WANTED ARGUMENT..: the lines of moves end so, in this order.
+moves() {
+    wanted=$1
+    shift
+    "$program" "$@" > found/out 2> found/err || complain "$*: $(cat found/err)"
+    count=$((count + 1))
+    [ "$(sed -n 's/^-[0-9]* .*; \([a-z0-9 :]*; in .*\)$/\1/p' found/out)" = "$wanted" ] || complain "$*: $(cat found/out)"
+}
+
+# held OBJECT OPTION..: each branch of a run, and each move of an answer, has the place that `lines` tells of its slot, or none where that tells none.
 held() {
     object=$1
     shift
@@ -29,6 +38,14 @@ held() {
         wanted == "" && /; in / || wanted != "" && substr($0, length - length(wanted) + 1) != wanted { print; exit 1 }' rows found/out > found/wrong \
         || complain "a place of $object $*: $(cat found/wrong)"
     branches=$(grep -c '^[0-9]* [0-9]*: j' found/out)
+    "$program" origin --addresses --branches --lines 200 --object --steps 20000 -m context "$@" "$object" > found/out 2> found/err
+    count=$((count + 1))
+    awk 'NR == FNR { slot = $1; name[slot] = $NF; sub(/^[0-9]* /, ""); sub(/ [^ ]*$/, ""); sub(/.*\//, ""); line[slot] = $0; next }
+        !/^-[0-9]+ / { next }
+        { match($0, /[ ;] ?[0-9]+: /); slot = substr($0, RSTART, RLENGTH); gsub(/[ ;:]/, "", slot)
+            wanted = !(slot in line) || line[slot] == "-" ? "" : "; in " name[slot] " (" line[slot] ")" }
+        wanted == "" && / \(.*:[0-9]*\)$/ || wanted != "" && substr($0, length - length(wanted) + 1) != wanted { print; exit 1 }' rows found/out > found/wrong \
+        || complain "a move of $object $*: $(cat found/wrong)"
 }
 
 # 48 is above 33, and 77 is the second byte; 32 isn't above 33.
@@ -57,10 +74,19 @@ $in_entry" origin --branches --object --entry entry -m context branches.o
 $in_kind
 $in_kind" trace --branches --object --entry entry --entry kind@1 -m context branches.o
 
-        # Other lines have none: of a trace without --branches, of a move that is no branch, and of an edit.
+        # So do other moves: 3 times the third byte, 7, and the branch by the second one, which whynot explains.
+        moves "from r0; in kind (branches.c:8)
+from 0x100000002:1; in kind (branches.c:8)" origin --object --entry entry -m context branches.o
+        moves "went on; $in_kind
+from 0x100000001:1; $in_kind" whynot --object --entry entry -m context branches.o branches.c:9
+        count=$((count + 1))
+        "$program" origin --json --object --entry entry -m context branches.o > found/out
+        [ "$(grep -c '"from":\["[a-z0-9:]*"\],"function":"kind","file":"branches.c","line":8,"parts":\[' found/out)" = 2 ] || complain "origin as JSON: $(cat found/out)"
+
+        # Other lines have none: of a trace without --branches, of what is left, and of an edit.
         count=$((count + 3))
         "$program" trace --object --entry entry -m context branches.o | grep '; in ' && complain 'a step has a place'
-        "$program" origin --object --entry entry -m context branches.o | grep '; in ' && complain 'a move has a place'
+        "$program" origin --object --entry entry -m context branches.o | grep -v '^-' | grep '; in ' && complain 'what is left has a place'
         end=$("$program" lines --object --entry entry branches.o | sed -n '$s/ .*//p')
         echo "set pc $end" > path
         "$program" whynot --object --entry entry --script path branches.o kind > found/out 2> found/err
@@ -78,7 +104,7 @@ $in_kind" trace --branches --object --entry entry --entry kind@1 -m context bran
     # Without -g the lines are those of the words.
     "$compiler" -O2 -target bpf -c "$parts/places/branches.c" -o plain.o 2> found/err
     "$program" link --entry entry plain.o > words
-    for asked in 'trace --branches' 'origin --branches'; do
+    for asked in 'trace --branches' origin 'origin --branches'; do
         # (words without blanks)
         # shellcheck disable=SC2086
         tells 0 "$("$program" $asked -m context words)\n" $asked --object --entry entry -m context plain.o
@@ -98,7 +124,7 @@ open(sys.argv[2], 'wb').write(file)
 EOF
         "$program" lines --object --entry entry broken.o > found/out 2> wanted-line
         grep -q '^refused E53' wanted-line || complain "broken.o: $(cat wanted-line)"
-        for asked in 'trace --branches' 'origin --branches' whynot; do
+        for asked in 'trace --branches' origin 'origin --branches' whynot gdb; do
             # shellcheck disable=SC2086
             refused "$(cat wanted-line)" $asked --object --entry entry -m context broken.o $([ "$asked" != whynot ] || echo 1)
         done

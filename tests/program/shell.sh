@@ -251,7 +251,7 @@ PYTHON
             grep -o -e 'in [a-z_]* (limit.c:.*' -e 'in _start$' -e 'exited at.*' -e '^[0-9]*: limit$' -e 'in bpf_map_update_elem' -e '^left r0.*' found/all |
                 sed 's/^[0-9]*: //' > found/out
             check "bpfdb-shell: an XDP program with a hash, joined to $joined" 0 \
-                'in is_known (limit.c:22)\nin limit (limit.c:33)\nin _start\nexited at 12: r0 0x2\nlimit\nin bpf_map_update_elem\nin is_known (limit.c:22)\nin limit (limit.c:33)\nin _start\n' \
+                'in is_known (limit.c:22)\nin limit (limit.c:33)\nin _start\nexited at 12: r0 0x2\nin limit (limit.c:33)\nlimit\nin bpf_map_update_elem\nin is_known (limit.c:22)\nin limit (limit.c:33)\nin _start\n' \
                 'bpfdb-shell: there is no instruction at limit.c:32: the nearest are at limit.c:31, limit.c:33\n'
         done
     fi
@@ -265,7 +265,7 @@ PYTHON
     # What comes by a pipe can be read but once, and origin needs it again.
     mkfifo pipe
     cat context.bin > pipe &
-    plainly 'a context by a pipe' 0 'c\norigin r0\n' '105 forward; end; fault access 0x10077656d at 25\n-9 r0 = 0x77; 19: ldxb r0, [r0+0]; from 0x10000000c:1 (overrun.c:21)\n'\
+    plainly 'a context by a pipe' 0 'c\norigin r0\n' '105 forward; end; fault access 0x10077656d at 25\n-9 r0 = 0x77; 19: ldxb r0, [r0+0]; from 0x10000000c:1; in copy (overrun.c:21)\n'\
 'left 0x10000000c:1 = 0x77; byte 12 of the context; at the opening\n' '' -m pipe overrun.o
     cat overrun.o > pipe &
     plainly 'an object by a pipe' 0 'b copy\nc\norigin r7\n' 'ok\n10 forward; break; at 13: jeq r3, 0, L23\nleft r7 = 0x0; at the opening\n' '' --mem=context.bin pipe

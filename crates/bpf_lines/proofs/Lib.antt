@@ -6,3 +6,4 @@ pub mod Fronts
 pub mod Pushing
 pub mod Placing
 pub mod Words
+pub mod PlaceAt

@@ -1,5 +1,5 @@
 -- The lines of an answer of `origin` with the names of the places that they tell. bpfdb's own choice.
-use Rattle.std.specs.Prelude.{ℕ, ◌+◌, ◌==◌, nat_lt, Bool, false, ◌&&◌, if◌then◌else◌, List, [], ◌∷◌, ◌++◌, flat_map, codes, Option, Some, None}
+use Rattle.std.specs.Prelude.{ℕ, suc, ◌+◌, ◌==◌, nat_lt, Bool, false, ◌&&◌, if◌then◌else◌, List, [], ◌∷◌, ◌++◌, drop, flat_map, length, take, codes, Option, Some, None}
 use Rattle.std.specs.Option.{option_and_then}
 use Rattle.std.specs.Str.{bytes_eq}
 use Rattle.counted_io.specs.Cuts.{after, before, cut}
@@ -60,7 +60,7 @@ abbrev pub is_setup : Names → Option ℕ → Bool
 is_setup names None = false
 is_setup names (Some slot) = nat_lt (code_end names) slot && nat_lt slot most_slots
 
--- The name stands behind the line: as where bytes lie, or as what one of those stores gives its bytes.
+-- The name tells where bytes lie, or what one of those stores gives its bytes.
 abbrev pub way_text : Bool → List ℕ
 way_text setup = if setup then codes "; initial value of " else codes "; in "
 
@@ -68,8 +68,22 @@ abbrev pub told_text : Names → List ℕ → Option Located → List ℕ
 told_text names line None = []
 told_text names line (Some at) = way_text (is_setup names (told_slot line)) ++ name_text names at
 
-unfoldable pub named_line : Names → List ℕ → List ℕ
-named_line names line = line ++ told_text names line (told_in names line) ++ codes "\n"
+-- A line may end with its place in C, which begins where these words stand first. The name stands before that, and only what stands there is read.
+abbrev pub place_words : List ℕ
+place_words = codes "; in "
+
+unfoldable pub begins : List ℕ → List ℕ → Bool
+begins words s = bytes_eq (take (length words) s) words
+
+abbrev pub place_at : List ℕ → ℕ
+place_at [] = 0
+place_at (b ∷ s) = if begins place_words (b ∷ s) then 0 else suc (place_at s)
+
+unfoldable pub named_by : Names → List ℕ → List ℕ → List ℕ
+named_by names told place = told ++ told_text names told (told_in names told) ++ place ++ codes "\n"
+
+abbrev pub named_line : Names → List ℕ → List ℕ
+named_line names line = named_by names (take (place_at line) line) (drop (place_at line) line)
 
 abbrev pub named_text : Names → List ℕ → List ℕ
 named_text names text = flat_map (named_line names) (lines text)

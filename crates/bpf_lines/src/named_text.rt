@@ -1,5 +1,5 @@
 //! Lines of an answer with the names of the places that they tell.
-ghost use Rattle.std.specs.Prelude.{◌≡◌, ◌<◌, length, IfSome, Some, None};
+ghost use Rattle.std.specs.Prelude.{◌≡◌, ◌<◌, ◌≤◌, length, IfSome, Some, None};
 ghost use Rattle.counted_io.specs.Lines.{lines};
 ghost use Rattle.counted_io.specs.Writing.{WritesAfter};
 ghost use Rattle.bpf_lines.specs.NamedTexts as spec;
@@ -102,6 +102,27 @@ fn way_of(is_setup: bool) -> &'static [u8]
     }
 }
 
+/// Whether a text begins with words.
+#[tactic(auto, unfolding(crate::specs::NamedTexts::begins))]
+fn begins(words: &[u8], text: &[u8]) -> bool
+    ensures { result ≡ spec.begins words.now text.now }
+{
+    text.strip_prefix(words).is_some()
+}
+
+/// How many bytes of a line stand before its place in C: all where it has none.
+fn place_at(line: &[u8]) -> usize
+    ensures value { result ≡ spec.place_at line.now }
+    ensures within { result ≤ length line.now }
+{
+    for at in 0..line.len() {
+        if begins(b"; in ", &line[at..]) {
+            return at;
+        }
+    }
+    line.len()
+}
+
 /// Writes the name of a byte that a line tells, behind it.
 fn put_told<W: Write>(
     writer: &mut Counted<W>,
@@ -124,7 +145,24 @@ fn put_told<W: Write>(
     }
 }
 
-/// Writes a line, with the name of the place that it tells.
+/// Writes what a line tells, with a name, and then its place.
+fn put_split<W: Write>(
+    writer: &mut Counted<W>,
+    so_far: Result<(), WriteFault>,
+    names: &Names<'_>,
+    line: &[u8],
+    place: &[u8],
+) -> Result<(), WriteFault>
+    ensures { WritesAfter W.contents writer.old so_far writer.new result
+        (spec.named_by names.now line.now place.now) }
+{
+    let begun = put(writer, so_far, line);
+    let told = put_told(writer, begun, names, line, told_in(names, line));
+    let placed = put(writer, told, place);
+    put(writer, placed, b"\n")
+}
+
+/// Writes a line, with the name of what it tells before its place in C.
 fn put_line<W: Write>(
     writer: &mut Counted<W>,
     so_far: Result<(), WriteFault>,
@@ -134,13 +172,12 @@ fn put_line<W: Write>(
     ensures { WritesAfter W.contents writer.old so_far writer.new result
         (spec.named_line names.now line.now) }
 {
-    let begun = put(writer, so_far, line);
-    let told = put_told(writer, begun, names, line, told_in(names, line));
-    put(writer, told, b"\n")
+    let at = place_at(line);
+    put_split(writer, so_far, names, &line[..at], &line[at..])
 }
 
-/// Writes the lines of an answer. Behind each that tells bytes of a map stands the name of the first
-/// one, and whether it gets its initial value there.
+/// Writes the lines of an answer. In each that tells bytes of a map stands the name of the first one,
+/// and whether it gets its initial value there: behind all but the line's place in C.
 ///
 /// A line takes time in proportion to its length, and no more than a bounded time for a name,
 /// whatever the object.

@@ -89,11 +89,11 @@ module _ {W : Type 0} (contents : W → Option (List ℕ)) (q : Question) (r : R
   read_same : (x : State) (parts : List Part) → x ≡ r.before → parts ≡ followed q.addresses x r.move → parts ≡ followed q.addresses r.before r.move
   read_same x parts at is = is ∙ ap (λ (y : State). followed q.addresses y r.move) at
 
-  tail_same : (x : State) (parts : List Part) → x ≡ r.before → parts ≡ followed q.addresses x r.move → tail x r.move parts ≡ tail r.before r.move (followed q.addresses r.before r.move)
-  tail_same x parts at is = ap (λ (y : State). tail y r.move parts) at ∙ ap (tail r.before r.move) (read_same x parts at is)
+  tail_same : (x : State) (parts : List Part) → x ≡ r.before → parts ≡ followed q.addresses x r.move → tail q.places x r.move parts ≡ tail q.places r.before r.move (followed q.addresses r.before r.move)
+  tail_same x parts at is = ap (λ (y : State). tail q.places y r.move parts) at ∙ ap (tail q.places r.before r.move) (read_same x parts at is)
 
   pub rest_cut : (wanted left : List Place) (old now new : Tally W) (before told last : Written) (turn : Turn) (x : State) (parts : List Part)
-      → x ≡ r.before → parts ≡ followed q.addresses x r.move → WritesAfter contents old before now told (tail x r.move parts)
+      → x ≡ r.before → parts ≡ followed q.addresses x r.move → WritesAfter contents old before now told (tail q.places x r.move parts)
       → most_places < length (want_parts wanted parts) → WritesAfter contents now told new last places_text
       → turn ≡ record { written = last; lines = 0; cut = Some Places; taken = 1 } → TellsRest contents q r wanted left old before new turn
   rest_cut wanted left old now new before told last turn x parts at is tells full more e =
@@ -108,7 +108,7 @@ module _ {W : Type 0} (contents : W → Option (List ℕ)) (q : Question) (r : R
       })
 
   pub rest_on : (wanted left : List Place) (old now : Tally W) (before told : Written) (n : ℕ) (turn : Turn) (x : State) (parts : List Part)
-      → x ≡ r.before → parts ≡ followed q.addresses x r.move → WritesAfter contents old before now told (tail x r.move parts)
+      → x ≡ r.before → parts ≡ followed q.addresses x r.move → WritesAfter contents old before now told (tail q.places x r.move parts)
       → left ≡ want_parts wanted parts → length left ≤ most_places
       → turn ≡ record { written = told; lines = n; cut = None; taken = 1 } → TellsRest contents q r wanted left old before now turn
   rest_on wanted left old now before told n turn x parts at is tells wants fits e =
@@ -189,7 +189,7 @@ module _ {P W : Type 0} (state : P → State) (follows : P → Track → Type 0)
             let all = no_room q k n wanted r h y found some (subst (λ (ws : List Place). most_places < length ws) more t.1) in (
               ap (λ (a : Answer). a.extent) all ∙ sym t.0,
               subst (λ (text : List ℕ). WritesAfter contents old before after turn.written text)
-                  (sym (append_assoc (head (k + 1) y (written y (overwritten r.before r.move))) (tail r.before r.move (followed q.addresses r.before r.move)) places_text) ∙ sym (ap (λ (a : Answer). a.text) all))
+                  (sym (append_assoc (head (k + 1) y (written y (overwritten r.before r.move))) (tail q.places r.before r.move (followed q.addresses r.before r.move)) places_text) ∙ sym (ap (λ (a : Answer). a.text) all))
                   (WritesAfter-WritesAfter contents _ _ _ _ _ _ _ _ _ first t.2 refl),
             );
       }

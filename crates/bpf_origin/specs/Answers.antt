@@ -30,7 +30,7 @@ wanted_before q r y wanted =
     want_parts (still_wanted y (overwritten r.before r.move) wanted) (followed q.addresses r.before r.move)
 
 abbrev pub line_of : Question → ℕ → Record → State → List ℕ
-line_of q k r y = line k r.before r.move y (written y (overwritten r.before r.move)) (followed q.addresses r.before r.move)
+line_of q k r y = line q.places k r.before r.move y (written y (overwritten r.before r.move)) (followed q.addresses r.before r.move)
 
 -- After k moves, with room for n lines: a move that wrote a wanted place is told; that place is no longer wanted, and what the move
 -- read is. What is wanted at the end is left.

@@ -12,6 +12,7 @@ use Rattle.bpf_steps.specs.Regions.{run_at}
 use Rattle.bpf_steps.specs.State.{State}
 use Rattle.bpf_machine.specs.declared.moves.Move.{Move}
 use Rattle.bpf_machine.specs.declared.moves.Move.TheVariants as move
+use Rattle.bpfdb_script.specs.SlotTexts.{SlotTexts, text_of_slot}
 use Rattle.bpfdb_script.specs.Texts.{text_at}
 use Rattle.bpf_origin.specs.declared.place.Place.{Place}
 use Rattle.bpf_origin.specs.declared.place.Place.TheVariants as place
@@ -76,15 +77,20 @@ abbrev pub reads_text : List Part → List ℕ
 reads_text [] = []
 reads_text (p ∷ ps) = codes "; from" ++ flat_map read_text (p ∷ ps)
 
+-- What is told of the slot of a step, as where it stands in C: it ends the line of the move. An edit has none.
+abbrev pub slot_text : SlotTexts → State → Move → List ℕ
+slot_text places x move.Step = text_of_slot places x.pc
+slot_text places x (move.Edit e) = []
+
 -- The line of a move, so many moves back, that wrote these parts and read those.
 unfoldable pub head : ℕ → State → List Part → List ℕ
 head k y wrote = codes "-" ++ decimal k ++ codes " " ++ flat_map (written_text y) wrote
 
-unfoldable pub tail : State → Move → List Part → List ℕ
-tail x m read = move_text x m ++ unwritten_text x m ++ reads_text read ++ codes "\n"
+unfoldable pub tail : SlotTexts → State → Move → List Part → List ℕ
+tail places x m read = move_text x m ++ unwritten_text x m ++ reads_text read ++ slot_text places x m ++ codes "\n"
 
-abbrev pub line : ℕ → State → Move → State → List Part → List Part → List ℕ
-line k x m y wrote read = head k y wrote ++ tail x m read
+abbrev pub line : SlotTexts → ℕ → State → Move → State → List Part → List Part → List ℕ
+line places k x m y wrote read = head k y wrote ++ tail places x m read
 
 -- A place that is left, as a part.
 abbrev pub part_of : Place → Part

@@ -46,11 +46,11 @@ module _ {W : Type 0} (contents : W → Option (List ℕ)) where
   -- It was told from the middle of its line on, and what it read is wanted, unless there is no room for that.
   pub record TellsRest (q : Question) (r : Record) (wanted left : List Place) (old : Tally W) (before : Written) (now : Tally W) (turn : Turn) : Type 0 where
     pub on : turn.cut ≡ None →
-        WritesAfter contents old before now turn.written (tail r.before r.move (followed q.addresses r.before r.move))
+        WritesAfter contents old before now turn.written (tail q.places r.before r.move (followed q.addresses r.before r.move))
         × (left ≡ want_parts wanted (followed q.addresses r.before r.move)) × (length left ≤ most_places)
     pub cut : (e : Extent) → turn.cut ≡ Some e →
         (e ≡ Places) × (most_places < length (want_parts wanted (followed q.addresses r.before r.move)))
-        × WritesAfter contents old before now turn.written (tail r.before r.move (followed q.addresses r.before r.move) ++ places_text)
+        × WritesAfter contents old before now turn.written (tail q.places r.before r.move (followed q.addresses r.before r.move) ++ places_text)
 
 module _ {P : Type 0} (state : P → State) (follows : P → Track → Type 0) where
   -- The newest record wrote no wanted place and was taken back: what is wanted still is left.

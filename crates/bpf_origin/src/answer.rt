@@ -18,12 +18,12 @@ pub fn put_answer<P: Past, W: Write>(
     history: &mut P,
     wanted: &mut Wanted,
     parts: &[Part],
-    question: Question,
+    question: Question<'_>,
     writer: &mut Counted<W>,
     so_far: Result<(), WriteFault>,
 ) -> Told
     ensures { TellsOrigin (past_by P.state P.follows P.room P.refused)
-        (λ (t : Track). answer_about question parts.now t.history (P.state history.old))
+        (λ (t : Track). answer_about question.entry parts.now t.history (P.state history.old))
         history.old history.new (WritesAfter W.contents writer.old so_far writer.new) result }
 {
     wanted.clear();

@@ -14,7 +14,7 @@ use crate::place::Part;
 use bpf_isa::Insn;
 use bpf_machine::Cpu;
 use bpf_text::put_insn;
-use bpfdb_script::number_in;
+use bpfdb_script::{SlotTexts, number_in, text_of_slot};
 use byteorder::{ByteOrder, LittleEndian};
 use counted_io::{Counted, Piece, WriteFault, put, put_all, put_decimal};
 use std::io::Write;
@@ -330,20 +330,42 @@ fn put_if_call<W: Write>(
     }
 }
 
+/// Writes what is told of the slot of a step, from the machine before it; of an edit nothing.
+pub fn put_slot<W: Write>(
+    writer: &mut Counted<W>,
+    so_far: Result<(), WriteFault>,
+    places: SlotTexts<'_>,
+    cpu: &Cpu,
+    is_step: bool,
+) -> Result<(), WriteFault>
+    ensures { (m : Move) → is_step ≡ is_step_of m →
+        WritesAfter W.contents writer.old so_far writer.new result
+        (spec.slot_text places.entry cpu.now m) }
+{
+    if is_step {
+        put(writer, so_far, text_of_slot(places, usize::from(cpu.pc())))
+    } else {
+        put(writer, so_far, b"")
+    }
+}
+
 /// Writes the second half of a move's line, from the machine before it: which move it was, that no
-/// later one wrote what a call made zero, and what it read.
+/// later one wrote what a call made zero, what it read, and of a step what is told of its slot.
 pub fn put_tail<W: Write>(
     writer: &mut Counted<W>,
     so_far: Result<(), WriteFault>,
+    places: SlotTexts<'_>,
     cpu: &Cpu,
     is_step: bool,
     read: &[Part],
 ) -> Result<(), WriteFault>
     ensures { (m : Move) → is_step ≡ is_step_of m →
-        WritesAfter W.contents writer.old so_far writer.new result (spec.tail cpu.now m read.now) }
+        WritesAfter W.contents writer.old so_far writer.new result
+        (spec.tail places.entry cpu.now m read.now) }
 {
     let named = put_move(writer, so_far, cpu, is_step);
     let marked = put_unwritten(writer, named, cpu, is_step);
     let told = put_reads(writer, marked, read);
-    put(writer, told, b"\n")
+    let placed = put_slot(writer, told, places, cpu, is_step);
+    put(writer, placed, b"\n")
 }

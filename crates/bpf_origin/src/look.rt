@@ -32,13 +32,13 @@ pub fn look_back<K: Keeper, W: Write>(
     course: &mut Course<K>,
     wanted: &mut Wanted,
     parts: &[Part],
-    question: Question,
+    question: Question<'_>,
     writer: &mut Counted<W>,
     so_far: Result<(), WriteFault>,
 ) -> Looked
     ensures text { (t : Track) → Follows K.holds course.old t →
         WritesAfter W.contents writer.old so_far writer.new result.written
-        (answer_about question parts.now t.history course.old.state).text }
+        (answer_about question.entry parts.now t.history course.old.state).text }
     ensures stands { (t : Track) → Follows K.holds course.old t →
         CourseStands K.holds course.new (gone_from result.left t course.old.state) }
     ensures left { LeavesMoves K.refused course.old.keeper course.new.keeper result.left }

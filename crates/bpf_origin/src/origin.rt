@@ -50,12 +50,12 @@ pub struct Turn {
 pub fn put_origin<P: Past, W: Write>(
     history: &mut P,
     wanted: &mut Wanted,
-    question: Question,
+    question: Question<'_>,
     writer: &mut Counted<W>,
     so_far: Result<(), WriteFault>,
 ) -> Told
     ensures { TellsOrigin (past_by P.state P.follows P.room P.refused)
-        (λ (t : Track). answer question 0 question.lines wanted.old t.history
+        (λ (t : Track). answer question.entry 0 question.entry.lines wanted.old t.history
         (P.state history.old)) history.old history.new
         (WritesAfter W.contents writer.old so_far writer.new) result }
 {
@@ -182,7 +182,7 @@ fn carry_over(wanted: &mut Wanted, touched: Touched, deep: usize)
 fn take_turn<P: Past, W: Write>(
     history: &mut P,
     wanted: &mut Wanted,
-    question: Question,
+    question: Question<'_>,
     moves: u64,
     lines: u64,
     writer: &mut Counted<W>,
@@ -191,7 +191,7 @@ fn take_turn<P: Past, W: Write>(
     requires { moves + 1 < 2 ^ 64 }
     ensures takes { (r : Record) (h f : List Record) →
         P.follows history.old (record { history = r ∷ h; ahead = f }) →
-        TakesTurn P.state P.follows W.contents question moves lines wanted.old wanted.new r h f
+        TakesTurn P.state P.follows W.contents question.entry moves lines wanted.old wanted.new r h f
         (P.state history.old) history.new writer.old so_far writer.new result }
     ensures one { result.taken ≤ 1 }
     ensures keeper { IsSameKeeper P.room P.refused history.old history.new }
@@ -224,7 +224,7 @@ fn take_turn<P: Past, W: Write>(
 fn tell_rest<P: Past, W: Write>(
     history: &mut P,
     wanted: &mut Wanted,
-    question: Question,
+    question: Question<'_>,
     lines: u64,
     writer: &mut Counted<W>,
     so_far: Result<(), WriteFault>,
@@ -234,7 +234,7 @@ fn tell_rest<P: Past, W: Write>(
         WentBack P.state P.follows W.contents r h f history.new }
     ensures tells { (r : Record) (h f : List Record) →
         P.follows history.old (record { history = r ∷ h; ahead = f }) →
-        TellsRest W.contents question r wanted.old wanted.new writer.old so_far writer.new result }
+        TellsRest W.contents question.entry r wanted.old wanted.new writer.old so_far writer.new result }
     ensures turn { TakesOne lines result }
     ensures keeper { IsSameKeeper P.room P.refused history.old history.new }
 {
@@ -245,6 +245,7 @@ fn tell_rest<P: Past, W: Write>(
     let told = put_tail(
         writer,
         so_far,
+        question.places,
         history.machine(),
         taken.is_step,
         read.as_slice(),

@@ -51,11 +51,11 @@ with-names names text shown (inr is) = inr is
 module _ {K : Type 0} (holds : K → List Kept → Type 0) (refusals room : K → ℕ) where
   pub tells-answer : {A E : Type 0} (items : A → List ℕ) (r : Result A E) (m : Manners) (what : Option What) (old new : SessionValue K) (left : ℕ) (shown : List ℕ)
       → ComesBack holds refusals room old new left
-      → IfOk r (λ a. (t : Track) → HasPast holds old t → items a ≡ (answer_about (question_of m.moves t) (parts_asked old.moment.state what) t.history old.moment.state).text)
+      → IfOk r (λ a. (t : Track) → HasPast holds old t → items a ≡ (answer_about (question_of m.target.places m.moves t) (parts_asked old.moment.state what) t.history old.moment.state).text)
       → MatchResult r (λ a. FitsNamed m.target.names (items a) shown) (λ _. shown ≡ too_long)
       → TellsOrigin holds refusals room m (Ok what) old new left shown
   tells-answer items r m what old new left shown back texts is =
-      (back, fitting-named items r shown m.target.names (HasPast holds old) (λ t. (answer_about (question_of m.moves t) (parts_asked old.moment.state what) t.history old.moment.state).text) is texts)
+      (back, fitting-named items r shown m.target.names (HasPast holds old) (λ t. (answer_about (question_of m.target.places m.moves t) (parts_asked old.moment.state what) t.history old.moment.state).text) is texts)
 
 -- No part is left, and one more was shown.
 shows-none : Shows [] []

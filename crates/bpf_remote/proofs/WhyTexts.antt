@@ -84,14 +84,14 @@ module _ {K : Type 0} (holds : K → List Kept → Type 0) (refusals room : K �
   -- An answer about some slots.
   pub tells-goals : {A E : Type 0} (items : A → List ℕ) (r : Result A E) (m : Manners) (asked : List ℕ) (old new : SessionValue K) (aim : Aim) (left : ℕ) (shown : List ℕ)
       → (aims : IsAim old.moment.state.program asked aim) → ComesBack holds refusals room old new left
-      → IfOk r (λ a. (t : Track) → HasPast holds old t → items a ≡ (why_not (told_by aim.reach) (query_of m.moves aims.goals t) t.history old.moment.state).text)
+      → IfOk r (λ a. (t : Track) → HasPast holds old t → items a ≡ (why_not (told_by aim.reach) (query_of m.target.places m.moves aims.goals t) t.history old.moment.state).text)
       → MatchResult r (λ a. FitsNamed m.target.names (items a) shown) (λ _. shown ≡ too_long) → TellsWhynot holds refusals room m asked old new left shown
   tells-goals items r m asked old new aim left shown aims back texts is =
       inl (subst (λ (goals : Result (List ℕ) GoalFault). TellsGoals holds refusals room m goals old new left shown) (sym aims.named) (
         told_by aim.reach,
         aims.tells,
         back,
-        fitting-named items r shown m.target.names (HasPast holds old) (λ t. (why_not (told_by aim.reach) (query_of m.moves aims.goals t) t.history old.moment.state).text) is texts,
+        fitting-named items r shown m.target.names (HasPast holds old) (λ t. (why_not (told_by aim.reach) (query_of m.target.places m.moves aims.goals t) t.history old.moment.state).text) is texts,
       ))
 
   -- Why there is none.

@@ -17,13 +17,15 @@ use Rattle.bpf_origin.specs.declared.fault.WhatFault.{WhatFault}
 use Rattle.bpf_origin.specs.declared.question.Question.{Question}
 use Rattle.bpf_origin.specs.declared.what.What.{What}
 use Rattle.bpf_session.specs.Sessions.{HasPast, SessionValue, bounds_of}
+use Rattle.bpfdb_script.specs.SlotTexts.{SlotTexts}
 use Rattle.bpf_remote.specs.Numbers.{behind, hex_text}
 use Rattle.bpf_remote.specs.Packets.{framed}
 use Rattle.bpf_remote.specs.declared.manners.Manners.{Manners}
 
--- The most lines of moves that are told.
-abbrev pub most_lines : ℕ
-most_lines = 500
+-- The most lines of moves that are told: fewer where places stand in them, so that they fit as well.
+abbrev pub most_lines : SlotTexts → ℕ
+most_lines None = 500
+most_lines (Some texts) = 250
 
 -- What a line asks about, by the digits that gdb writes for it: nothing where it is `origin`, and the text behind `origin` and a blank; None
 -- for another line.
@@ -44,9 +46,10 @@ named_in x (Some text) = some_named (what_in x text)
 abbrev pub asked_in : State → List ℕ → Option (Result (Option What) WhatFault)
 asked_in x digits = option_map (named_in x) (asks_origin digits)
 
--- How it is asked, where so many moves lie before the state. The oldest kept state is the opening where each of them is kept.
-abbrev pub question_of : ℕ → Track → Question
-question_of moves t = record { addresses = false; lines = most_lines; opening = length t.history == moves }
+-- How it is asked, with what is told of slots, where so many moves lie before the state. The oldest kept state is the opening where each of them is
+-- kept.
+abbrev pub question_of : SlotTexts → ℕ → Track → Question
+question_of places moves t = record { addresses = false; lines = most_lines places; opening = length t.history == moves; places = places }
 
 -- The line of a refusal.
 abbrev pub refused_line : List ℕ → ℕ → List ℕ → List ℕ
@@ -103,4 +106,4 @@ module _ {K : Type 0} (holds : K → List Kept → Type 0) (refusals room : K �
   TellsOrigin m (Ok what) old new left text =
       ComesBack old new left
       × ((t : Track) → HasPast holds old t →
-      FitsNamed m.target.names (answer_about (question_of m.moves t) (parts_asked old.moment.state what) t.history old.moment.state).text text)
+      FitsNamed m.target.names (answer_about (question_of m.target.places m.moves t) (parts_asked old.moment.state what) t.history old.moment.state).text text)

@@ -18,6 +18,7 @@ use Rattle.bpf_whynot.specs.declared.fault.AimFault.{AimFault}
 use Rattle.bpf_whynot.specs.declared.fault.AimFault.TheVariants.{Goal, OutOfMemory}
 use Rattle.bpf_whynot.specs.declared.fault.GoalFault.{GoalFault}
 use Rattle.bpfdb_script.specs.Refusals.{refusal_text}
+use Rattle.bpfdb_script.specs.SlotTexts.{SlotTexts}
 use Rattle.bpfdb_script.specs.declared.refusal.Refusal.TheVariants as refusal
 use Rattle.bpf_remote.specs.Numbers.{behind}
 use Rattle.bpf_remote.specs.Origins.{ComesBack, Fits, FitsNamed, question_of, refused_line}
@@ -40,9 +41,9 @@ abbrev pub aim_refusal : AimFault → List ℕ
 aim_refusal (Goal fault) = refused_line (codes "refused V") (goal_fault fault).0 (goal_fault fault).1
 aim_refusal OutOfMemory = refusal_text refusal.OutOfMemory
 
--- What is asked of a session with this history, where so many moves lie before the state.
-abbrev pub query_of : ℕ → List ℕ → Track → Query
-query_of moves goals t = record { goals = goals; question = question_of moves t; alone = false; places = None }
+-- What is asked of a session with this history, with what is told of slots, where so many moves lie before the state.
+abbrev pub query_of : SlotTexts → ℕ → List ℕ → Track → Query
+query_of places moves goals t = record { goals = goals; question = question_of places moves t; alone = false }
 
 module _ {K : Type 0} (holds : K → List Kept → Type 0) (refusals room : K → ℕ) where
   -- What is told of slots: the answer over the kept history, by a test that tells from where they can be come to, with the names that are known; or
@@ -52,7 +53,7 @@ module _ {K : Type 0} (holds : K → List Kept → Type 0) (refusals room : K �
   TellsGoals m (Ok goals) old new left text = (can : ℕ → List ℕ → Bool) × TellsReach old.moment.state.program goals can
       × ComesBack holds refusals room old new left
       × ((t : Track) → HasPast holds old t →
-      FitsNamed m.target.names (why_not can (query_of m.moves goals t) t.history old.moment.state).text text)
+      FitsNamed m.target.names (why_not can (query_of m.target.places m.moves goals t) t.history old.moment.state).text text)
 
   -- The same of the slots that a text names; or that there is no memory for that test.
   abbrev pub TellsWhynot : Manners → List ℕ → SessionValue K → SessionValue K → ℕ → List ℕ → Type 0

@@ -6,7 +6,7 @@ ghost use Rattle.bpf_journal.specs.Tracks.{Track};
 ghost use Rattle.bpf_lines.specs.NamedTexts.{named_text};
 ghost use Rattle.bpf_origin.specs.Asked.{answer_about, parts_asked};
 ghost use Rattle.bpf_remote.specs.Numbers.{hex_text};
-ghost use Rattle.bpf_remote.specs.Origins.{ComesBack, Fits, FitsNamed, Shows, TellsOrigin, asked_in, longest_part, named_in, question_of, refused_line, too_long};
+ghost use Rattle.bpf_remote.specs.Origins.{ComesBack, Fits, FitsNamed, Shows, TellsOrigin, asked_in, longest_part, most_lines, named_in, question_of, refused_line, too_long};
 ghost use Rattle.bpf_remote.specs.Packets.{framed, longest_body};
 ghost use Rattle.bpf_session.specs.Sessions.{HasPast};
 ghost use Rattle.counted_io.specs.Writing.{WritesAfter};
@@ -23,12 +23,10 @@ use bpf_lines::{Names, put_named};
 use bpf_machine::Cpu;
 use bpf_origin::{Question, Wanted, What, WhatFault, look_back, parts_asked};
 use bpf_session::Session;
+use bpfdb_script::SlotTexts;
 use counted_io::{Counted, WriteFault, put, put_decimal};
 use std::alloc::Global;
 use std::io::Write;
-
-/// The most lines of moves that are told.
-pub(crate) const MOST_LINES: u64 = 500;
 
 /// The longest answer, in bytes.
 const LONGEST_ANSWER: usize = 32768;
@@ -50,6 +48,16 @@ pub(crate) struct Answered {
     pub written: Result<(), WriteFault>,
     /// How many moves the session's keeper refused to keep again.
     pub left: u64,
+}
+
+/// The most lines of moves that are told: fewer where places stand in them, so that they fit as well.
+pub(crate) fn most_lines(places: SlotTexts<'_>) -> u64
+    ensures { result ≡ most_lines places.entry }
+{
+    match places {
+        None => 500,
+        Some(_) => 250,
+    }
 }
 
 /// What a line asks about a machine, which hexadecimal digits spell, or why that is refused. None
@@ -99,16 +107,18 @@ fn answer_text<K: Keeper>(
     wanted: &mut Wanted,
     what: Option<What>,
     moves: u64,
+    places: SlotTexts<'_>,
 ) -> Answered
     ensures back { ComesBack K.holds K.refused K.room session.old session.new result.left }
     ensures text { IfOk result.written (λ _. (t : Track) → HasPast K.holds session.old t →
-        result.text.items ≡ (answer_about (question_of moves t)
+        result.text.items ≡ (answer_about (question_of places.entry moves t)
         (parts_asked session.old.moment.state what) t.history session.old.moment.state).text) }
 {
     let question = Question {
         addresses: false,
-        lines: MOST_LINES,
+        lines: most_lines(places),
         opening: session.kept() as u64 == moves,
+        places,
     };
     let parts = parts_asked(session.cpu(), what);
     let mut writer = Counted::new(ArrayVec::new());
@@ -196,7 +206,7 @@ fn show_answer<K: Keeper, W: Write>(
     show_answered(
         alloc,
         manners.target.names,
-        answer_text(session, wanted, what, manners.moves),
+        answer_text(session, wanted, what, manners.moves, manners.target.places),
         body,
         writer,
         so_far,

@@ -15,7 +15,7 @@ ghost use Rattle.hex.specs.Hex.{decode_of};
 use crate::body::{Body, LONGEST_BODY};
 use crate::manners::Manners;
 use crate::number::behind;
-use crate::origin::{Answered, MOST_LINES, show_answered, show_refused};
+use crate::origin::{Answered, most_lines, show_answered, show_refused};
 use crate::parser::is;
 use arrayvec::ArrayVec;
 use bpf_isa::Program;
@@ -23,6 +23,7 @@ use bpf_journal::Keeper;
 use bpf_origin::{Question, Wanted};
 use bpf_session::{Refusal, Session};
 use bpf_whynot::{Aim, AimFault, Search, look_why};
+use bpfdb_script::SlotTexts;
 use counted_io::{Counted, WriteFault};
 use std::alloc::Global;
 use std::io::Write;
@@ -139,7 +140,7 @@ fn show_goals<K: Keeper, W: Write>(
     show_answered(
         alloc,
         manners.target.names,
-        why_text(session, wanted, aim, manners.moves),
+        why_text(session, wanted, aim, manners.moves, manners.target.places),
         body,
         writer,
         so_far,
@@ -154,25 +155,26 @@ fn why_text<K: Keeper>(
     wanted: &mut Wanted,
     aim: &Aim,
     moves: u64,
+    places: SlotTexts<'_>,
 ) -> Answered
     ensures back { (asked : List ℕ) → IsAim session.old.moment.state.program asked aim.now →
         ComesBack K.holds K.refused K.room session.old session.new result.left }
     ensures text { (asked : List ℕ) (aims : IsAim session.old.moment.state.program asked aim.now) →
         IfOk result.written (λ _. (t : Track) → HasPast K.holds session.old t →
-        result.text.items ≡ (why_not (told_by aim.now.reach) (query_of moves aims.goals t)
+        result.text.items ≡ (why_not (told_by aim.now.reach) (query_of places.entry moves aims.goals t)
         t.history session.old.moment.state).text) }
 {
     let question = Question {
         addresses: false,
-        lines: MOST_LINES,
+        lines: most_lines(places),
         opening: session.kept() as u64 == moves,
+        places,
     };
     let search = Search {
         reach: &aim.reach,
         goals: aim.goals.as_slice(),
         question,
         alone: false,
-        places: None,
     };
     let mut writer = Counted::new(ArrayVec::new());
     let looked = look_why(session.course_mut(), &search, wanted, &mut writer, Ok(()));

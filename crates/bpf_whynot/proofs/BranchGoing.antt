@@ -23,7 +23,7 @@ use Rattle.bpf_origin.specs.Wanted.{most_places, want_parts}
 use Rattle.bpf_origin.specs.declared.place.Part.{Part}
 use Rattle.bpf_origin.specs.declared.place.Place.{Place}
 use Rattle.bpf_origin.specs.declared.question.Extent.TheVariants.{Lines, Whole}
-use Rattle.bpf_whynot.specs.declared.query.Query.{Query}
+use Rattle.bpf_origin.specs.declared.question.Question.{Question}
 use Rattle.bpf_origin.specs.declared.question.Told.{Told}
 use Rattle.bpf_origin.proofs.Backs.{back_more}
 use Rattle.bpf_steps.specs.State.{State}
@@ -40,7 +40,7 @@ use Rattle.bpf_whynot.specs.declared.hunt.Turn.TheVariants.{On, Cut}
 with_more : (a b : List ℕ) (rest : Answer) → with_line a (with_line b rest) ≡ with_line (a ++ b) rest
 with_more a b rest = ap (λ (text : List ℕ). record rest { text = text }) (sym (append_assoc a b rest.text))
 
-module _ {K W : Type 0} (holds : K → List Kept → Type 0) (contents : W → Option (List ℕ)) (q : Query) (parts : List Part) (was : Tally W) (before : Result (Unit {0}) WriteFault)
+module _ {K W : Type 0} (holds : K → List Kept → Type 0) (contents : W → Option (List ℕ)) (q : Question) (parts : List Part) (was : Tally W) (before : Result (Unit {0}) WriteFault)
     (t : Track) (y : State) where
   -- After k moves.
   pub record Going (k : ℕ) (hunt : Hunt) (wanted : List Place) (p : CourseValue K) (now : Tally W) : Type 0 where
@@ -54,15 +54,15 @@ module _ {K W : Type 0} (holds : K → List Kept → Type 0) (contents : W → O
     pub writes : WritesAfter contents was before now hunt.told text
     pub is : (rest : Answer) → Branches q k (quest_of hunt wanted) history p.state rest → AreBranches q parts t.history y (with_line text rest)
 
-  begins_about : (hunt : Hunt) (wanted : List Place) (x : State) → Begins x q.question before hunt → wanted ≡ take most_places (want_parts [] parts)
+  begins_about : (hunt : Hunt) (wanted : List Place) (x : State) → Begins x q before hunt → wanted ≡ take most_places (want_parts [] parts)
       → quest_of hunt wanted ≡ quest_about q parts x
   begins_about hunt wanted x b all =
       ap (quest_of hunt) all
       ∙ ap (λ (n : ℕ). record (quest_of hunt (take most_places (want_parts [] parts))) { values = n }) b.values
-      ∙ ap (λ (a : Aim). record (quest_of hunt (take most_places (want_parts [] parts))) { values = q.question.lines; aim = a }) b.aim
+      ∙ ap (λ (a : Aim). record (quest_of hunt (take most_places (want_parts [] parts))) { values = q.lines; aim = a }) b.aim
       ∙ ap (λ (n : ℕ). record (quest_about q parts x) { lines = n }) b.lines
 
-  pub going_begins : (hunt : Hunt) (wanted : List Place) (p : CourseValue K) → Follows holds p t → p.state ≡ y → Begins p.state q.question before hunt
+  pub going_begins : (hunt : Hunt) (wanted : List Place) (p : CourseValue K) → Follows holds p t → p.state ≡ y → Begins p.state q before hunt
       → wanted ≡ take most_places (want_parts [] parts) → Going 0 hunt wanted p was
   going_begins hunt wanted p stands at b all = record {
     history = t.history;
@@ -152,17 +152,17 @@ module _ {K W : Type 0} (holds : K → List Kept → Type 0) (contents : W → O
       → Follows holds p (record { history = hs; ahead = f }) → gone_from k t y ≡ stand hs f p.state → length hs + k ≡ length t.history → length t.history ≤ k
       → WritesAfter contents was before now hunt.told text
       → ((rest : Answer) → Branches q k (quest_of hunt wanted) hs p.state rest → AreBranches q parts t.history y (with_line text rest))
-      → WritesAfter contents now hunt.told more written (end_text q.question.opening)
+      → WritesAfter contents now hunt.told more written (end_text q.opening)
       → told ≡ record { written = written; extent = Whole; moves = length t.history } → (c : CourseValue K) → c.state ≡ y
       → TellsBranches holds q (WritesAfter contents was before more) parts c p told t
   end_in k hunt wanted written p now more (r ∷ h) f text told stands way count all writes is last e c begins = absurd (omega (arith, count, all))
   end_in k hunt wanted written p now more [] f text told stands way count all writes is last e c begins =
       let full : k ≡ length t.history = omega (arith, count) in
-      let whole : Answer = record { text = text ++ end_text q.question.opening; extent = Whole } in
+      let whole : Answer = record { text = text ++ end_text q.opening; extent = Whole } in
       let tells : TellsBranches holds q (WritesAfter contents was before more) parts c p (record { written = written; extent = Whole; moves = length t.history }) t = record {
         answer = whole;
-        is = subst (λ (x : State). AreBranches q parts t.history x whole) (sym begins) (is (only (end_text q.question.opening)) is_ended);
-        text = WritesAfter-WritesAfter contents was now more before hunt.told written text (end_text q.question.opening) (text ++ end_text q.question.opening) writes last refl;
+        is = subst (λ (x : State). AreBranches q parts t.history x whole) (sym begins) (is (only (end_text q.opening)) is_ended);
+        text = WritesAfter-WritesAfter contents was now more before hunt.told written text (end_text q.opening) (text ++ end_text q.opening) writes last refl;
         extent = refl;
         back = subst (λ (x : State). CourseStands holds p (gone_from (length t.history) t x)) (sym begins)
             (subst (λ (m : ℕ). CourseStands holds p (gone_from m t y)) full
@@ -175,7 +175,7 @@ module _ {K W : Type 0} (holds : K → List Kept → Type 0) (contents : W → O
   whole written moves = record { written = written; extent = Whole; moves = moves }
 
   pub going_ends : (k kept : ℕ) (hunt : Hunt) (wanted : List Place) (written : Result (Unit {0}) WriteFault) (p : CourseValue K) (now more : Tally W) (c : CourseValue K)
-      → Going k hunt wanted p now → length t.history ≤ k → WritesAfter contents now hunt.told more written (end_text q.question.opening) → kept ≡ length t.history → c.state ≡ y
+      → Going k hunt wanted p now → length t.history ≤ k → WritesAfter contents now hunt.told more written (end_text q.opening) → kept ≡ length t.history → c.state ≡ y
       → TellsBranches holds q (WritesAfter contents was before more) parts c p (record { written = written; extent = Whole; moves = kept }) t
   going_ends k kept hunt wanted written p now more c g all last all_kept begins =
       end_in k hunt wanted written p now more g.history g.ahead g.text (whole written kept) g.stands g.way g.count all g.writes g.is last (ap (whole written) all_kept) c begins

@@ -57,10 +57,10 @@ because_is s r h x parts alone none is at =
     ∙ ap (λ (ps : List Part). with_line (place x ++ codes "\n") (answer_about s.question ps h x)) (sym is)
 
 pub left_is : (s : Query) (k : ℕ) (r : Record) (h : List Record) (x y : State) → stood_at s r ≡ false → x ≡ r.before
-    → left_by s k r h y ≡ with_line (lost_line s.places k x r.move y) (because s r h)
+    → left_by s k r h y ≡ with_line (lost_line s.question.places k x r.move y) (because s r h)
 left_is s k r h x y e at =
-    ap (λ (b : Bool). if b then only (reached_text k) else with_line (lost_line s.places k r.before r.move y) (because s r h)) e
-    ∙ ap (λ (z : State). with_line (lost_line s.places k z r.move y) (because s r h)) (sym at)
+    ap (λ (b : Bool). if b then only (reached_text k) else with_line (lost_line s.question.places k r.before r.move y) (because s r h)) e
+    ∙ ap (λ (z : State). with_line (lost_line s.question.places k z r.move y) (because s r h)) (sym at)
 
 pub still_is : (can : ℕ → List ℕ → Bool) (s : Query) (h : List Record) (y : State) → can_from can y ≡ true → why_not can s h y ≡ only still_text
 still_is can s h y e = ap (λ (b : Bool). if b then only still_text else left_after can s 0 h y) e

@@ -20,7 +20,7 @@ use Rattle.bpf_origin.specs.Answers.{Answer, wanted_before}
 use Rattle.bpf_origin.specs.Reads.{followed}
 use Rattle.bpf_origin.specs.Wanted.{most_places, still_wanted}
 use Rattle.bpf_origin.specs.declared.place.Place.{Place}
-use Rattle.bpf_whynot.specs.declared.query.Query.{Query}
+use Rattle.bpf_origin.specs.declared.question.Question.{Question}
 use Rattle.bpf_origin.specs.Texts.{lines_text}
 use Rattle.bpf_steps.specs.State.{State, depth}
 use Rattle.bpf_whynot.specs.Answers.{lost_line}
@@ -170,7 +170,7 @@ read_by_edit addresses x move.Step is = absurd cc
 read_by_edit true x (move.Edit e) is = refl
 read_by_edit false x (move.Edit e) is = refl
 
-module _ {W : Type 0} (contents : W → Option (List ℕ)) (q : Query) (k : ℕ) (r : Record) (h : List Record) (y : State) (wanted left : List Place) where
+module _ {W : Type 0} (contents : W → Option (List ℕ)) (q : Question) (k : ℕ) (r : Record) (h : List Record) (y : State) (wanted left : List Place) where
   on_with : (s t : Quest) (rest : Answer) → s ≡ t → Branches q (k + 1) s h r.before rest → Branches q (k + 1) t h r.before rest
   on_with s t rest e on = subst (λ (u : Quest). Branches q (k + 1) u h r.before rest) e on
 
@@ -200,7 +200,7 @@ module _ {W : Type 0} (contents : W → Option (List ℕ)) (q : Query) (k : ℕ)
         (on_with _ _ rest (chases.2 left ∙ ap (λ (ws : List Place). record (quest_of hunt ws) { aim = aim_at r.before }) still) on);
   }
 
-  pub turn_values : (old : Tally W) (hunt : Hunt) (turn : Turn) → left ≡ take most_places (wanted_before q.question r y wanted) → made (quest_of hunt wanted) r y ≡ true
+  pub turn_values : (old : Tally W) (hunt : Hunt) (turn : Turn) → left ≡ take most_places (wanted_before q r y wanted) → made (quest_of hunt wanted) r y ≡ true
       → Chases r.before (record hunt { values = hunt.values - 1 }) turn
       → Takes contents q k r h y wanted left old hunt old turn
   turn_values old hunt (Cut written) more is chases = absurd chases

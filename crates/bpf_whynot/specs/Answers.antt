@@ -9,20 +9,19 @@ use Rattle.bpf_journal.specs.Histories.{Record, is_step}
 use Rattle.bpf_origin.specs.Answers.{Answer, with_line}
 use Rattle.bpf_origin.specs.Asked.{answer_about}
 use Rattle.bpf_origin.specs.Reads.{conditions}
-use Rattle.bpf_origin.specs.Texts.{move_text, part_text}
+use Rattle.bpf_origin.specs.Texts.{move_text, part_text, slot_text}
 use Rattle.bpf_origin.specs.declared.place.Part.{Part}
 use Rattle.bpf_origin.specs.declared.question.Question.{Question}
 use Rattle.bpf_origin.specs.declared.question.Extent.TheVariants.{Whole}
 use Rattle.bpfdb_script.specs.Texts.{place}
-use Rattle.bpfdb_script.specs.SlotTexts.{SlotTexts, text_of_slot}
+use Rattle.bpfdb_script.specs.SlotTexts.{SlotTexts}
 use Rattle.bpf_whynot.specs.Reach.{can_from, is_goal}
 
--- What is asked: the slots, how the answer about values is made, and whether that is left out; and what is told of the slots of the line of a move.
+-- What is asked: the slots, how the answer about values is made, and whether that is left out.
 pub record Query : Type 0 where
   pub goals : List ℕ
   pub question : Question
   pub alone : Bool
-  pub places : SlotTexts
 
 -- A text that is the whole answer.
 abbrev pub only : List ℕ → Answer
@@ -51,11 +50,6 @@ went_text x move.Step y =
     else jumped_text y.pc
 went_text x (move.Edit e) y = edited_text y.pc
 
--- What is told of the slot of a step. An edit has none.
-abbrev pub slot_text : SlotTexts → State → Move → List ℕ
-slot_text places x move.Step = text_of_slot places x.pc
-slot_text places x (move.Edit e) = []
-
 -- The line of a move, so many moves back: which it was, the values that it compared, where it went, and what is told of its slot.
 unfoldable pub compared_text : State → Part → List ℕ
 compared_text x p = codes "; " ++ part_text x p
@@ -81,7 +75,7 @@ stood_at s r = is_step r.move && is_goal s.goals r.before.pc
 
 abbrev pub left_by : Query → ℕ → Record → List Record → State → Answer
 left_by s k r h y =
-    if stood_at s r then only (reached_text k) else with_line (lost_line s.places k r.before r.move y) (because s r h)
+    if stood_at s r then only (reached_text k) else with_line (lost_line s.question.places k r.before r.move y) (because s r h)
 
 -- After k moves, from none of whose states a goal can be come to.
 unfoldable pub left_after : (ℕ → List ℕ → Bool) → Query → ℕ → List Record → State → Answer

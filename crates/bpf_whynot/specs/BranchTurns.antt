@@ -12,7 +12,6 @@ use Rattle.bpf_whynot.specs.Sures.{TellsSure, told_sure}
 use Rattle.bpf_origin.specs.declared.place.Place.{Place}
 use Rattle.bpf_origin.specs.declared.question.Question.{Question}
 use Rattle.bpf_whynot.specs.Branches.{Branches, Quest, aim_at}
-use Rattle.bpf_whynot.specs.declared.query.Query.{Query}
 use Rattle.bpf_whynot.specs.declared.hunt.Hunt.{Hunt}
 use Rattle.bpf_whynot.specs.declared.hunt.Turn.{Turn}
 use Rattle.bpf_whynot.specs.declared.hunt.Turn.TheVariants.{On, Cut}
@@ -38,7 +37,7 @@ abbrev pub Chases : State → Hunt → Turn → Type 0
 Chases x hunt (On next) = Knows x next × (next.told ≡ hunt.told) × ((wanted : List Place) → quest_of next wanted ≡ record (quest_of hunt wanted) { aim = aim_at x })
 Chases x hunt (Cut written) = ⊥
 
-module _ {W : Type 0} (contents : W → Option (List ℕ)) (q : Query) (k : ℕ) (r : Record) (h : List Record) (y : State) (wanted left : List Place) where
+module _ {W : Type 0} (contents : W → Option (List ℕ)) (q : Question) (k : ℕ) (r : Record) (h : List Record) (y : State) (wanted left : List Place) where
   -- The move was passed, or told.
   pub record GoesOn (old : Tally W) (hunt : Hunt) (now : Tally W) (next : Hunt) : Type 0 where
     pub knows : Knows r.before next

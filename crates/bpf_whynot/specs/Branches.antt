@@ -17,10 +17,10 @@ use Rattle.bpf_origin.specs.Writes.{written}
 use Rattle.bpf_origin.specs.declared.place.Part.{Part}
 use Rattle.bpf_origin.specs.declared.place.Place.{Place}
 use Rattle.bpf_origin.specs.declared.question.Extent.TheVariants.{Lines}
+use Rattle.bpf_origin.specs.declared.question.Question.{Question}
 use Rattle.bpf_whynot.specs.Answers.{lost_line, only}
 use Rattle.bpf_whynot.specs.Sures.{IsSure}
 use Rattle.bpf_whynot.specs.declared.branch_aim.Aim.{Aim}
-use Rattle.bpf_whynot.specs.declared.query.Query.{Query}
 
 -- A conditional jump decides that its function comes to a slot (control dependence): by one way out of it that is sure, and by the other it isn't.
 abbrev pub JustOne : Type 0 → Type 0 → Type 0
@@ -64,8 +64,8 @@ made s r y = if s.values == 0 then false else are_hit (written y (overwritten r.
 
 -- Behind such a move it is looked for what that read, and how the program came to it; behind a branch that is told for how it came to that; behind
 -- a call that began the function for how it came to the call.
-abbrev pub behind_value : Query → Quest → Record → State → Quest
-behind_value q s r y = record s { wanted = take most_places (wanted_before q.question r y s.wanted); values = s.values - 1; aim = aim_at r.before }
+abbrev pub behind_value : Question → Quest → Record → State → Quest
+behind_value q s r y = record s { wanted = take most_places (wanted_before q r y s.wanted); values = s.values - 1; aim = aim_at r.before }
 
 abbrev pub behind : Quest → Record → State → Quest
 behind s r y = record s { wanted = still_wanted y (overwritten r.before r.move) s.wanted }
@@ -78,8 +78,8 @@ behind_branch s r y = record (behind_call s r y) { lines = s.lines - 1 }
 
 -- The answer after k moves. The latest move is told that decided that the function came to the slot which is looked for: the oldest one, in that call,
 -- that is to be explained. (What decided about a younger one decided about that, too: `OlderIsDecided` of Laws.)
-pub data Branches (q : Query) : ℕ → Quest → List Record → State → Answer → Type 0 where
-  ended : {k : ℕ} {s : Quest} {y : State} → Branches q k s [] y (only (end_text q.question.opening))
+pub data Branches (q : Question) : ℕ → Quest → List Record → State → Answer → Type 0 where
+  ended : {k : ℕ} {s : Quest} {y : State} → Branches q k s [] y (only (end_text q.opening))
   valued : {k : ℕ} {s : Quest} {r : Record} {h : List Record} {y : State} {rest : Answer} → made s r y ≡ true
       → Branches q (k + 1) (behind_value q s r y) h r.before rest → Branches q k s (r ∷ h) y rest
   called : {k : ℕ} {s : Quest} {r : Record} {h : List Record} {y : State} {rest : Answer} → made s r y ≡ false → depth r.before < s.aim.depth
@@ -93,8 +93,8 @@ pub data Branches (q : Query) : ℕ → Quest → List Record → State → Answ
       → Branches q k s (r ∷ h) y (record { text = lines_text; extent = Lines })
 
 -- The answer about some parts, where a machine stands.
-abbrev pub quest_about : Query → List Part → State → Quest
-quest_about q parts y = record { wanted = take most_places (want_parts [] parts); values = q.question.lines; aim = aim_at y; lines = q.question.lines }
+abbrev pub quest_about : Question → List Part → State → Quest
+quest_about q parts y = record { wanted = take most_places (want_parts [] parts); values = q.lines; aim = aim_at y; lines = q.lines }
 
-abbrev pub AreBranches : Query → List Part → List Record → State → Answer → Type 0
+abbrev pub AreBranches : Question → List Part → List Record → State → Answer → Type 0
 AreBranches q parts h y answer = Branches q 0 (quest_about q parts y) h y answer

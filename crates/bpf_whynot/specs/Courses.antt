@@ -10,11 +10,11 @@ use Rattle.bpf_origin.specs.declared.place.Part.{Part}
 use Rattle.bpf_origin.specs.declared.question.Told.{Told}
 use Rattle.bpf_steps.specs.State.{State}
 use Rattle.bpf_whynot.specs.Branches.{AreBranches}
-use Rattle.bpf_whynot.specs.declared.query.Query.{Query}
+use Rattle.bpf_origin.specs.declared.question.Question.{Question}
 use Rattle.bpf_whynot.specs.declared.branch_text.Found.{Found}
 
 -- The answer was written, and the moves that were taken back for it can be made again.
-pub record TellsBranches {K : Type 0} (holds : K → List Kept → Type 0) (q : Query) (writes : Result (Unit {0}) WriteFault → List ℕ → Type 0)
+pub record TellsBranches {K : Type 0} (holds : K → List Kept → Type 0) (q : Question) (writes : Result (Unit {0}) WriteFault → List ℕ → Type 0)
     (parts : List Part) (old new : CourseValue K) (told : Told) (t : Track) : Type 0 where
   pub answer : Answer
   pub is : AreBranches q parts t.history old.state answer
@@ -29,7 +29,7 @@ pub record IsSameCourse {K : Type 0} (size refusals : K → ℕ) (old new : Cour
   pub refused : refusals new.keeper ≡ refusals old.keeper
 
 -- An answer by itself, with what it was found over, as that was.
-pub record IsFound (q : Query) (parts : List Part) (h : List Record) (y : State) (found : Found) : Type 0 where
+pub record IsFound (q : Question) (parts : List Part) (h : List Record) (y : State) (found : Found) : Type 0 where
   pub answer : Answer
   pub is : AreBranches q parts h y answer
   pub text : found.text.items ≡ answer.text

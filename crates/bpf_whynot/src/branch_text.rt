@@ -5,9 +5,8 @@ ghost use Rattle.bpf_journal.specs.Tracks.{RingHolds};
 ghost use Rattle.bpf_whynot.specs.Courses.{IsFound};
 
 use crate::branches::put_branches;
-use crate::query::Query;
 use bpf_journal::{Course, RingKeeper, Timeline};
-use bpf_origin::{Extent, Part, Wanted, go_on};
+use bpf_origin::{Extent, Part, Question, Wanted, go_on};
 use counted_io::{Counted, WriteFault};
 use std::alloc::{AllocError, Global};
 
@@ -27,11 +26,11 @@ pub fn find_branches(
     timeline: Timeline<RingKeeper>,
     wanted: &mut Wanted,
     parts: &[Part],
-    query: Query<'_>,
+    question: Question<'_>,
 ) -> Result<Found, AllocError>
     ensures { IfOk result (λ found. (h : List Record) →
         StandsFor RingHolds timeline.keeper timeline.state h →
-        IsFound query.entry parts.now h timeline.state found) }
+        IsFound question.entry parts.now h timeline.state found) }
 {
     let (cpu, keeper) = timeline.close();
     let redo = match RingKeeper::open(alloc, keeper.capacity()) {
@@ -45,7 +44,7 @@ pub fn find_branches(
         &mut course,
         wanted,
         parts,
-        query,
+        question,
         &mut writer,
         Ok(()),
     ) {

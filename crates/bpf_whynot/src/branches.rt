@@ -12,7 +12,6 @@ ghost use Rattle.counted_io.specs.Writing.{WritesAfter};
 
 use crate::branch_aim::Aim;
 use crate::hunt::{Hunt, Turn};
-use crate::query::Query;
 use crate::turn::{chase, turn};
 use crate::value::{spare_written, want_read};
 use crate::{Standing, Sure};
@@ -32,25 +31,25 @@ pub fn put_branches<K: Keeper, W: Write>(
     course: &mut Course<K>,
     wanted: &mut Wanted,
     parts: &[Part],
-    query: Query<'_>,
+    question: Question<'_>,
     writer: &mut Counted<W>,
     so_far: Result<(), WriteFault>,
 ) -> Result<Told, AllocError>
     ensures tells { IfOk result (λ told. (t : Track) → Follows K.holds course.old t →
-        TellsBranches K.holds query.entry (WritesAfter W.contents writer.old so_far writer.new)
+        TellsBranches K.holds question.entry (WritesAfter W.contents writer.old so_far writer.new)
         parts.now course.old course.new told t) }
     ensures keeper { IsSameCourse K.room K.refused course.old course.new }
 {
     wanted.clear();
     let _all = wanted.want_parts(parts);
-    let mut hunt = match begin(alloc, course.cpu(), query.question, so_far) {
+    let mut hunt = match begin(alloc, course.cpu(), question, so_far) {
         Ok(hunt) => hunt,
         Err(error) => return Err(error),
     };
     let kept = course.len();
     for k in 0..kept {
         let moves = k as u64 + 1;
-        let turn = match take(alloc, course, moves, query, hunt, wanted, writer) {
+        let turn = match take(alloc, course, moves, question, hunt, wanted, writer) {
             Ok(turn) => turn,
             Err(error) => return Err(error),
         };
@@ -65,7 +64,7 @@ pub fn put_branches<K: Keeper, W: Write>(
             }
         }
     }
-    let last = put_end(writer, hunt.told, query.question.opening);
+    let last = put_end(writer, hunt.told, question.opening);
     Ok(Told {
         written: last,
         extent: Extent::Whole,
@@ -77,10 +76,10 @@ pub fn put_branches<K: Keeper, W: Write>(
 fn begin(
     alloc: Global,
     cpu: &Cpu,
-    question: Question,
+    question: Question<'_>,
     so_far: Result<(), WriteFault>,
 ) -> Result<Hunt, AllocError>
-    ensures { IfOk result (λ hunt. Begins cpu.now question so_far hunt) }
+    ensures { IfOk result (λ hunt. Begins cpu.now question.entry so_far hunt) }
 {
     let aim = Aim::of(cpu);
     match Sure::find(alloc, cpu.program(), aim.slot) {
@@ -100,7 +99,7 @@ fn take<K: Keeper, W: Write>(
     alloc: Global,
     course: &mut Course<K>,
     moves: u64,
-    query: Query<'_>,
+    question: Question<'_>,
     hunt: Hunt,
     wanted: &mut Wanted,
     writer: &mut Counted<W>,
@@ -108,7 +107,7 @@ fn take<K: Keeper, W: Write>(
     requires { 0 < moves }
     ensures takes { IfOk result (λ turn. (k : ℕ) (r : Record) (h f : List Record) →
         moves ≡ k + 1 → Follows K.holds course.old (record { history = r ∷ h; ahead = f }) →
-        Knows course.old.state hunt → Takes W.contents query.entry k r h course.old.state
+        Knows course.old.state hunt → Takes W.contents question.entry k r h course.old.state
         wanted.old wanted.new writer.old hunt writer.new turn) }
     ensures back { (r : Record) (h f : List Record) →
         Follows K.holds course.old (record { history = r ∷ h; ahead = f }) →
@@ -123,10 +122,19 @@ fn take<K: Keeper, W: Write>(
     let cpu = course.cpu();
     let is_told = has_line(hit, hunt.values);
     if is_told {
-        let _all = want_read(cpu, taken.is_step, query.question.addresses, wanted);
+        let _all = want_read(cpu, taken.is_step, question.addresses, wanted);
         return follow(alloc, cpu, hunt);
     }
-    turn(alloc, cpu, taken.is_step, after, moves, query, hunt, writer)
+    turn(
+        alloc,
+        cpu,
+        taken.is_step,
+        after,
+        moves,
+        question,
+        hunt,
+        writer,
+    )
 }
 
 /// Whether the answer about values tells a move, with so many more lines.

@@ -13,8 +13,8 @@ ghost use Rattle.bpf_whynot.specs.Standings.{standing};
 use crate::standing::Standing;
 use bpf_isa::{Insn, Reg, Source};
 use bpf_machine::Cpu;
-use bpf_origin::{Part, Parts, put_part, register_part};
-use bpfdb_script::{SlotTexts, put_at, text_of_slot};
+use bpf_origin::{Part, Parts, put_part, put_slot, register_part};
+use bpfdb_script::{SlotTexts, put_at};
 use counted_io::{Counted, Piece, WriteFault, put, put_all, put_decimal};
 use std::io::Write;
 
@@ -185,25 +185,6 @@ fn put_went<W: Write>(
     }
 }
 
-/// Writes what is told of the slot of a step, from the machine before it; of an edit nothing.
-fn put_told<W: Write>(
-    writer: &mut Counted<W>,
-    so_far: Result<(), WriteFault>,
-    places: SlotTexts<'_>,
-    cpu: &Cpu,
-    is_step: bool,
-) -> Result<(), WriteFault>
-    ensures { (m : Move) → is_step ≡ is_step_of m →
-        WritesAfter W.contents writer.old so_far writer.new result
-        (spec.slot_text places.entry cpu.now m) }
-{
-    if is_step {
-        put(writer, so_far, text_of_slot(places, usize::from(cpu.pc())))
-    } else {
-        put(writer, so_far, b"")
-    }
-}
-
 /// Writes the line of a move, from the machine before it: which it was, what it compared, where it
 /// went, and of a step what is told of its slot.
 pub fn put_line<W: Write>(
@@ -225,6 +206,6 @@ pub fn put_line<W: Write>(
     let named = put_move(writer, parted, cpu, is_step);
     let valued = put_values(writer, named, cpu, compared(cpu, is_step).as_slice());
     let went = put_went(writer, valued, cpu, is_step, after);
-    let told = put_told(writer, went, places, cpu, is_step);
+    let told = put_slot(writer, went, places, cpu, is_step);
     put(writer, told, b"\n")
 }

@@ -2,7 +2,6 @@
 
 use crate::reach::Reach;
 use bpf_origin::Question;
-use bpfdb_script::SlotTexts;
 
 /// What is asked, and how.
 #[derive(Clone, Copy)]
@@ -12,9 +11,7 @@ pub struct Search<'a> {
     /// The goals, one flag a slot.
     pub goals: &'a [bool],
     /// How the answer about values is made.
-    pub question: Question,
+    pub question: Question<'a>,
     /// Whether that is left out.
     pub alone: bool,
-    /// What is told of slots: it ends the line of a step.
-    pub places: SlotTexts<'a>,
 }

@@ -15,10 +15,10 @@ ghost use Rattle.bpf_origin.specs.declared.place.Place.{Place};
 
 use crate::branch_aim::Aim;
 use crate::hunt::{Hunt, Turn};
-use crate::query::Query;
 use crate::{Standing, Sure, put_line, target_slot};
 use bpf_isa::Insn;
 use bpf_machine::Cpu;
+use bpf_origin::Question;
 use counted_io::{Counted, put};
 use std::alloc::{AllocError, Global};
 use std::io::Write;
@@ -31,7 +31,7 @@ pub fn turn<W: Write>(
     is_step: bool,
     after: Standing,
     moves: u64,
-    query: Query<'_>,
+    question: Question<'_>,
     hunt: Hunt,
     writer: &mut Counted<W>,
 ) -> Result<Turn, AllocError>
@@ -40,7 +40,7 @@ pub fn turn<W: Write>(
         (wanted left : List Place) → left ≡ still_wanted y (overwritten r.before r.move) wanted →
         moves ≡ k + 1 → cpu.now ≡ r.before → is_step ≡ is_step_of r.move → after ≡ standing y →
         Knows r.before hunt → spec.made (quest_of hunt wanted) r y ≡ false →
-        Takes W.contents query.entry k r h y wanted left writer.old hunt writer.new turn) }
+        Takes W.contents question.entry k r h y wanted left writer.old hunt writer.new turn) }
 {
     let deep = cpu.depth();
     let own = hunt.aim.depth;
@@ -54,7 +54,15 @@ pub fn turn<W: Write>(
     if lines == 0 {
         return Ok(Turn::Cut(put(writer, hunt.told, b"cut: there are more lines\n")));
     }
-    let told = put_line(writer, hunt.told, query.places, moves, cpu, is_step, after);
+    let told = put_line(
+        writer,
+        hunt.told,
+        question.places,
+        moves,
+        cpu,
+        is_step,
+        after,
+    );
     chase(
         alloc,
         cpu,

@@ -158,7 +158,7 @@ fn put_left<P: Past, W: Write>(
     let told = put_line(
         writer,
         so_far,
-        search.places,
+        search.question.places,
         left.moves,
         history.machine(),
         left.is_step,

@@ -3,7 +3,6 @@ use Rattle.std.proofs.Common.{◌≡◌, ◌==◌, ◌∙◌, ℕ, Bool, true, f
 use Rattle.std.specs.Borrow.{Bor}
 use Rattle.bpf_whynot.specs.Branches.{AreBranches}
 use Rattle.bpf_whynot.specs.Courses.{IsFound}
-use Rattle.bpf_whynot.specs.declared.query.Query.{Query}
 use Rattle.bpf_whynot.specs.declared.branch_text.Found.{Found}
 use Rattle.bpf_journal.specs.Histories.{Record, StandsFor}
 use Rattle.bpf_journal.specs.Runs.{history_after}
@@ -24,14 +23,15 @@ use Rattle.bpf_origin.specs.declared.what.What.{What}
 use Rattle.bpf_session.specs.Plain.{plain_end, plain_steps}
 use Rattle.bpf_session.specs.Points.{Bounds, Point}
 use Rattle.bpf_session.specs.Sessions.{HasPast, SessionValue, bounds_of, track_at}
+use Rattle.bpfdb_script.specs.SlotTexts.{SlotTexts}
 use Rattle.bpfdb_script.specs.declared.refusal.Refusal.{Refusal}
 use Rattle.bpf_load.specs.Targets.{Loads}
 use Rattle.bpf_load.specs.declared.loading.LinkedObject.{LinkedObject}
 use Rattle.bpf_load.specs.declared.program.Loaded.{Loaded}
 use Rattle.bpfdb_jobs.specs.Jobs.{IsKnown, OpensSession, Prints, arrival_of, initial_of, named_print, section_of, start_of}
 use Rattle.bpfdb_jobs.specs.Obeying.{ObeysScript, arrived}
-use Rattle.bpfdb_jobs.specs.Openings.{AreAskedParts, HasArrived, HasTail, IsOpening, IsStart}
-use Rattle.bpfdb_jobs.specs.Origins.{AreNamesOf, Asks, IsTail, RefusesNames, RefusesWhat, arrival, bounds, branches_by, followed_by, obeyed, question_by, run_arrival, run_history}
+use Rattle.bpfdb_jobs.specs.Openings.{AreAskedParts, HasArrived, HasTail, IsAsked, IsOpening, IsStart}
+use Rattle.bpfdb_jobs.specs.Origins.{AreNamesOf, Asks, IsTail, RefusesNames, RefusesWhat, arrival, bounds, followed_by, obeyed, question_by, run_arrival, run_history}
 use Rattle.bpfdb_jobs.specs.Refusals.{RefusesArrival, RefusesAs}
 use Rattle.bpfdb_jobs.specs.declared.job.Job.{Job}
 use Rattle.bpfdb_jobs.specs.declared.known.Known.{Known}
@@ -107,95 +107,104 @@ module _ (job : Job) (loaded : Loaded) (loads : Loads job.target job.file.now lo
   script-refuses refusal obeys = (loaded, opens, sym same ∙ obeys (track_at begins) past)
 
 -- how a question is asked over a history behind so many moves
-abbrev question : Job → List Record → ℕ → Question
-question job h n = record { addresses = job.options.addresses; lines = job.options.lines; opening = length h == n }
+abbrev question : SlotTexts → Job → List Record → ℕ → Question
+question places job h n = record { addresses = job.options.addresses; lines = job.options.lines; opening = length h == n; places = places }
 
 -- a machine where it is asked
 module _ (job : Job) (object : Option LinkedObject) (moment : Moment RingKeeper) (n : ℕ) (a : HasArrived job object moment n) where
-  -- the answer about it is printed
-  pub origin-prints : (q : Question) (what : Option What) (parts : List Part) → q ≡ question job a.at.point.history n
-      → Asks job.options.what moment.state what → parts ≡ parts_asked moment.state what
-      → (known : Known) → IsKnown job object known
-      → (tail : Answer) → IsTail job.options.only_branches (branches_by known.places job.options a.at) parts a.at.point tail
-      → (names : Option Names) → AreNamesOf object (section_of job) job.target.packet names
-      → Prints Origin job (named_print names moment.state (followed_by (answer_about q parts a.at.point.history moment.state) tail))
-  origin-prints q what parts asks-as asks is known is_known tail behind names found = (
-    a.loaded,
-    known,
-    a.at,
-    what,
-    tail,
-    names,
-    a.opens,
-    subst (λ (o : Option LinkedObject). IsKnown job o known) (sym a.of) is_known,
-    a.arrives,
-    subst (λ (x : State). Asks job.options.what x what) a.state asks,
-    subst (λ (ps : List Part). IsTail job.options.only_branches (branches_by known.places job.options a.at) ps a.at.point tail)
-        (is ∙ ap (λ (x : State). parts_asked x what) a.state) behind,
-    subst (λ (o : Option LinkedObject). AreNamesOf o (section_of job) job.target.packet names) (sym a.of) found,
-    ap (λ (z : Question). named_print names moment.state (followed_by (answer_about z parts a.at.point.history moment.state) tail))
-        (asks-as ∙ ap (question job a.at.point.history) a.counted)
-        ∙ ap (λ (ps : List Part). named_print names moment.state (followed_by (answer_about (question_by job.options a.at) ps a.at.point.history moment.state) tail)) is
-        ∙ ap (λ (x : State). named_print names x (followed_by (answer_about (question_by job.options a.at) (parts_asked x what) a.at.point.history x) tail)) a.state,
-  )
-
   -- and so is what it refuses
   pub origin-refuses : (fault : WhatFault) → RefusesWhat job.options.what moment.state fault → RefusesAs Origin job (jobs.What fault)
   origin-refuses fault refuses =
       (a.loaded, a.at, a.opens, a.arrives, subst (λ (x : State). RefusesWhat job.options.what x fault) a.state refuses)
 
-  -- and where nothing is known of the names in maps
-  pub names-refuse : (parts : List Part) → AreAskedParts job moment.state parts → (fault : LinkFault) (name : Bor (List ℕ))
-      → RefusesNames object (section_of job) fault name.now → RefusesAs Origin job (jobs.Object fault name)
-  names-refuse parts asked fault name lacks = (
-    a.loaded,
-    a.at,
-    asked.0,
-    a.opens,
-    a.arrives,
-    subst (λ (x : State). Asks job.options.what x asked.0) a.state asked.1,
-    subst (λ (o : Option LinkedObject). RefusesNames o (section_of job) fault name.now) (sym a.of) lacks,
-  )
-
-  -- branches are asked for in the same way
-  abbrev asked_by : Known → Question → Query
-  asked_by known q = record { question = q; places = known.places }
-
-  -- behind it are the branches that were found
-  pub branches-behind : (known : Known) → IsKnown job object known → (q : Question) (parts : List Part) (found : Found) → AreAskedParts job moment.state parts → job.options.only_branches ≡ true
-      → q ≡ question job a.at.point.history n → IsFound (asked_by known q) parts a.at.point.history moment.state found
-      → HasTail job object found.timeline n parts (record { text = found.text.items; extent = found.extent })
-  branches-behind known is_known q parts found asked given asks-as is = record {
-    arrived = record {
-      loaded = a.loaded;
-      of = a.of;
-      at = a.at;
-      opens = a.opens;
-      arrives = a.arrives;
-      state = is.state ∙ a.state;
-      held = is.stands;
-      counted = a.counted;
-    };
-    asked = subst (λ (x : State). AreAskedParts job x parts) (sym is.state) asked;
+  -- it is asked about these parts
+  pub is-asked : (known : Known) → IsKnown job object known → (q : Question) (parts : List Part) → AreAskedParts job moment.state parts
+      → q ≡ question known.places job a.at.point.history n → IsAsked job object moment n parts q
+  is-asked known is_known q parts asked asks-as = record {
+    arrived = a;
+    about = asked;
     known = known;
     is_known = is_known;
-    is = subst (λ (b : Bool). IsTail b (branches_by known.places job.options a.at) parts a.at.point (record { text = found.text.items; extent = found.extent })) (sym given)
-        (subst (λ (z : Question). AreBranches (asked_by known z) parts a.at.point.history a.at.point.state (record { text = found.text.items; extent = found.extent }))
-        (asks-as ∙ ap (question job a.at.point.history) a.counted)
-        (subst (λ (x : State). AreBranches (asked_by known q) parts a.at.point.history x (record { text = found.text.items; extent = found.extent })) a.state
-        (subst (λ (z : Answer). AreBranches (asked_by known q) parts a.at.point.history moment.state z) (same is.text is.extent) is.is)));
+    way = asks-as ∙ ap (question known.places job a.at.point.history) a.counted;
+  }
+
+  -- nothing stands behind the answer
+  pub nothing-behind : (q : Question) (parts : List Part) → IsAsked job object moment n parts q → job.options.only_branches ≡ false
+      → HasTail job object moment n parts q (record { text = []; extent = Whole })
+  nothing-behind q parts asked without = record {
+    asked = asked;
+    is = subst (λ (b : Bool). IsTail b q parts asked.arrived.at.point (record { text = []; extent = Whole })) (sym without) refl;
+  }
+
+-- a machine that is asked
+module _ (job : Job) (object : Option LinkedObject) (moment : Moment RingKeeper) (n : ℕ) (parts : List Part) (q : Question) (s : IsAsked job object moment n parts q) where
+  abbrev h : List Record
+  h = s.arrived.at.point.history
+
+  -- the answer is printed
+  pub origin-prints : (tail : Answer) → IsTail job.options.only_branches q parts s.arrived.at.point tail
+      → (names : Option Names) → AreNamesOf object (section_of job) job.target.packet names
+      → Prints Origin job (named_print names moment.state (followed_by (answer_about q parts h moment.state) tail))
+  origin-prints tail behind names found =
+      let a = s.arrived in
+      let what = s.about.0 in
+      let ask : Question = question_by s.known.places job.options a.at in (
+        a.loaded,
+        s.known,
+        a.at,
+        what,
+        tail,
+        names,
+        a.opens,
+        subst (λ (o : Option LinkedObject). IsKnown job o s.known) (sym a.of) s.is_known,
+        a.arrives,
+        subst (λ (x : State). Asks job.options.what x what) a.state s.about.1,
+        subst (λ (z : Question). IsTail job.options.only_branches z (parts_asked a.at.point.state what) a.at.point tail) s.way
+            (subst (λ (ps : List Part). IsTail job.options.only_branches q ps a.at.point tail)
+            (s.about.2 ∙ ap (λ (x : State). parts_asked x what) a.state) behind),
+        subst (λ (o : Option LinkedObject). AreNamesOf o (section_of job) job.target.packet names) (sym a.of) found,
+        ap (λ (z : Question). named_print names moment.state (followed_by (answer_about z parts h moment.state) tail)) s.way
+            ∙ ap (λ (ps : List Part). named_print names moment.state (followed_by (answer_about ask ps h moment.state) tail)) s.about.2
+            ∙ ap (λ (x : State). named_print names x (followed_by (answer_about ask (parts_asked x what) h x) tail)) a.state,
+      )
+
+  -- nothing is known of the names in maps
+  pub names-refuse : (fault : LinkFault) (name : Bor (List ℕ)) → RefusesNames object (section_of job) fault name.now → RefusesAs Origin job (jobs.Object fault name)
+  names-refuse fault name lacks =
+      let a = s.arrived in (
+        a.loaded,
+        a.at,
+        s.about.0,
+        a.opens,
+        a.arrives,
+        subst (λ (x : State). Asks job.options.what x s.about.0) a.state s.about.1,
+        subst (λ (o : Option LinkedObject). RefusesNames o (section_of job) fault name.now) (sym a.of) lacks,
+      )
+
+  -- behind it are the branches that were found
+  pub branches-behind : (found : Found) → job.options.only_branches ≡ true → IsFound q parts h moment.state found
+      → HasTail job object found.timeline n parts q (record { text = found.text.items; extent = found.extent })
+  branches-behind found given is = record {
+    asked = record {
+      arrived = record {
+        loaded = s.arrived.loaded;
+        of = s.arrived.of;
+        at = s.arrived.at;
+        opens = s.arrived.opens;
+        arrives = s.arrived.arrives;
+        state = is.state ∙ s.arrived.state;
+        held = is.stands;
+        counted = s.arrived.counted;
+      };
+      about = subst (λ (x : State). AreAskedParts job x parts) (sym is.state) s.about;
+      known = s.known;
+      is_known = s.is_known;
+      way = s.way;
+    };
+    is = subst (λ (b : Bool). IsTail b q parts s.arrived.at.point (record { text = found.text.items; extent = found.extent })) (sym given)
+        (subst (λ (x : State). AreBranches q parts h x (record { text = found.text.items; extent = found.extent })) s.arrived.state
+        (subst (λ (z : Answer). AreBranches q parts h moment.state z) (same is.text is.extent) is.is));
   }
     where
       same : {text : List ℕ} {extent : Extent} {other : Answer} → text ≡ other.text → extent ≡ other.extent → other ≡ record { text = text; extent = extent }
       same e f = ap₂ (λ (text : List ℕ) (extent : Extent). record { text = text; extent = extent }) (sym e) (sym f)
-
-  -- or nothing
-  pub nothing-behind : (known : Known) → IsKnown job object known → (parts : List Part) → AreAskedParts job moment.state parts
-      → job.options.only_branches ≡ false → HasTail job object moment n parts (record { text = []; extent = Whole })
-  nothing-behind known is_known parts asked without = record {
-    arrived = a;
-    asked = asked;
-    known = known;
-    is_known = is_known;
-    is = subst (λ (b : Bool). IsTail b (branches_by known.places job.options a.at) parts a.at.point (record { text = []; extent = Whole })) (sym without) refl;
-  }

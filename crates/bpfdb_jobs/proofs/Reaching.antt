@@ -30,9 +30,8 @@ use Rattle.bpfdb_options.specs.declared.subcommand.Subcommand.TheVariants.{Whyno
 abbrev search : Job → Known → List ℕ → List Record → ℕ → Query
 search job known goals h n = record {
   goals = goals;
-  question = record { addresses = job.options.addresses; lines = job.options.lines; opening = length h == n };
+  question = record { addresses = job.options.addresses; lines = job.options.lines; opening = length h == n; places = known.places };
   alone = job.options.alone;
-  places = known.places;
 }
 
 -- the refusal of slots that are none

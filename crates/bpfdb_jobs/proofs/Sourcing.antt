@@ -1,5 +1,5 @@
 -- Where the values came from of a run that is made again.
-use Rattle.std.proofs.Common.{◌≡◌, ◌==◌, ◌∙◌, ◌++◌, ℕ, true, false, List, [], ◌∷◌, Option, codes, ap, arith, refl, subst, length}
+use Rattle.std.proofs.Common.{◌≡◌, ◌==◌, ◌∙◌, ◌++◌, ℕ, true, false, List, [], ◌∷◌, Option, None, codes, ap, arith, refl, subst, length}
 use Rattle.std.proofs.lemmas.Bool.Decides.{nat_tests}
 use Rattle.std.proofs.lemmas.List.{append-nil}
 use Rattle.bpf_entries.specs.Keeping.{IsSize}
@@ -50,20 +50,20 @@ told-none (p ∷ parts) text none =
 
 -- what is told there
 module _ (names : Option Names) (options : Options) (v : Value) (x : State) (moment : Moment RingKeeper) (moves : ℕ) (ran : HasRun options v.steps x moment moves)
-    (q : Question) (asks : q ≡ record { addresses = options.addresses; lines = options.lines; opening = length (behind options v.steps x).point.history == moves })
+    (q : Question) (asks : q ≡ record { addresses = options.addresses; lines = options.lines; opening = length (behind options v.steps x).point.history == moves; places = None })
     (asked : List Part) (is : asked ≡ asked_at moment.state.status v.parts moment.state) where
   abbrev told : Question → List Part → State → List ℕ
   told z parts y = named_by names (found_text y (answer_about z parts (behind options v.steps x).point.history y))
 
-  asks-as : q ≡ question_by options (behind options v.steps x)
+  asks-as : q ≡ question_by None options (behind options v.steps x)
   asks-as = asks
-      ∙ ap (λ (m : ℕ). record { addresses = options.addresses; lines = options.lines; opening = length (behind options v.steps x).point.history == m }) ran.counted
+      ∙ ap (λ (m : ℕ). record { addresses = options.addresses; lines = options.lines; opening = length (behind options v.steps x).point.history == m; places = None }) ran.counted
 
   whole : told_of asked (told q asked moment.state) ≡ source names options x v
   whole = ap (λ (z : Question). told_of asked (told z asked moment.state)) asks-as
-      ∙ ap (λ (parts : List Part). told_of parts (told (question_by options (behind options v.steps x)) parts moment.state)) is
+      ∙ ap (λ (parts : List Part). told_of parts (told (question_by None options (behind options v.steps x)) parts moment.state)) is
       ∙ ap (λ (y : State). told_of (asked_at y.status v.parts y)
-      (told (question_by options (behind options v.steps x)) (asked_at y.status v.parts y) y)) ran.state
+      (told (question_by None options (behind options v.steps x)) (asked_at y.status v.parts y) y)) ran.state
 
   pub nothing-told : (length asked == 0) ≡ true → [] ≡ source names options x v
   nothing-told none = told-none asked (told q asked moment.state) none ∙ whole

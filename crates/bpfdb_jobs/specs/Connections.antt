@@ -1,5 +1,5 @@
 -- What serving gdb leaves: a session of the job was served, to the connection's end or until a read or a write failed.
-use Rattle.std.specs.Prelude.{ℕ, ◌≡◌, ◌⊎◌, Option, None}
+use Rattle.std.specs.Prelude.{ℕ, ◌≡◌, ◌⊎◌, Option, None, map}
 use Rattle.std.specs.Option.{option_map}
 use Rattle.bpf_isa.specs.Programs.{Checked}
 use Rattle.bpf_journal.specs.Tracks.{RingHolds, ring_room}
@@ -16,7 +16,7 @@ use Rattle.bpf_session.specs.Runs.{HasStanding}
 use Rattle.bpf_session.specs.Sessions.{SessionValue}
 use Rattle.bpf_session.specs.declared.fault.RunFault.{RunFault}
 use Rattle.bpfdb_faults.specs.Streams.{Stream}
-use Rattle.bpfdb_jobs.specs.Jobs.{section_of, start_of}
+use Rattle.bpfdb_jobs.specs.Jobs.{HasPlaces, section_of, start_of, tells_places}
 use Rattle.bpfdb_jobs.specs.Origins.{AreNamesOf, LacksNames}
 use Rattle.bpfdb_jobs.specs.declared.job.Job.{Job}
 use Rattle.bpfdb_options.specs.declared.registers.Registers.{Registers}
@@ -36,6 +36,7 @@ KnowsNames job object names =
 pub record IsTarget (job : Job) (object : Option LinkedObject) (gdb : Target) : Type 0 where
   pub layout : gdb.layout ≡ layout_of job.options.registers
   pub names : KnowsNames job object (option_map (λ n. n.now) gdb.names)
+  pub places : HasPlaces (tells_places job) job object (option_map (λ texts. map (λ text. text.items) texts.now) gdb.places)
 
 -- A ring refuses no push.
 abbrev pub ring_refusals : RingKeeper → ℕ

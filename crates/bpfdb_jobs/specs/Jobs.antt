@@ -54,7 +54,7 @@ use Rattle.bpfdb_script.specs.declared.refusal.Refusal.{Refusal}
 use Rattle.bpfdb_script.specs.Texts.{place}
 use Rattle.bpfdb_jobs.specs.MapLines.{linked_told}
 use Rattle.bpfdb_jobs.specs.Programs.{AreSameMaps, check_line, program_text}
-use Rattle.bpfdb_jobs.specs.Origins.{Arrival, AreNamesOf, Asks, IsTail, answer_by, arrival, branches_by, followed_by, found_text, named_by, question_by, status_of_extent}
+use Rattle.bpfdb_jobs.specs.Origins.{Arrival, AreNamesOf, Asks, IsTail, answer_by, arrival, followed_by, found_text, named_by, question_by, status_of_extent}
 use Rattle.bpfdb_jobs.specs.Sources.{both_marked, sources}
 use Rattle.bpfdb_jobs.specs.declared.job.Job.{Job}
 use Rattle.bpfdb_jobs.specs.declared.known.Known.{Known}
@@ -220,9 +220,8 @@ AsksGoals job known program goals = (slots : List ℕ) × AreAsked job known slo
 abbrev pub query_of : Job → Known → List ℕ → Arrival → Query
 query_of job known goals at = record {
   goals = goals;
-  question = question_by job.options at;
+  question = question_by known.places job.options at;
   alone = job.options.alone;
-  places = known.places;
 }
 
 abbrev pub whynot_print : Option Names → Query → (ℕ → List ℕ → Bool) → Arrival → Print
@@ -338,14 +337,14 @@ HasPlace true job (Some linked) (Some goals) =
 HasPlace true job (Some linked) None = ⊥
 HasPlace asks job object goals = goals ≡ None
 
--- Where each slot stands in C, by that table, where branches are told.
+-- Where each slot stands in C, by that table, where moves or branches are told.
 abbrev pub HasPlaces : Bool → Job → Option LinkedObject → Option (List (List ℕ)) → Type 0
 HasPlaces true job (Some linked) (Some texts) =
     (all : List ObjectLines) × AreLinesFor job linked all × (texts ≡ places_told (length linked.program.words.items / 8) (table_by job linked all))
 HasPlaces true job (Some linked) None = ⊥
 HasPlaces tells job object texts = texts ≡ None
 
--- `whynot` may ask about a place; its answer tells branches, and so does what is asked with `--branches`.
+-- `whynot` may ask about a place. Its answers and those of `origin`, which gdb's user asks for too, tell moves; branches are told with `--branches`.
 abbrev pub is_whynot : Subcommand → Bool
 is_whynot Whynot = true
 is_whynot subcommand = false
@@ -353,13 +352,19 @@ is_whynot subcommand = false
 abbrev pub asks_place : Job → Bool
 asks_place job = is_whynot job.subcommand && is_place (asked_of job)
 
-abbrev pub tells_branches : Job → Bool
-tells_branches job = is_whynot job.subcommand || job.options.only_branches
+abbrev pub tells_moves : Subcommand → Bool
+tells_moves Origin = true
+tells_moves Whynot = true
+tells_moves Gdb = true
+tells_moves subcommand = false
+
+abbrev pub tells_places : Job → Bool
+tells_places job = tells_moves job.subcommand || job.options.only_branches
 
 -- What is known of a program's slots.
 pub record IsKnown (job : Job) (object : Option LinkedObject) (known : Known) : Type 0 where
   pub goals : HasPlace (asks_place job) job object (option_map (λ goals. goals.now) known.goals)
-  pub places : HasPlaces (tells_branches job) job object (option_map (λ texts. map (λ text. text.items) texts.now) known.places)
+  pub places : HasPlaces (tells_places job) job object (option_map (λ texts. map (λ text. text.items) texts.now) known.places)
 
 -- What a subcommand prints of a job that has what it needs: one that reads no standard input. (`test` has a definition of its own.)
 abbrev pub Prints : Subcommand → Job → Print → Type 0
@@ -370,8 +375,8 @@ Prints Trace job a = (loaded : Loaded) × (known : Known) × Opens job loaded ×
 Prints Debug job a = ⊥
 Prints Origin job a = (loaded : Loaded) × (known : Known) × (at : Arrival) × (what : Option What) × (tail : Answer) × (names : Option Names)
     × OpensSession job loaded × IsKnown job loaded.object known × (arrival_of job loaded ≡ Ok at) × Asks job.options.what at.point.state what
-    × IsTail job.options.only_branches (branches_by known.places job.options at) (parts_asked at.point.state what) at.point tail
-    × AreNamesOf loaded.object (section_of job) job.target.packet names × (a ≡ named_print names at.point.state (followed_by (answer_by job.options what at) tail))
+    × IsTail job.options.only_branches (question_by known.places job.options at) (parts_asked at.point.state what) at.point tail
+    × AreNamesOf loaded.object (section_of job) job.target.packet names × (a ≡ named_print names at.point.state (followed_by (answer_by known.places job.options what at) tail))
 Prints Whynot job a = (loaded : Loaded) × (known : Known) × (at : Arrival) × (goals : List ℕ) × (can : ℕ → List ℕ → Bool) × (names : Option Names)
     × OpensSession job loaded × IsKnown job loaded.object known × (arrival_of job loaded ≡ Ok at) × AsksGoals job known at.point.state.program (Ok goals)
     × TellsReach at.point.state.program goals can × AreNamesOf loaded.object (section_of job) job.target.packet names

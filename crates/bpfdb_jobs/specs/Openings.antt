@@ -27,7 +27,7 @@ use Rattle.bpfdb_jobs.specs.Sources.{behind, sources}
 use Rattle.bpfdb_jobs.specs.declared.runs.ComparedRuns.{ComparedRuns}
 use Rattle.bpfdb_jobs.specs.declared.source.Sources.{Sources}
 use Rattle.bpfdb_options.specs.declared.options.Options.{Options}
-use Rattle.bpfdb_jobs.specs.Origins.{Arrival, Asks, IsTail, branches_by, followed_by, found_text, named_by}
+use Rattle.bpfdb_jobs.specs.Origins.{Arrival, Asks, IsTail, followed_by, found_text, named_by, question_by}
 use Rattle.bpfdb_jobs.specs.declared.job.Job.{Job}
 use Rattle.bpfdb_jobs.specs.declared.known.Known.{Known}
 
@@ -108,13 +108,19 @@ pub record HasArrived (job : Job) (object : Option LinkedObject) (moment : Momen
 abbrev pub AreAskedParts : Job → State → List Part → Type 0
 AreAskedParts job x parts = (what : Option What) × Asks job.options.what x what × (parts ≡ parts_asked x what)
 
--- It is asked there about these parts, and this stands behind its answer.
-pub record HasTail (job : Job) (object : Option LinkedObject) (moment : Moment RingKeeper) (moves : ℕ) (parts : List Part) (tail : Answer) : Type 0 where
+-- It is asked there about these parts, and in this way.
+pub record IsAsked (job : Job) (object : Option LinkedObject) (moment : Moment RingKeeper) (moves : ℕ) (parts : List Part) (q : Question) : Type 0 where
   pub arrived : HasArrived job object moment moves
-  pub asked : AreAskedParts job moment.state parts
+  pub about : AreAskedParts job moment.state parts
   pub known : Known
   pub is_known : IsKnown job object known
-  pub is : IsTail job.options.only_branches (branches_by known.places job.options arrived.at) parts arrived.at.point tail
+  pub way : q ≡ question_by known.places job.options arrived.at
+
+-- And this stands behind the answer.
+pub record HasTail (job : Job) (object : Option LinkedObject) (moment : Moment RingKeeper) (moves : ℕ) (parts : List Part) (q : Question) (tail : Answer)
+    : Type 0 where
+  pub asked : IsAsked job object moment moves parts q
+  pub is : IsTail job.options.only_branches q parts asked.arrived.at.point tail
 
 -- What is written where the machine stands: the answer about these parts, and a text behind it.
 abbrev pub asked_text : Question → List Part → List Record → State → List ℕ → List ℕ

@@ -3,7 +3,6 @@
 use Rattle.std.specs.Prelude.{ℕ, ◌≡◌, ◌==◌, Bool, true, false, List, [], ◌∷◌, ◌++◌, Option, Some, None, Result, Ok, Err, if◌then◌else◌, codes, length}
 use Rattle.std.specs.Borrow.{Bor}
 use Rattle.bpf_whynot.specs.Branches.{AreBranches}
-use Rattle.bpf_whynot.specs.declared.query.Query.{Query}
 use Rattle.bpf_journal.specs.Histories.{Record}
 use Rattle.bpf_journal.specs.Runs.{history_after}
 use Rattle.bpf_steps.specs.State.{State}
@@ -89,25 +88,22 @@ abbrev pub arrival : Option (Bor (List ℕ)) → Options → State → Result Ar
 arrival None options x = Ok (run_arrival options x)
 arrival (Some script) options x = obeyed (bounds options) (lines script.now) (record { point = opening x; moves = 0 })
 
--- How it is asked. The oldest kept state is the opening where the journal has each move.
-abbrev pub question_by : Options → Arrival → Question
-question_by options a = record {
+-- How it is asked, with what is told of slots. The oldest kept state is the opening where the journal has each move.
+abbrev pub question_by : SlotTexts → Options → Arrival → Question
+question_by places options a = record {
   addresses = options.addresses;
   lines = options.lines;
   opening = length a.point.history == a.moves;
+  places = places;
 }
 
 -- The answer there.
-abbrev pub answer_by : Options → Option What → Arrival → Answer
-answer_by options what a = answer_about (question_by options a) (parts_asked a.point.state what) a.point.history a.point.state
+abbrev pub answer_by : SlotTexts → Options → Option What → Arrival → Answer
+answer_by places options what a = answer_about (question_by places options a) (parts_asked a.point.state what) a.point.history a.point.state
 
--- The branches are asked for in the same way, each with what is told of its slot.
-abbrev pub branches_by : SlotTexts → Options → Arrival → Query
-branches_by places options a = record { question = question_by options a; places = places }
-
--- What stands behind that: with `--branches` those that decided that the moves were made which the answer about these parts tells, and that the
+-- What stands behind that: with `--branches` those branches that decided that the moves were made which the answer about these parts tells, and that the
 -- program came there; else nothing.
-abbrev pub IsTail : Bool → Query → List Part → Point → Answer → Type 0
+abbrev pub IsTail : Bool → Question → List Part → Point → Answer → Type 0
 IsTail true q parts point tail = AreBranches q parts point.history point.state tail
 IsTail false q parts point tail = tail ≡ record { text = []; extent = Whole }
 

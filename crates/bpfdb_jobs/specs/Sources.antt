@@ -1,5 +1,5 @@
 -- Where the values came from in which two runs differ: of each run what `origin` tells of them, asked behind the step that wrote them.
-use Rattle.std.specs.Prelude.{ℕ, Bool, false, List, [], ◌∷◌, ◌++◌, Option, Some, codes}
+use Rattle.std.specs.Prelude.{ℕ, Bool, false, List, [], ◌∷◌, ◌++◌, Option, Some, None, codes}
 use Rattle.bpf_entries.specs.declared.status.Fault.TheVariants.{Access}
 use Rattle.bpf_entries.specs.declared.status.Status.{Status}
 use Rattle.bpf_entries.specs.declared.status.Status.TheVariants.{Faulted}
@@ -28,7 +28,7 @@ told_of (p ∷ parts) text = text
 
 abbrev pub source_about : Option Names → Options → List Part → Arrival → List ℕ
 source_about names options parts at = told_of parts
-    (named_by names (found_text at.point.state (answer_about (question_by options at) parts at.point.history at.point.state)))
+    (named_by names (found_text at.point.state (answer_about (question_by None options at) parts at.point.history at.point.state)))
 
 abbrev pub source_at : Option Names → Options → List Part → Arrival → List ℕ
 source_at names options parts at =

@@ -2,7 +2,7 @@
 ghost use Rattle.std.specs.Prelude.{◌≡◌, ◌≤◌, IfNone, IfSome, Some, false, true};
 ghost use Rattle.bpf_load.specs.Targets.{Loads};
 ghost use Rattle.bpfdb_jobs.specs.Done.{DoesJob, DoesPlain};
-ghost use Rattle.bpfdb_jobs.specs.Jobs.{IsKnown, tells_branches};
+ghost use Rattle.bpfdb_jobs.specs.Jobs.{IsKnown, tells_places};
 ghost use Rattle.bpf_load.specs.declared.fault.ObjectFault.{ObjectFault};
 ghost use Rattle.bpfdb_faults.specs.Faults.{line_of};
 ghost use Rattle.bpfdb_faults.specs.declared.fault.JobFault.TheVariants.{Refused};
@@ -138,7 +138,7 @@ fn places_told<E: Write>(
 ) -> Option<Places>
     ensures some { IfSome result (λ places. ArePlaces job.now (Some object.now) places
         × (errors.new ≡ errors.old)) }
-    ensures none { IfNone result ((it : ObjectFault) × (refusal : JobRefusal) × (tells_branches job.now ≡ true)
+    ensures none { IfNone result ((it : ObjectFault) × (refusal : JobRefusal) × (tells_places job.now ≡ true)
         × LacksPlaces job.now object.now it × TellsFault it.index it refusal
         × Told (stream E.contents errors.old errors.new) (line_of (Refused refusal))) }
 {
@@ -175,7 +175,7 @@ fn program_tool<R: Read, W: Write, E: Write>(
         Subcommand::Origin => origin_job(alloc, job, loaded, known, writer, errors),
         Subcommand::Whynot => whynot_job(alloc, job, loaded, known, writer, errors),
         Subcommand::Diff => diff_job(alloc, job, loaded, writer, errors),
-        Subcommand::Gdb => gdb_job(alloc, job, loaded, reader, writer, errors),
+        Subcommand::Gdb => gdb_job(alloc, job, loaded, known, reader, writer, errors),
         Subcommand::Disasm => disasm_job(alloc, job, &loaded, writer, errors),
         Subcommand::Check => check_job(job, &loaded, writer, errors),
         Subcommand::Load => load_job(alloc, job, &loaded, writer, errors),

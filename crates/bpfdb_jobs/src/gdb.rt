@@ -3,11 +3,13 @@ ghost use Rattle.std.specs.Prelude.{◌≡◌, ◌≤◌};
 ghost use Rattle.bpf_load.specs.Targets.{lent, loaded_of};
 ghost use Rattle.bpfdb_jobs.specs.Connections.{KnowsNames, layout_of};
 ghost use Rattle.bpfdb_jobs.specs.Done.{ServesGdb};
+ghost use Rattle.bpfdb_jobs.specs.Jobs.{IsKnown};
 ghost use Rattle.bpfdb_limits.specs.Limits.{IsLimit};
 ghost use Rattle.bpfdb_faults.specs.Streams.{stream};
 
 use crate::ending::session_ended;
 use crate::job::Job;
+use crate::known::Known;
 use crate::opening::{session_of, wanted_of};
 use crate::origin::names_of;
 use bpf_isa::Program;
@@ -28,17 +30,28 @@ pub fn gdb_job<R: Read, W: Write, E: Write>(
     alloc: Global,
     job: &Job<'_>,
     loaded: Loaded,
+    known: Known<'_>,
     reader: &mut Counted<R>,
     writer: &mut Counted<W>,
     errors: &mut Counted<E>,
 ) -> u8
     requires limit { IsLimit job.now.options.limit }
+    requires known { IsKnown job.now loaded.object known }
     ensures does { ServesGdb job.now loaded (stream R.remaining reader.old reader.new)
         (stream W.contents writer.old writer.new) (stream E.contents errors.old errors.new) result }
     ensures status { result ≤ 2 }
 {
     let Loaded { program, object } = loaded;
-    serve_program(alloc, job, program, object.as_ref(), reader, writer, errors)
+    serve_program(
+        alloc,
+        job,
+        program,
+        object.as_ref(),
+        known,
+        reader,
+        writer,
+        errors,
+    )
 }
 
 /// Serves gdb over a program, which comes from this object, if it comes from one.
@@ -47,11 +60,13 @@ fn serve_program<R: Read, W: Write, E: Write>(
     job: &Job<'_>,
     program: Program,
     object: Option<&LinkedObject>,
+    known: Known<'_>,
     reader: &mut Counted<R>,
     writer: &mut Counted<W>,
     errors: &mut Counted<E>,
 ) -> u8
     requires limit { IsLimit job.now.options.limit }
+    requires known { IsKnown job.now (lent object) known }
     ensures does { ServesGdb job.now (loaded_of program (lent object.entry)) (stream R.remaining reader.old reader.new)
         (stream W.contents writer.old writer.new) (stream E.contents errors.old errors.new) result }
     ensures status { result ≤ 2 }
@@ -68,6 +83,7 @@ fn serve_program<R: Read, W: Write, E: Write>(
     let gdb = Target {
         layout: layout_of(job.options.registers),
         names: names.as_ref(),
+        places: known.places,
     };
     let served = serve(alloc, gdb, &mut session, &mut wanted, reader, writer);
     session_ended(served, errors)

@@ -4,7 +4,7 @@ ghost use Rattle.bpf_lines.specs.Objects.{HasPartLines};
 ghost use Rattle.bpf_link.specs.Names.{fault_names};
 ghost use Rattle.bpf_link.specs.declared.fault.LinkFault.TheVariants.{Memory};
 ghost use Rattle.bpf_load.specs.Faults.{Tells};
-ghost use Rattle.bpfdb_jobs.specs.Jobs.{AreLinesFor, asks_place, is_whynot, tells_branches};
+ghost use Rattle.bpfdb_jobs.specs.Jobs.{AreLinesFor, asks_place, is_whynot, tells_moves, tells_places};
 ghost use Rattle.bpfdb_jobs.specs.Objects.{ArePlaces, is_check};
 ghost use Rattle.bpfdb_jobs.specs.Refusals.{LacksPlaces, lines_names};
 
@@ -20,7 +20,7 @@ use std::alloc::Global;
 /// What is known of a program's slots.
 #[derive(Clone, Copy)]
 pub struct Known<'a> {
-    /// Where each stands in C, where that is told: it ends the lines of branches.
+    /// Where each stands in C, where that is told: it ends the lines of moves and branches.
     pub places: SlotTexts<'a>,
     /// Those of the place of an object which `whynot` asks about, where it is one: numbers with commas
     /// between. Without them what the options ask about counts.
@@ -86,25 +86,35 @@ fn is_whynot(subcommand: Subcommand) -> bool
     }
 }
 
-/// Whether a job tells branches.
-fn tells_branches(job: &Job<'_>) -> bool
-    ensures { result ≡ tells_branches job.now }
+/// Whether a subcommand tells moves.
+fn tells_moves(subcommand: Subcommand) -> bool
+    ensures { result ≡ tells_moves subcommand }
 {
-    is_whynot(job.subcommand) || job.options.only_branches
+    match subcommand {
+        Subcommand::Origin | Subcommand::Whynot | Subcommand::Gdb => true,
+        _ => false,
+    }
+}
+
+/// Whether a job tells where slots stand in C.
+fn tells_places(job: &Job<'_>) -> bool
+    ensures { result ≡ tells_places job.now }
+{
+    tells_moves(job.subcommand) || job.options.only_branches
 }
 
 /// What is known of the slots of a job's program, which comes from an object: where they stand, if the
-/// job tells branches, and those of the place that it asks about, if it asks about one.
+/// job tells moves or branches, and those of the place that it asks about, if it asks about one.
 pub fn places_of(
     alloc: Global,
     job: &Job<'_>,
     object: &LinkedObject,
 ) -> Result<Places, ObjectFault<'static>>
     ensures ok { IfOk result (ArePlaces job.now (Some object.now)) }
-    ensures err { IfErr result (λ it. (tells_branches job.now ≡ true)
+    ensures err { IfErr result (λ it. (tells_places job.now ≡ true)
         × LacksPlaces job.now object.now it) }
 {
-    if !tells_branches(job) {
+    if !tells_places(job) {
         return Ok(nowhere());
     }
     let own = object.sources.own.as_slice();
@@ -133,7 +143,7 @@ fn places_in(
     lines: &[ObjectLines<'_>],
 ) -> Result<Places, ObjectFault<'static>>
     requires lines { AreLinesFor job.now object.now lines.now × All HasPartLines lines.now }
-    requires tells { tells_branches job.now ≡ true }
+    requires tells { tells_places job.now ≡ true }
     ensures ok { IfOk result (ArePlaces job.now (Some object.now)) }
     ensures err { IfErr result (LacksPlaces job.now object.now) }
 {

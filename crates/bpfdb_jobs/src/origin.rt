@@ -7,7 +7,7 @@ ghost use Rattle.bpf_origin.specs.Asked.{answer_about};
 ghost use Rattle.counted_io.specs.Writing.{Writes};
 ghost use Rattle.bpfdb_jobs.specs.Endings.{EndsPrinted};
 ghost use Rattle.bpfdb_jobs.specs.Jobs.{section_of, IsKnown};
-ghost use Rattle.bpfdb_jobs.specs.Openings.{AreAskedParts, HasArrived, HasTail, asked_text, told_text};
+ghost use Rattle.bpfdb_jobs.specs.Openings.{AreAskedParts, HasArrived, HasTail, IsAsked, asked_text, told_text};
 ghost use Rattle.bpfdb_jobs.specs.Origins.{AreNamesOf, LacksNames, RefusesWhat, both_extents, bytes_of, status_of_extent};
 ghost use Rattle.bpfdb_jobs.specs.Refusals.{RefusesArrival};
 ghost use Rattle.bpfdb_limits.specs.Limits.{IsLimit};
@@ -28,9 +28,9 @@ use bpf_origin::{
     Extent, Part, Parts, Question, Told, Wanted, What, WhatFault, parts_asked, put_answer,
 };
 use bpf_session::run_kept;
-use bpf_whynot::{Found, Query, find_branches};
+use bpf_whynot::{Found, find_branches};
 use bpfdb_faults::{JobFault, JobRefusal, flush_after, give_up};
-use bpfdb_script::write_place;
+use bpfdb_script::{SlotTexts, write_place};
 use counted_io::{Counted, WriteFault, put};
 use std::alloc::{AllocError, Global};
 use std::io::Write;
@@ -110,14 +110,15 @@ fn ask<W: Write, E: Write>(
         Ok(parts) => parts,
         Err(fault) => return give_up(errors, &JobFault::Refused(JobRefusal::What(fault))),
     };
+    let question = question_of(job, &arrived, known.places);
     if job.options.only_branches {
         ask_branches(
             alloc,
             job,
             object,
-            known,
             arrived,
             parts.as_slice(),
+            question,
             writer,
             errors,
         )
@@ -132,6 +133,7 @@ fn ask<W: Write, E: Write>(
             object,
             arrived,
             parts.as_slice(),
+            question,
             tail,
             writer,
             errors,
@@ -144,30 +146,25 @@ fn ask_branches<W: Write, E: Write>(
     alloc: Global,
     job: &Job<'_>,
     object: Option<&LinkedObject>,
-    known: Known<'_>,
     arrived: Arrived,
     parts: &[Part],
+    question: Question<'_>,
     writer: &mut Counted<W>,
     errors: &mut Counted<E>,
 ) -> u8
-    requires arrived { HasArrived job.now (lent object) arrived.timeline arrived.moves }
-    requires known { IsKnown job.now (lent object) known }
-    requires parts { AreAskedParts job.now arrived.timeline.state parts.now }
+    requires asked { IsAsked job.now (lent object) arrived.timeline arrived.moves parts.now
+        question }
     requires branches { job.now.options.only_branches ≡ true }
     ensures does { EndsPrinted Origin job.now (stream W.contents writer.old writer.new)
         (stream E.contents errors.old errors.new) result }
     ensures status { result ≤ 2 }
 {
-    let query = Query {
-        question: question_of(job, &arrived),
-        places: known.places,
-    };
     let Arrived {
         timeline,
         moves,
         mut wanted,
     } = arrived;
-    match find_branches(alloc, timeline, &mut wanted, parts, query) {
+    match find_branches(alloc, timeline, &mut wanted, parts, question) {
         Ok(found) => {
             let Found {
                 timeline,
@@ -183,7 +180,9 @@ fn ask_branches<W: Write, E: Write>(
                 text: text.as_slice(),
                 extent,
             };
-            tell(alloc, job, object, arrived, parts, tail, writer, errors)
+            tell(
+                alloc, job, object, arrived, parts, question, tail, writer, errors,
+            )
         }
         Err(_) => give_up(
             errors,
@@ -192,20 +191,26 @@ fn ask_branches<W: Write, E: Write>(
     }
 }
 
-/// How it is asked.
-pub(crate) fn question_of(job: &Job<'_>, arrived: &Arrived) -> Question
+/// How it is asked, with what is told of slots.
+pub(crate) fn question_of<'a>(
+    job: &Job<'_>,
+    arrived: &Arrived,
+    places: SlotTexts<'a>,
+) -> Question<'a>
     ensures { (h : List Record) →
         StandsFor RingHolds arrived.now.timeline.keeper arrived.now.timeline.state h →
         result ≡ record {
           addresses = job.now.options.addresses;
           lines = job.now.options.lines;
           opening = length h == arrived.now.moves;
+          places = places.entry;
         } }
 {
     Question {
         addresses: job.options.addresses,
         lines: job.options.lines,
         opening: arrived.timeline.len() as u64 == arrived.moves,
+        places,
     }
 }
 
@@ -302,11 +307,12 @@ fn tell<W: Write, E: Write>(
     object: Option<&LinkedObject>,
     arrived: Arrived,
     parts: &[Part],
+    question: Question<'_>,
     tail: Tail<'_>,
     writer: &mut Counted<W>,
     errors: &mut Counted<E>,
 ) -> u8
-    requires { HasTail job.now (lent object) arrived.timeline arrived.moves parts.now
+    requires { HasTail job.now (lent object) arrived.timeline arrived.moves parts.now question
         (record { text = tail.text.now; extent = tail.extent }) }
     ensures does { EndsPrinted Origin job.now (stream W.contents writer.old writer.new)
         (stream E.contents errors.old errors.new) result }
@@ -316,7 +322,6 @@ fn tell<W: Write, E: Write>(
         Ok(names) => names,
         Err(why) => return refuse(job, bytes_of(object), errors, why),
     };
-    let question = question_of(job, &arrived);
     let mut arrived = arrived;
     match put_told(
         alloc,
@@ -396,17 +401,17 @@ fn put_found<K: Keeper, W: Write>(
     timeline: &mut Timeline<K>,
     wanted: &mut Wanted,
     parts: &[Part],
-    question: Question,
+    question: Question<'_>,
     tail: &[u8],
     writer: &mut Counted<W>,
 ) -> Told
     ensures text { (h : List Record) →
         StandsFor K.holds timeline.old.keeper timeline.old.state h →
         Writes W.contents writer.old writer.new result.written
-        (asked_text question parts.now h timeline.old.state tail.now) }
+        (asked_text question.entry parts.now h timeline.old.state tail.now) }
     ensures extent { (h : List Record) →
         StandsFor K.holds timeline.old.keeper timeline.old.state h →
-        result.extent ≡ (answer_about question parts.now h timeline.old.state).extent }
+        result.extent ≡ (answer_about question.entry parts.now h timeline.old.state).extent }
 {
     let placed = write_place(timeline.cpu(), writer);
     let ended = put(writer, placed, b"\n");
@@ -426,18 +431,18 @@ pub(crate) fn put_told<W: Write>(
     names: Option<&Names<'_>>,
     arrived: &mut Arrived,
     parts: &[Part],
-    question: Question,
+    question: Question<'_>,
     tail: &[u8],
     writer: &mut Counted<W>,
 ) -> Result<Told, AllocError>
     ensures text { (h : List Record) →
         StandsFor RingHolds arrived.old.timeline.keeper arrived.old.timeline.state h →
         IfOk result (λ told. Writes W.contents writer.old writer.new told.written
-        (told_text names.entry question parts.now h arrived.old.timeline.state tail.now)) }
+        (told_text names.entry question.entry parts.now h arrived.old.timeline.state tail.now)) }
     ensures extent { (h : List Record) →
         StandsFor RingHolds arrived.old.timeline.keeper arrived.old.timeline.state h →
         IfOk result (λ told. told.extent ≡
-        (answer_about question parts.now h arrived.old.timeline.state).extent) }
+        (answer_about question.entry parts.now h arrived.old.timeline.state).extent) }
     ensures same { OnErr result (writer.new ≡ writer.old) }
 {
     let Some(names) = names else {
@@ -475,17 +480,17 @@ fn text_found<K: Keeper>(
     timeline: &mut Timeline<K>,
     wanted: &mut Wanted,
     parts: &[Part],
-    question: Question,
+    question: Question<'_>,
     tail: &[u8],
 ) -> Result<FoundText, AllocError>
     ensures text { (h : List Record) →
         StandsFor K.holds timeline.old.keeper timeline.old.state h →
         IfOk result (λ found.
-        found.text.items ≡ asked_text question parts.now h timeline.old.state tail.now) }
+        found.text.items ≡ asked_text question.entry parts.now h timeline.old.state tail.now) }
     ensures extent { (h : List Record) →
         StandsFor K.holds timeline.old.keeper timeline.old.state h →
         IfOk result (λ found.
-        found.told.extent ≡ (answer_about question parts.now h timeline.old.state).extent) }
+        found.told.extent ≡ (answer_about question.entry parts.now h timeline.old.state).extent) }
 {
     let mut writer = Counted::new(Vec::new(alloc));
     let told = put_found(timeline, wanted, parts, question, tail, &mut writer);

@@ -108,7 +108,7 @@ fn source_of(
     if asked.is_empty() {
         return Ok(Vec::new(alloc));
     }
-    let question = question_of(job, &arrived);
+    let question = question_of(job, &arrived, None);
     let mut writer = Counted::new(Vec::new(alloc));
     let told = match put_told(
         alloc,

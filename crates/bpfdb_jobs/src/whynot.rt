@@ -97,13 +97,13 @@ fn ask_why<W: Write, E: Write>(
         addresses: job.options.addresses,
         lines: job.options.lines,
         opening: arrived.timeline.len() as u64 == arrived.moves,
+        places: known.places,
     };
     let search = Search {
         reach: &aim.reach,
         goals: aim.goals.as_slice(),
         question,
         alone: job.options.alone,
-        places: known.places,
     };
     match put_told(alloc, names.as_ref(), arrived, &search, writer) {
         Ok(told) => match told.written {

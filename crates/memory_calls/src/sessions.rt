@@ -299,6 +299,7 @@ fn play_packets<K: Keeper, W: Write>(
         Target {
             layout: Layout::Bpf,
             names: None,
+            places: None,
         },
         session,
         &mut wanted,

@@ -53,7 +53,7 @@ def readme():
     hold(lines[0], 'fault access 0x10077656d at 25', 'the fault')
     # (the context has 13 bytes; 0x10077656d - 0x10000000d)
     hold(lines[1], '0x10077656d lies in no region, 0x776560 bytes behind the context (13 bytes at 0x100000000)', 'the region')
-    hold(lines[2], f'-2 r1 = 0x10077656d; 24: ldxdw r1, [r1+8]; from 0x2000001f8:8 ({OVERRUN}:26)', 'the origin')
+    hold(lines[2], f'-2 r1 = 0x10077656d; 24: ldxdw r1, [r1+8]; from 0x2000001f8:8; in size_of ({OVERRUN}:26)', 'the origin')
     hold(editor.go('stepBack', granularity='instruction'), ('step', 'size_of', 26), 'a step back')
     hold(editor.number('pc'), 25, 'pc')
     data = editor.ask('dataBreakpointInfo', name='0x2000001f8')
@@ -101,7 +101,7 @@ def firewall():
     hold(editor.body['description'], 'exited at 12: r0 0x2', 'XDP_PASS')
     # (XDP_PASS is the third of the verdicts that are counted)
     passed = editor.ask('bpfdb/origin', what='0x300000010:8')['lines'][0]['text']
-    hold(passed.endswith('; in verdicts[2]'), True, 'the name of a value of a map')
+    hold(passed.split('; in ')[1:], ['verdicts[2]', 'firewall (firewall.c:66)'], 'the name of a value of a map, and the place of its store')
     hold(editor.go('reverseContinue')[::2], ('breakpoint', 54), 'back to the breakpoint')
     hold(editor.state(), before, 'the same state')
     left(editor)
@@ -144,7 +144,7 @@ def whynot():
     editor, _ = started('firewall.o', context='ipv6.bin')
     hold(editor.go('continue')[0], 'exited', 'the end')
     before = editor.state()
-    branch = '-14 31: jne r5, 8, L52; r5 = 0xdd86; jumped to 52' + ('; in firewall (firewall.c:47)' if OVER == 'bpfdb' else '')
+    branch = '-14 31: jne r5, 8, L52; r5 = 0xdd86; jumped to 52; in firewall (firewall.c:47)'
     for what in ('44', '44,44', 'firewall.c:54'):
         lines = editor.ask('bpfdb/whynot', what=what)['lines']
         hold(lines[0]['text'], branch, f'the branch, of {what}')
@@ -589,7 +589,7 @@ def names():
     hold(editor.value('note.name[0] == 98', 1), '1', 'a comparison')
     # (docs/GDB.md: eight bytes of the note, the upper five of which r1 had)
     lines = editor.ask('bpfdb/origin', what='0x2000001f8:8')['lines']
-    hold(lines[0]['text'], '-8 0x2000001fa:1 = 0x77; 20: stxb [r5+0], r0; from r0', 'the origin')
+    hold(lines[0]['text'], '-8 0x2000001fa:1 = 0x77; 20: stxb [r5+0], r0; from r0; in copy (overrun.c:21)', 'the origin')
     hold((lines[0]['source']['path'], lines[0]['line']), (OVERRUN, 21), 'its line')
     hold(len(lines), 12, 'its lines')
     data = editor.ask('dataBreakpointInfo', name='packet', variablesReference=note['variablesReference'])

@@ -18,6 +18,7 @@ pub fn answers(
         Target {
             layout: Layout::X86,
             names: None,
+            places: None,
         },
         session,
         &mut wanted,

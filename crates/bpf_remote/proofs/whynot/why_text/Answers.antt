@@ -27,8 +27,8 @@ returns-clause-text g c = λ asked aims.
     let x = s.moment.state in
     let flags = subst (λ (flags : List Bool). AreGoals x.program aims.goals flags) (sym c.as_slice.ensures.value) aims.flags in
     if-ok c.look_why-looked.result.written (λ _. (t : Track) → HasPast g.K.Keeper.holds s t → c.into_inner.result.items
-    ≡ (why_not (told_by c.args.aim.now.reach) (query_of c.args.moves aims.goals t) t.history x).text) (λ u is t past.
-    let there = rw (c.course_mut.ensures.value, c.kept.ensures t past) at (c.look_why-looked.ensures.text x.program aims.goals flags t (rw (sym c.course_mut.ensures.value) at past)) in
+    ≡ (why_not (told_by c.args.aim.now.reach) (query_of c.args.places c.args.moves aims.goals t) t.history x).text) (λ u is t past.
+    let there = rw (c.course_mut.ensures.value, c.kept.ensures t past, c.most_lines.ensures) at (c.look_why-looked.ensures.text x.program aims.goals flags t (rw (sym c.course_mut.ensures.value) at past)) in
     ap (λ (v : ArrayVec ℕ). v.items) c.into_inner.ensures
     ∙ written (λ (v : ArrayVec ℕ). Some v.items) _ _ _ _ _ _ _ there is
     (ap (λ (v : Tally (ArrayVec ℕ)). Some v.inner.items) c.new-writer.ensures ∙ ap Some c.new.ensures) refl)

@@ -26,7 +26,7 @@ returns-in-Ok-written c = λ h stands.
     let written = rw c.in-Ok-written.is at (tells.text _ _ (Writes-none _ c.new-writer.result _)) in
     record {
       answer = tells.answer;
-      is = subst (λ (x : State). AreBranches c.args.query c.args.parts.now h x tells.answer) begins tells.is;
+      is = subst (λ (x : State). AreBranches c.args.question c.args.parts.now h x tells.answer) begins tells.is;
       text = rw c.into_inner.ensures (rw (c.new-writer.ensures, c.new.ensures.items) at written.ok);
       extent = tells.extent;
       state = state ∙ there.at ∙ begins;

@@ -7,4 +7,4 @@ abbrev pub invariant-loop-k : goal.invariant-loop-k
 invariant-loop-k g l =
     IsSameCourse g.K.Keeper.room g.K.Keeper.refused l.fn.course l.course
     × ((t : Track) → Follows g.K.Keeper.holds l.fn.course t →
-    Going g.K.Keeper.holds g.W.Write.contents l.query l.parts l.fn.writer l.fn.so_far t l.fn.course.state l.k l.hunt l.wanted l.course l.writer)
+    Going g.K.Keeper.holds g.W.Write.contents l.question l.parts l.fn.writer l.fn.so_far t l.fn.course.state l.k l.hunt l.wanted l.course l.writer)

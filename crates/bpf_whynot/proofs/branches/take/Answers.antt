@@ -29,7 +29,7 @@ returns-then-is_told-clause-takes g c =
     let still = c.spare_written-hit.ensures.still r h f stands in
     let is = c.has_line-is_told.ensures ∙ ap (λ (b : Bool). if c.args.hunt.values == 0 then false else b) hit in
     let here = c.cpu-cpu.ensures ∙ back.1.at in
-    turn_values g.W.Write.contents c.args.query k r h c.args.course.now.state c.args.wanted.now _ c.args.writer.now c.args.hunt turn
+    turn_values g.W.Write.contents c.args.question k r h c.args.course.now.state c.args.wanted.now _ c.args.writer.now c.args.hunt turn
     (rw (here, still) at (c.want_read-all.ensures r.move step)) (sym is ∙ c.if-is_told.true)
     (chases r.before here (knows_back r.before r.move c.args.course.now.state c.args.hunt stands.history.1.0 knows)))
     c.follow.ensures

@@ -55,10 +55,11 @@ returns-clause-does g c =
     let reader = stream g.R.Read.remaining c.args.reader.now c.serve-served.new.reader in
     let writer = stream g.W.Write.contents c.args.writer.now c.serve-served.new.writer in
     let loaded : Loaded = loaded_of c.args.program (lent c.args.object) in
-    let gdb : Target = record { layout = c.layout_of.result; names = c.as_ref.result } in
+    let gdb : Target = record { layout = c.layout_of.result; names = c.as_ref.result; places = c.args.known.places } in
     let target : IsTarget job (lent c.args.object) gdb = record {
       layout = c.layout_of.ensures;
       names = rw (sym c.as_ref.ensures.value) at c.known_names-names.ensures;
+      places = c.requires.known.places;
     } in
     session-ends job (ServesConnection job loaded reader writer) (BreaksConnection job loaded reader writer) c.serve-served.result
     c.session_ended.result o.room

@@ -2,7 +2,7 @@
 use Rattle.std.proofs.Common.{refl}
 use Rattle.bpfdb_jobs.specs.Endings.{Refused}
 use Rattle.bpfdb_faults.specs.declared.refusal.JobRefusal.TheVariants.{What}
-use Rattle.bpfdb_jobs.proofs.Originating.{nothing-behind, origin-refuses}
+use Rattle.bpfdb_jobs.proofs.Originating.{is-asked, nothing-behind, origin-refuses}
 use Rattle.bpfdb_jobs.proofs.origin.ask.Goals as goal
 
 pub returns-in-Err-clause-does : goal.returns-in-Err-clause-does
@@ -12,11 +12,18 @@ returns-in-Err-clause-does g c =
     (origin-refuses c.args.job.now _ at.timeline at.moves c.requires.arrived c.in-Err.fault (rw c.cpu.ensures at c.in-Err.ensures.err))
     refl c.give_up.ensures.told c.give_up.ensures.value
 
-pub ask_branches-requires-clause-parts : goal.ask_branches-requires-clause-parts
-ask_branches-requires-clause-parts g c = rw c.as_slice.ensures.value (rw c.cpu.ensures at c.in-Ok.ensures.ok)
+pub ask_branches-requires-clause-asked : goal.ask_branches-requires-clause-asked
+ask_branches-requires-clause-asked g c =
+    let a = c.requires.arrived in
+    rw c.as_slice.ensures.value
+    (is-asked c.args.job.now _ c.args.arrived.timeline c.args.arrived.moves a c.args.known c.requires.known c.question_of-question.result c.in-Ok.parts.items
+    (rw c.cpu.ensures at c.in-Ok.ensures.ok) (c.question_of-question.ensures a.at.point.history a.held))
 
 pub tell-requires : goal.tell-requires
 tell-requires g c =
+    let a = c.requires.arrived in
     let at = c.args.arrived in
     rw c.as_slice-else-job.ensures.value
-    (nothing-behind c.args.job.now _ at.timeline at.moves c.requires.arrived c.args.known c.requires.known c.in-Ok.parts.items (rw c.cpu.ensures at c.in-Ok.ensures.ok) c.if-job.false)
+    (nothing-behind c.args.job.now _ at.timeline at.moves a c.question_of-question.result c.in-Ok.parts.items
+    (is-asked c.args.job.now _ at.timeline at.moves a c.args.known c.requires.known c.question_of-question.result c.in-Ok.parts.items
+    (rw c.cpu.ensures at c.in-Ok.ensures.ok) (c.question_of-question.ensures a.at.point.history a.held)) c.if-job.false)

@@ -8,16 +8,14 @@ use Rattle.bpfdb_jobs.proofs.origin.ask_branches.Goals as goal
 
 pub tell-requires : goal.tell-requires
 tell-requires g c =
-    let job = c.args.job.now in
-    let a = c.requires.arrived in
-    let h = a.at.point.history in
+    let s = c.requires.asked in
     rw c.as_slice.ensures.value
-    (branches-behind job _ c.args.arrived.timeline c.args.arrived.moves a c.args.known c.requires.known c.question_of.result c.args.parts.now c.in-Ok.found c.requires.parts c.requires.branches
-    (c.question_of.ensures h a.held) (c.in-Ok.ensures h a.held))
+    (branches-behind c.args.job.now _ c.args.arrived.timeline c.args.arrived.moves c.args.parts.now c.args.question s c.in-Ok.found c.requires.branches
+    (c.in-Ok.ensures s.arrived.at.point.history s.arrived.held))
 
 pub returns-in-Err-clause-does : goal.returns-in-Err-clause-does
 returns-in-Err-clause-does g c =
     let job = c.args.job.now in
-    let a = c.requires.arrived in
+    let a = c.requires.asked.arrived in
     Refused (Journal OutOfMemory) (arrival-origin job (Journal OutOfMemory) (session-arrival job (Journal OutOfMemory) (no-places job (Journal OutOfMemory) a.opens.opens.short a.opens.sized refl)))
     refl c.give_up.ensures.told c.give_up.ensures.value

@@ -39,9 +39,8 @@ returns-in-Ok-written-clause-does g c =
     let can = told_by c.in-Ok.aim.reach in
     let q : Query = record {
       goals = p.goals;
-      question = record { addresses = job.options.addresses; lines = job.options.lines; opening = c.len.result == at.moves };
+      question = record { addresses = job.options.addresses; lines = job.options.lines; opening = c.len.result == at.moves; places = c.args.known.places };
       alone = job.options.alone;
-      places = c.args.known.places;
     } in
     let as-asked = ap (λ (m : ℕ). record q { question = record q.question { opening = m == at.moves } }) (c.len.ensures h c.requires.arrived.held) in
     let flags = subst (λ (flags : List Bool). AreGoals x.program p.goals flags) (sym c.as_slice.ensures.value) p.flags in
@@ -62,9 +61,8 @@ returns-in-Ok-put_told-clause-does g c =
     let can = told_by c.in-Ok.aim.reach in
     let q : Query = record {
       goals = p.goals;
-      question = record { addresses = job.options.addresses; lines = job.options.lines; opening = c.len.result == at.moves };
+      question = record { addresses = job.options.addresses; lines = job.options.lines; opening = c.len.result == at.moves; places = c.args.known.places };
       alone = job.options.alone;
-      places = c.args.known.places;
     } in
     let as-asked = ap (λ (m : ℕ). record q { question = record q.question { opening = m == at.moves } }) (c.len.ensures h c.requires.arrived.held) in
     let flags = subst (λ (flags : List Bool). AreGoals x.program p.goals flags) (sym c.as_slice.ensures.value) p.flags in
