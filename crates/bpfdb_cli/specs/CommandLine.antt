@@ -10,11 +10,12 @@ abbrev pub mem_rule : Rule
 mem_rule = record (new_rule (codes "mem")) { short = Some 109; long = Some (codes "mem"); value_names = 1 }
 
 -- `--packet N`: the number of a packet of that file, which is a capture.
-abbrev pub packet_rule_of : Text → Rule
-packet_rule_of name = record (new_rule name) { long = Some name; value_names = 1; parser = Some (vp.Unsigned 1 greatest_count) }
-
 abbrev pub packet_rule : Rule
-packet_rule = packet_rule_of (codes "packet")
+packet_rule = record (new_rule (codes "packet")) {
+  long = Some (codes "packet");
+  value_names = 1;
+  parser = Some (vp.Unsigned 1 greatest_count);
+}
 
 -- `--maps VxN,VxN`: the map table.
 abbrev pub maps_rule : Rule
@@ -171,7 +172,11 @@ other_mem_rule = record (new_rule (codes "other-mem")) { long = Some (codes "oth
 
 -- `--other-packet N`: the number of a packet of that one.
 abbrev pub other_packet_rule : Rule
-other_packet_rule = packet_rule_of (codes "other-packet")
+other_packet_rule = record (new_rule (codes "other-packet")) {
+  long = Some (codes "other-packet");
+  value_names = 1;
+  parser = Some (vp.Unsigned 1 greatest_count);
+}
 
 -- `--trace PATH`: a file, whose lines are the trace of another machine.
 abbrev pub other_trace_rule : Rule

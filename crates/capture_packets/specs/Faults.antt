@@ -16,7 +16,7 @@ fault_end NoCapture = []
 fault_end Pcapng = []
 fault_end (LinkType link) = codes ": " ++ link_name link ++ codes " (link type " ++ decimal link ++ codes ")"
 fault_end (Missing count) = codes ": the capture has " ++ decimal count
-fault_end (Cut count) = codes ": it has " ++ decimal count ++ codes " whole ones"
+fault_end (Cut count) = codes ": whole packets: " ++ decimal count
 
 abbrev pub fault_text : PacketFault → List ℕ
 fault_text fault = codes "refused P" ++ decimal (packet_fault fault).0 ++ codes ": " ++ (packet_fault fault).1 ++ fault_end fault

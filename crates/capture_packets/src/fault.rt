@@ -69,11 +69,7 @@ fn put_end<W: Write>(
             put_all(writer, so_far, &pieces)
         }
         PacketFault::Cut(count) => {
-            let pieces = [
-                Piece::Text(b": it has "),
-                Piece::Decimal(count),
-                Piece::Text(b" whole ones"),
-            ];
+            let pieces = [Piece::Text(b": whole packets: "), Piece::Decimal(count)];
             put_all(writer, so_far, &pieces)
         }
     }
