@@ -154,3 +154,15 @@ refused "refused P5: the capture is cut off before the packet's end: whole packe
 { cat none.pcap; head -c 16000000 /dev/zero; } > many.pcap
 result '0x0\n' run -m many.pcap --packet 1000000 first.s
 refused 'refused P4: no such packet: the capture has 1000000 (many.pcap)' run -m many.pcap --packet 1000001 first.s
+
+# Doors take the words: the page and the shell, whose memory is that of the packet.
+if has python3 'doors on a packet of a capture'; then
+    cp "$program" bpfdb
+    PATH=$PWD:$PATH "$top/share/bpfdb-page" -o page.html -m two.pcap --packet 1 first.s > found/out 2> found/err
+    count=$((count + 1))
+    { grep -q '"opening":{"size":4,' page.html && grep -q '<title>first.s on packet 1 of two.pcap<' page.html; } || complain "bpfdb-page: $(cat found/err)"
+    printf 'x 0x100000000 4\nquit\n' > script
+    PATH=$PWD:$PATH "$top/share/bpfdb-shell" -m two.pcap --packet 1 first.s < script > found/out 2> found/err
+    count=$((count + 1))
+    grep -q -x '0x100000000: 0a0b0c0d' found/out || complain "bpfdb-shell: $(cat found/out found/err)"
+fi
