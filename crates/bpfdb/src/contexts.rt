@@ -32,11 +32,11 @@ pub struct ContextFault<'a> {
 }
 
 /// The contexts of a plan whose files hold these bytes. That of PATH is looked for first.
-pub fn contexts_of<'a>(
+pub fn contexts_of<'a, 'b>(
     alloc: Global,
-    plan: &Plan<'a>,
+    plan: &Plan<'b>,
     bytes: &Bytes<'a>,
-) -> Result<Contexts<'a>, ContextFault<'a>>
+) -> Result<Contexts<'a>, ContextFault<'b>>
     ensures ok { IfOk result (AreContexts plan.now (contents_in bytes.now)) }
     ensures err { IfErr result (IsContextFault plan.now (contents_in bytes.now)) }
 {

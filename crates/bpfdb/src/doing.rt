@@ -54,11 +54,11 @@ pub fn do_plan<'a, F: Opener, R: Read, W: Write, E: Write>(
 
 /// Does a plan with what was read of its files: on the contexts that they hold, of which is said what
 /// there is to say.
-fn do_read<'a, F: Opener, R: Read, W: Write, E: Write>(
+fn do_read<F: Opener, R: Read, W: Write, E: Write>(
     alloc: Global,
     host: &Host<'_, F>,
-    plan: &Plan<'a>,
-    bytes: &Bytes<'a>,
+    plan: &Plan<'_>,
+    bytes: &Bytes<'_>,
     reader: &mut Counted<R>,
     writer: &mut Counted<W>,
     errors: &mut Counted<E>,
