@@ -13,7 +13,7 @@ struct skb {
 	u32 came_in_at, interface, tc_index, cb[5], hash;
 };
 
-/* The struct by a number that is its address. (`link --packet` follows the address itself into this library, and takes
+/* The struct by a number that is its address. (`link --struct` follows the address itself into this library, and takes
    accesses of 4 bytes by it for those of the kernel's struct, whose fields lie elsewhere; it follows no halves.) */
 INLINE struct skb *skb_of(const void *context)
 {

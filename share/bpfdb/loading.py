@@ -81,15 +81,8 @@ class Loaded:
         self.source = source_of(self.subject, self.subject.told.lines)
         names, self.maps = self.subject.told.names(), self.subject.told.shapes()
         self.map_names = [names.get(at, f'map {at}') for at in range(len(self.maps))]
-        self.context_size = self.size_of(line.value('-m', '--mem'))
+        self.context_size = self.subject.context_size()
 
     def has_no_names(self):
         """Whether bpfdb takes the program for raw words."""
         return self.subject.told.slots > 0 and not self.subject.told.lines
-
-    @staticmethod
-    def size_of(context):
-        try:
-            return os.path.getsize(context) if context else 0
-        except OSError:
-            return 0

@@ -4,6 +4,7 @@ import contextlib
 import json
 import os
 import re
+import subprocess
 
 from bpfdb.options import Refused, answer
 from bpfdb.texts import copied, in_memory, path_of, readable, start_of
@@ -11,6 +12,8 @@ from bpfdb.texts import copied, in_memory, path_of, readable, start_of
 ELF = b'\x7fELF'
 # What `link` says of a map's name.
 MAP_LINE = re.compile(r'^map (\d+): (.*)$', re.MULTILINE)
+# What `info regs` says at the start: r2 is the number of the context's bytes.
+OPENING_LINE = re.compile(rb'r0=\S+ r1=\S+ r2=(0x[0-9a-f]+) ')
 
 
 class Told:
@@ -64,6 +67,18 @@ class Subject:
     def answer(self, subcommand, *more, **to):
         """What a subcommand answers about the program."""
         return answer(self.line(subcommand, *more), self.kept, **to)
+
+    def context_size(self):
+        """How many bytes the context has: those of its file, or of a packet of a capture, as bpfdb tells it."""
+        path = self.words.value('-m', '--mem')
+        if path and self.words.has('--packet'):
+            line, kept = self.line('debug', without=('--regs',)), [file.fileno() for file in self.kept]
+            said = OPENING_LINE.match(subprocess.run(line, input=b'info regs\n', capture_output=True, pass_fds=kept).stdout)
+            return int(said[1], 16) if said else 0
+        try:
+            return os.path.getsize(path) if path else 0
+        except OSError:
+            return 0
 
     def keep(self):
         """Keeps an object as it is now: it may be compiled anew while a session asks about it."""

@@ -1,9 +1,9 @@
 // The line of words: what a line says, and what it says of the same file with another subcommand.
 
 // Options with a value, those of linking, and which subcommands take a context, maps and the kinds of files.
-const WITH_VALUE = new Set(["-m", "--mem", "--maps", "--regs", "--journal", "--steps", "--registers", "--section", "--entry", "--entries", "--stub", "--with", "--struct", "--packet", "--fields", "--script",
-  "--other-mem", "--trace", "--lines", "--from", "--count", "--only", "--show"]);
-const LINKING = new Set(["--section", "--entry", "--entries", "--stub", "--as-compiled", "--fields", "--struct", "--packet", "--with"]);
+const WITH_VALUE = new Set(["-m", "--mem", "--packet", "--maps", "--regs", "--journal", "--steps", "--registers", "--section", "--entry", "--entries", "--stub", "--with", "--struct", "--fields", "--script",
+  "--other-mem", "--other-packet", "--trace", "--lines", "--from", "--count", "--only", "--show"]);
+const LINKING = new Set(["--section", "--entry", "--entries", "--stub", "--as-compiled", "--fields", "--struct", "--with"]);
 const RUNS = ["run", "debug", "trace", "origin", "whynot", "diff"];
 const OFFERED = {
   listing: [...RUNS, "check", "load", "asm", "lines", "disasm"],
@@ -67,7 +67,7 @@ export function lines({ file, options, kind }) {
   const linking = options.filter((option) => LINKING.has(option.name)).flatMap((option) => option.words);
   const line = (subcommand) => {
     const words = [subcommand];
-    if (RUNS.includes(subcommand)) words.push(...of("-m", "--mem", "--regs"));
+    if (RUNS.includes(subcommand)) words.push(...of("-m", "--mem", "--packet", "--regs"));
     if ([...RUNS, "check", "load", "disasm"].includes(subcommand)) words.push(...of("--maps"));
     if (kind === "listing" && kindOf(file) !== kind && !["asm", "lines"].includes(subcommand)) words.push("--listing");
     if (kind === "object") words.push(...(kindOf(file) === kind || subcommand === "link" ? [] : ["--object"]), ...linking);

@@ -160,7 +160,7 @@ elif has_clang 'the library of Linux'; then
         maps=$(grep '^--maps ' told)
         comes_to "a packet that is to grow, $compiler" 0x3c000016
 
-        # Programs that change an skb, as objects for the kernel: by --packet each gives on these frames of `packets.py layouts 1` (two of IPv4, one of IPv6, two
+        # Programs that change an skb, as objects for the kernel: by --struct each gives on these frames of `packets.py layouts 1` (two of IPv4, one of IPv6, two
         # with tags) what Linux 6.1 gives. (tests/kernel.sh has them by bpfdb.h, on all frames.)
         if ! printf '#include <linux/bpf.h>\n#include <bpf/bpf_helpers.h>\n' | "$compiler" $architecture -target bpf -x c -fsyntax-only - 2> /dev/null; then
             left_out "what becomes of an skb, $compiler" 'there are no headers of the kernel and of libbpf (linux-libc-dev and libbpf-dev)'
@@ -168,7 +168,7 @@ elif has_clang 'the library of Linux'; then
             python3 "$top/tests/kernel/packets.py" layouts 1 > frames
             "$compiler" $architecture -target bpf -mcpu=v3 -O2 -g -c -o skb.o "$top/tests/kernel/packets.c" || complain "$compiler packets.c"
             while IFS='|' read -r entry results; do
-                "$program" link --packet tc --section tc --entry "$entry" --with library.o skb.o > words 2> told || complain "$entry: link --packet: $(cat told)"
+                "$program" link --struct tc --section tc --entry "$entry" --with library.o skb.o > words 2> told || complain "$entry: link --struct: $(cat told)"
                 maps=$(grep '^--maps ' told)
                 set -- 0 1 8 21 24
                 for result in $results; do

@@ -61,9 +61,8 @@ for compiler in $compilers; do
     linked --entry first
     # In turn, on one packet: the second one finds what the first one stored, XDP_PASS, 2.
     result '0x2\n' run --entry first --entry first --struct xdp -m frame seen.o
-    # The struct may be said, by its old name too; none is refused as before.
+    # The struct may be said; none is refused as before.
     result '0x1\n' run --entry first --struct xdp -m frame seen.o
-    result '0x1\n' run --entry first --packet xdp -m frame seen.o
     refused "refused E55: entry takes the kernel's own struct of a packet: --struct, in tests -- struct, gives it one of the machine's: first" run --entry first --struct none -m frame seen.o
 
     # A helper that answers otherwise is told wherever the program calls it, and there alone; --faithful refuses it.

@@ -75,7 +75,6 @@ for compiler in $compilers; do
     each 0x8 '--section second --entry three' reads.o
     each 0x9 '--entry two --entry three@1' reads.o
     each 0x384 '--entry two --entry clock --with late.o' reads.o
-    each 0x53 '--packet xdp' packet.o
     each 0x53 '--struct xdp' packet.o
     each 0x53 '' packet.o
     each 0x53 '--struct xdp --with clock.o --section xdp --entry first_byte' packet.o

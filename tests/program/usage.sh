@@ -145,7 +145,7 @@ for subcommand in run trace debug origin whynot diff gdb disasm check load; do
     usage "the argument '--object' cannot be used with '--listing'" $subcommand --listing --maps 8x2 --section a --object first $what
     usage "the argument '--object' cannot be used with '--maps <VxN,VxN>'" $subcommand --maps 8x2 --object first $what
     usage "the argument '--object' cannot be used with '--maps <VxN,VxN>'" $subcommand --object first $what --maps=
-    for option in --section=a --section= --entry=a --stub=5=0 --as-compiled --fields=strict --struct=xdp --packet=xdp --with=a; do
+    for option in --section=a --section= --entry=a --stub=5=0 --as-compiled --fields=strict --struct=xdp --with=a; do
         usage "$of_objects" $subcommand $option --maps 8x2 first $what
         usage "$of_objects" $subcommand first $what --listing $option
         usage "$of_objects" $subcommand first $what $option --words

@@ -11,8 +11,9 @@ use Rattle.bpfdb_jobs.specs.Done.{DoesJob}
 use Rattle.bpfdb.specs.declared.telling.Telling.{Telling}
 use Rattle.bpfdb.specs.Telling.{DoesTold, ErrLost, Exhausted, OutLost, Retells, Tells, Written, telling_of}
 use Rattle.bpfdb.specs.Contents.{Contents}
+use Rattle.bpfdb.specs.Contexts.{with_contexts}
 use Rattle.bpfdb.specs.Files.{World}
-use Rattle.bpfdb.specs.Done.{DoesFitting, DoesOr, DoesPlan, DoesReplaced, Done, EndsPlanWith, Fits, Like, Misfits, Replaced, Unlike, Unread, Unreplaced, refuses_unlike}
+use Rattle.bpfdb.specs.Done.{DoesFitting, DoesOr, DoesPlan, DoesRead, DoesReplaced, Done, Chosen, Unchosen, EndsPlanWith, Fits, Like, Misfits, Replaced, Unlike, Unread, Unreplaced, refuses_unlike}
 
 -- It is that of the plan's job, unless it is 2, told as JSON or not.
 ends_retold_with : {R W E : Type 0} (reader : Stream R) (writer : Stream W) (errors : Stream E) (telling : Telling) (job : Job) (status : ℕ)
@@ -50,11 +51,17 @@ ends_replaced_with reader writer errors world plan of status (Replaced bytes tes
   ends = ends_fitting_with reader writer errors world.at_terminal plan (record of { file = bytes }) job status does other;
 }
 
+ends_read_with : {R W E : Type 0} (reader : Stream R) (writer : Stream W) (errors : Stream E) (world : World) (plan : Plan) (of : Contents) (status : ℕ)
+    → DoesRead world plan of reader writer errors status → status ≢ 2 → EndsPlanWith plan status
+ends_read_with reader writer errors world plan of status (Unchosen fault why same kept told two) other = absurd (other two)
+ends_read_with reader writer errors world plan of status (Chosen contexts are noted told does) other =
+    ends_replaced_with reader writer (record errors { old = noted }) world plan (with_contexts of contexts) status does other
+
 pub ends_plan_with : {R W E : Type 0} (reader : Stream R) (writer : Stream W) (errors : Stream E) (world : World) (plan : Plan) (status : ℕ)
     → DoesPlan world plan reader writer errors status → status ≢ 2 → EndsPlanWith plan status
 ends_plan_with reader writer errors world plan status (Unread fault why same kept told two) other = absurd (other two)
 ends_plan_with reader writer errors world plan status (Done of are does) other =
-    ends_replaced_with reader writer errors world plan of status does other
+    ends_read_with reader writer errors world plan of status does other
 
 -- Of a plan to debug it is 0 then.
 pub debug_ends_with : (plan : Plan) (status : ℕ) → plan.subcommand ≡ Debug → EndsPlanWith plan status → status ≡ 0

@@ -12,6 +12,9 @@ use Rattle.bpfdb_faults.specs.declared.kind.KindFault.TheVariants.{Unfaithful}
 use Rattle.bpfdb_faults.specs.declared.refusal.JobRefusal.TheVariants.{Kind}
 use Rattle.bpfdb_jobs.specs.declared.job.Job.{Job}
 use Rattle.bpfdb.specs.Contents.{Contents}
+use Rattle.bpfdb.specs.Contexts.{AreContexts, IsContextFault, context_line, notes_of, with_contexts}
+use Rattle.bpfdb.specs.declared.contexts.ContextFault.{ContextFault}
+use Rattle.bpfdb.specs.declared.contexts.Contexts.{Contexts}
 use Rattle.bpfdb.specs.Files.{AreRead, IsUnread, World}
 use Rattle.bpfdb.specs.Jobs.{IsJobOf}
 use Rattle.bpfdb.specs.Kinds.{misfit_of}
@@ -66,11 +69,20 @@ pub data DoesReplaced {R W E : Type 0} (world : World) (plan : Plan) (of : Conte
       → Told errors (files_line fault) → status ≡ 2
       → DoesReplaced world plan of reader writer errors status
 
+-- It is done on the contexts that its files hold, behind what is said of these; or why one isn't there is told, and nothing else happens.
+pub data DoesRead {R W E : Type 0} (world : World) (plan : Plan) (of : Contents) (reader : Stream R) (writer : Stream W) (errors : Stream E) (status : ℕ)
+    : Type 0 where
+  Chosen : (contexts : Contexts) → AreContexts plan of contexts → (noted : Tally E) → Told (record errors { new = noted }) (notes_of contexts)
+      → DoesReplaced world plan (with_contexts of contexts) reader writer (record errors { old = noted }) status
+      → DoesRead world plan of reader writer errors status
+  Unchosen : (fault : ContextFault) → IsContextFault plan of fault → reader.new ≡ reader.old → writer.new ≡ writer.old
+      → Told errors (context_line fault) → status ≡ 2 → DoesRead world plan of reader writer errors status
+
 -- Its files can't be read, which is told, and nothing else happens; or they are, and its job is done.
 pub data DoesPlan {R W E : Type 0} (world : World) (plan : Plan) (reader : Stream R) (writer : Stream W) (errors : Stream E) (status : ℕ) : Type 0 where
   Unread : (fault : JobFault) → IsUnread world plan fault → reader.new ≡ reader.old → writer.new ≡ writer.old → Told errors (line_of fault)
       → status ≡ 2 → DoesPlan world plan reader writer errors status
-  Done : (of : Contents) → AreRead world plan of → DoesReplaced world plan of reader writer errors status
+  Done : (of : Contents) → AreRead world plan of → DoesRead world plan of reader writer errors status
       → DoesPlan world plan reader writer errors status
 
 -- A status other than 2 is that of its job, over some bytes of its files.

@@ -33,6 +33,14 @@ kind_in subcommand words = if words.is_listing || words.is_object then Source el
 abbrev pub kind_of : Plan → FileKind
 kind_of plan = kind_in plan.subcommand plan.target
 
+-- What PATH is read as: a capture, where a packet is asked for.
+abbrev pub context_kind_by : Option ℕ → FileKind
+context_kind_by (Some number) = Source
+context_kind_by None = Context
+
+abbrev pub context_kind : Plan → FileKind
+context_kind plan = context_kind_by plan.packet
+
 -- It isn't too long for what it is. (Of words the checker says that.)
 abbrev pub is_whole : SourceKind → List ℕ → Bool
 is_whole Words bytes = true
@@ -96,7 +104,7 @@ read_of read = record {
 -- They are what is read.
 pub record AreGiven (bytes_at : List ℕ → Option (List ℕ)) (plan : Plan) (of : Contents) : Type 0 where
   pub file : IsFileOf bytes_at plan of.file
-  pub context : GivesNamed bytes_at Context plan.memory of.context
+  pub context : GivesNamed bytes_at (context_kind plan) plan.memory of.context
   pub other : GivesNamed bytes_at Source plan.other of.other
   pub with : GivesFirst bytes_at Source (texts plan.target.with.items) (length plan.target.with.items) of.with
   pub linux : of.linux ≡ Unneeded
@@ -123,9 +131,9 @@ pub data IsUnread (world : World) (plan : Plan) (fault : JobFault) : Type 0 wher
   OfPath : (of_file : List ℕ) → IsFileOf world.bytes_at plan of_file → NamesGiven plan.memory fault
       → IsUnread world plan fault
   OfOther : (of_file of_path : List ℕ) → IsFileOf world.bytes_at plan of_file
-      → GivesNamed world.bytes_at Context plan.memory of_path → NamesGiven plan.other fault → IsUnread world plan fault
+      → GivesNamed world.bytes_at (context_kind plan) plan.memory of_path → NamesGiven plan.other fault → IsUnread world plan fault
   OfWith : (of_file of_path of_other : List ℕ) → IsFileOf world.bytes_at plan of_file
-      → GivesNamed world.bytes_at Context plan.memory of_path → GivesNamed world.bytes_at Source plan.other of_other
+      → GivesNamed world.bytes_at (context_kind plan) plan.memory of_path → GivesNamed world.bytes_at Source plan.other of_other
       → NamesOne world.bytes_at Source (texts plan.target.with.items) fault → IsUnread world plan fault
   OfLinux : (given : Contents) → AreGiven world.bytes_at plan given → LacksIn world plan given true → (path : List ℕ) → world.linux ≡ Some path
       → Names path fault → IsUnread world plan fault

@@ -1,5 +1,6 @@
 pub mod Done
 pub mod Contents
+pub mod Contexts
 pub mod Files
 pub mod Linux
 pub mod Notes

@@ -1,7 +1,7 @@
 //! What is done of a command line, over any files, reader and writers.
 ghost use Rattle.std.specs.Prelude.{◌≡◌, ◌≤◌, true};
 ghost use Rattle.bpfdb.specs.Contents.{contents_in};
-ghost use Rattle.bpfdb.specs.Done.{DoesFitting, DoesHinted, DoesNoted, DoesPlan, DoesReplaced, Helps};
+ghost use Rattle.bpfdb.specs.Done.{DoesFitting, DoesHinted, DoesNoted, DoesPlan, DoesRead, DoesReplaced, Helps};
 ghost use Rattle.bpfdb.specs.Files.{world_of};
 ghost use Rattle.bpfdb.specs.Jobs.{IsJobOf};
 ghost use Rattle.bpfdb.specs.Telling.{DoesTold};
@@ -11,6 +11,7 @@ ghost use Rattle.bpfdb_limits.specs.Limits.{IsLimit};
 ghost use Rattle.counted_io.specs.Writing.{Writes};
 ghost use Rattle.bpfdb_faults.specs.Streams.{stream};
 
+use crate::contexts::{contexts_of, refuse_context, say_contexts, with_contexts};
 use crate::files::read_all;
 use crate::host::Host;
 use crate::job::{Bytes, job_of};
@@ -46,9 +47,35 @@ pub fn do_plan<'a, F: Opener, R: Read, W: Write, E: Write>(
     ensures status { result ≤ 2 }
 {
     match read_all(alloc, host, plan) {
-        Ok(read) => do_replaced(alloc, host, plan, &read.bytes(), reader, writer, errors),
+        Ok(read) => do_read(alloc, host, plan, &read.bytes(), reader, writer, errors),
         Err(fault) => give_up(errors, &fault),
     }
+}
+
+/// Does a plan with what was read of its files: on the contexts that they hold, of which is said what
+/// there is to say.
+fn do_read<F: Opener, R: Read, W: Write, E: Write>(
+    alloc: Global,
+    host: &Host<'_, F>,
+    plan: &Plan<'_>,
+    bytes: &Bytes<'_>,
+    reader: &mut Counted<R>,
+    writer: &mut Counted<W>,
+    errors: &mut Counted<E>,
+) -> u8
+    requires limit { IsLimit plan.now.options.limit }
+    ensures does { DoesRead (world_of F.bytes_at host.now) plan.now (contents_in bytes.now)
+        (stream R.remaining reader.old reader.new) (stream W.contents writer.old writer.new)
+        (stream E.contents errors.old errors.new) result }
+    ensures status { result ≤ 2 }
+{
+    let contexts = match contexts_of(alloc, plan, bytes) {
+        Ok(contexts) => contexts,
+        Err(fault) => return refuse_context(&fault, errors),
+    };
+    say_contexts(&contexts, errors);
+    let bytes = with_contexts(bytes, &contexts);
+    do_replaced(alloc, host, plan, &bytes, reader, writer, errors)
 }
 
 /// Does a plan with the bytes of its files: over FILE, or over the file of tests in which what

@@ -3,7 +3,7 @@ ghost use Rattle.std.specs.Prelude.{◌≡◌, [], ◌∷◌, ◌++◌, IfErr, I
 ghost use Rattle.bpfdb.specs.declared.linux.Linux.TheVariants.{Joined};
 ghost use Rattle.bpfdb_faults.specs.declared.fault.JobFault.TheVariants.{Memory};
 ghost use Rattle.bpfdb.specs.Contents.{contents_in};
-ghost use Rattle.bpfdb.specs.Files.{AreGiven, AreRead, GivesFirst, GivesNamed, IsFileOf, IsUnread, Names, NamesGiven, NamesOne, is_whole, kind_of, read_of, world_of};
+ghost use Rattle.bpfdb.specs.Files.{AreGiven, AreRead, GivesFirst, GivesNamed, IsFileOf, IsUnread, Names, NamesGiven, NamesOne, context_kind, is_whole, kind_of, read_of, world_of};
 ghost use Rattle.bpf_load.specs.Targets.{contents, texts};
 ghost use Rattle.bpfdb_files.specs.Reading.{Gives};
 
@@ -63,7 +63,7 @@ pub fn read_all<'a, F: Opener>(
         Ok(file) => file,
         Err(fault) => return Err(fault),
     };
-    let context = match read_given(alloc, host.files, plan.memory, FileKind::Context) {
+    let context = match read_context(alloc, host.files, plan) {
         Ok(context) => context,
         Err(fault) => return Err(fault),
     };
@@ -228,6 +228,21 @@ fn read_given<'a, F: Opener>(
     match path {
         Some(path) => read_named(alloc, files, path, kind),
         None => Ok(Vec::new(alloc)),
+    }
+}
+
+/// The bytes of PATH: those of a context, or of a capture, of which a packet is asked for.
+fn read_context<'a, F: Opener>(
+    alloc: Global,
+    files: &F,
+    plan: &Plan<'a>,
+) -> Result<Vec<u8>, JobFault<'a>>
+    ensures ok { IfOk result (λ b. GivesNamed (F.bytes_at files.now) (context_kind plan.now) plan.now.memory b.items) }
+    ensures err { IfErr result (NamesGiven plan.now.memory) }
+{
+    match plan.packet {
+        Some(_) => read_given(alloc, files, plan.memory, FileKind::Source),
+        None => read_given(alloc, files, plan.memory, FileKind::Context),
     }
 }
 

@@ -112,7 +112,7 @@ fn section_of<'a>(words: &TargetWords<'a>, file: &'a [u8]) -> &'a [u8]
 }
 
 /// A name, empty where there is none.
-fn name_or_empty(name: Option<&str>) -> &[u8]
+pub fn name_or_empty<'a>(name: Option<&'a str>) -> &'a [u8]
     ensures { result.now ≡ name_or_empty name.entry }
 {
     match name {

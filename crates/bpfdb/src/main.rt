@@ -8,6 +8,7 @@ ghost use Rattle.bpfdb_cli.specs.Plans.{status_of};
 ghost use Rattle.bpfdb_limits.specs.Limits.{IsLimit};
 ghost use Rattle.bpfdb_options.specs.declared.subcommand.Subcommand.TheVariants.{Debug};
 
+mod contexts;
 mod doing;
 mod files;
 mod host;

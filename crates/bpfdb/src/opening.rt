@@ -53,7 +53,9 @@ pub fn first_plan() -> Plan<'static>
         subcommand: Subcommand::Debug,
         file: "",
         memory: None,
+        packet: None,
         other: None,
+        other_packet: None,
         target: TargetWords {
             is_words: true,
             is_listing: false,

@@ -9,6 +9,14 @@ use Rattle.bpfdb_limits.specs.Limits.{greatest_count}
 abbrev pub mem_rule : Rule
 mem_rule = record (new_rule (codes "mem")) { short = Some 109; long = Some (codes "mem"); value_names = 1 }
 
+-- `--packet N`: the number of a packet of that file, which is a capture.
+abbrev pub packet_rule : Rule
+packet_rule = record (new_rule (codes "packet")) {
+  long = Some (codes "packet");
+  value_names = 1;
+  parser = Some (vp.Unsigned 1 greatest_count);
+}
+
 -- `--maps VxN,VxN`: the map table.
 abbrev pub maps_rule : Rule
 maps_rule = record (new_rule (codes "maps")) { long = Some (codes "maps"); value_names = 1 }
@@ -106,9 +114,9 @@ fields_rule = record (new_rule (codes "fields")) { long = Some (codes "fields");
 abbrev pub as_compiled_rule : Rule
 as_compiled_rule = record (new_rule (codes "as-compiled")) { long = Some (codes "as-compiled"); action = Some SetTrue }
 
--- `--struct KIND`, which was called `--packet`: what the entry takes.
+-- `--struct KIND`: what the entry takes.
 abbrev pub struct_rule : Rule
-struct_rule = record (new_rule (codes "struct")) { long = Some (codes "struct"); aliases = codes "packet" ∷ []; value_names = 1 }
+struct_rule = record (new_rule (codes "struct")) { long = Some (codes "struct"); value_names = 1 }
 
 -- `--with OBJECT`: objects with functions that answer calls, one each time.
 abbrev pub with_functions_rule : Rule
@@ -161,6 +169,14 @@ show_rule = record (new_rule (codes "show")) { long = Some (codes "show"); value
 -- `--other-mem PATH`: a file, whose bytes are the second context.
 abbrev pub other_mem_rule : Rule
 other_mem_rule = record (new_rule (codes "other-mem")) { long = Some (codes "other-mem"); value_names = 1 }
+
+-- `--other-packet N`: the number of a packet of that one.
+abbrev pub other_packet_rule : Rule
+other_packet_rule = record (new_rule (codes "other-packet")) {
+  long = Some (codes "other-packet");
+  value_names = 1;
+  parser = Some (vp.Unsigned 1 greatest_count);
+}
 
 -- `--trace PATH`: a file, whose lines are the trace of another machine.
 abbrev pub other_trace_rule : Rule
@@ -223,16 +239,16 @@ with_file_kinds app = with_link_rules (with_rule (with_rule (with_rule app words
 
 -- The subcommands and their options.
 abbrev pub run_app : App
-run_app = with_rule (with_rule (with_file_kinds (with_rule (with_rule (with_rule (with_rule (with_rule (new_app (codes "run"))
-    mem_rule) maps_rule) regs_rule) steps_rule) strict_rule)) json_rule) file_rule
+run_app = with_rule (with_rule (with_file_kinds (with_rule (with_rule (with_rule (with_rule (with_rule (with_rule (new_app (codes "run"))
+    mem_rule) packet_rule) maps_rule) regs_rule) steps_rule) strict_rule)) json_rule) file_rule
 
 abbrev pub trace_app : App
-trace_app = with_rule (with_rule (with_file_kinds (with_rule (with_rule (with_rule (with_rule (with_rule (with_rule (with_rule (with_rule (with_rule (new_app (codes "trace"))
-    mem_rule) maps_rule) regs_rule) steps_rule) from_rule) count_rule) branches_rule) profile_rule) strict_rule)) json_rule) file_rule
+trace_app = with_rule (with_rule (with_file_kinds (with_rule (with_rule (with_rule (with_rule (with_rule (with_rule (with_rule (with_rule (with_rule (with_rule (new_app (codes "trace"))
+    mem_rule) packet_rule) maps_rule) regs_rule) steps_rule) from_rule) count_rule) branches_rule) profile_rule) strict_rule)) json_rule) file_rule
 
 abbrev pub debug_app : App
-debug_app = with_rule (with_file_kinds (with_rule (with_rule (with_rule (with_rule (with_rule (new_app (codes "debug"))
-    mem_rule) maps_rule) regs_rule) journal_rule) steps_rule)) file_rule
+debug_app = with_rule (with_file_kinds (with_rule (with_rule (with_rule (with_rule (with_rule (with_rule (new_app (codes "debug"))
+    mem_rule) packet_rule) maps_rule) regs_rule) journal_rule) steps_rule)) file_rule
 
 abbrev pub asm_app : App
 asm_app = with_rule (new_app (codes "asm")) file_rule
@@ -258,23 +274,23 @@ test_app = with_rule (with_rule (with_rule (with_rule (with_rule (with_rule (wit
 
 -- `gdb` opens a session as `debug` does, over a larger journal.
 abbrev pub gdb_app : App
-gdb_app = with_rule (with_rule (with_file_kinds (with_rule (with_rule (with_rule (with_rule (with_rule (new_app (codes "gdb"))
-    mem_rule) maps_rule) regs_rule) gdb_journal_rule) steps_rule)) registers_rule) file_rule
+gdb_app = with_rule (with_rule (with_file_kinds (with_rule (with_rule (with_rule (with_rule (with_rule (with_rule (new_app (codes "gdb"))
+    mem_rule) packet_rule) maps_rule) regs_rule) gdb_journal_rule) steps_rule)) registers_rule) file_rule
 
 -- `origin` runs the program as `debug` does, over that journal, too.
 abbrev pub origin_app : App
-origin_app = with_rule (with_rule (with_rule (with_rule (with_rule (with_rule (with_rule (with_file_kinds (with_rule (with_rule (with_rule (with_rule (with_rule (with_rule (new_app (codes "origin"))
-    mem_rule) maps_rule) regs_rule) gdb_journal_rule) steps_rule) script_rule)) lines_rule) addresses_rule) branches_rule) json_rule) dot_rule) what_rule) file_rule
+origin_app = with_rule (with_rule (with_rule (with_rule (with_rule (with_rule (with_rule (with_file_kinds (with_rule (with_rule (with_rule (with_rule (with_rule (with_rule (with_rule (new_app (codes "origin"))
+    mem_rule) packet_rule) maps_rule) regs_rule) gdb_journal_rule) steps_rule) script_rule)) lines_rule) addresses_rule) branches_rule) json_rule) dot_rule) what_rule) file_rule
 
 -- `whynot` does so, too.
 abbrev pub whynot_app : App
-whynot_app = with_rule (with_rule (with_rule (with_rule (with_rule (with_rule (with_file_kinds (with_rule (with_rule (with_rule (with_rule (with_rule (with_rule (new_app (codes "whynot"))
-    mem_rule) maps_rule) regs_rule) gdb_journal_rule) steps_rule) script_rule)) lines_rule) addresses_rule) alone_rule) json_rule) goal_rule) file_rule
+whynot_app = with_rule (with_rule (with_rule (with_rule (with_rule (with_rule (with_file_kinds (with_rule (with_rule (with_rule (with_rule (with_rule (with_rule (with_rule (new_app (codes "whynot"))
+    mem_rule) packet_rule) maps_rule) regs_rule) gdb_journal_rule) steps_rule) script_rule)) lines_rule) addresses_rule) alone_rule) json_rule) goal_rule) file_rule
 
 -- `diff` runs two programs, or one on two contexts or along a trace, as `run` does.
 abbrev pub diff_app : App
-diff_app = with_rule (with_rule (with_rule (with_rule (with_rule (with_rule (with_file_kinds (with_rule (with_rule (with_rule (with_rule (with_rule (with_rule (with_rule (with_rule (new_app (codes "diff"))
-    mem_rule) other_mem_rule) other_trace_rule) maps_rule) regs_rule) gdb_journal_rule) steps_rule) writes_rule)) lines_rule) addresses_rule) alone_rule) json_rule) other_rule) file_rule
+diff_app = with_rule (with_rule (with_rule (with_rule (with_rule (with_rule (with_file_kinds (with_rule (with_rule (with_rule (with_rule (with_rule (with_rule (with_rule (with_rule (with_rule (with_rule (new_app (codes "diff"))
+    mem_rule) packet_rule) other_mem_rule) other_packet_rule) other_trace_rule) maps_rule) regs_rule) gdb_journal_rule) steps_rule) writes_rule)) lines_rule) addresses_rule) alone_rule) json_rule) other_rule) file_rule
 
 -- `batch` runs cases as `run` does.
 abbrev pub batch_app : App

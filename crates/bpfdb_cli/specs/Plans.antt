@@ -34,6 +34,10 @@ abbrev pub number_or : ℕ → Option Text → ℕ
 number_or default None = default
 number_or default (Some text) = digits_value 10 (without_leading_plus text)
 
+-- The number of an option that may be absent.
+abbrev pub number_in : Option Text → Option ℕ
+number_in text = option_map (λ t. digits_value 10 (without_leading_plus t)) text
+
 -- A flag was given.
 abbrev pub is_given : Option Text → Bool
 is_given text = option_map_or (λ t. bytes_eq t (codes "true")) text false
@@ -154,7 +158,9 @@ pub record Says (name : Text) (rows : List Row) (plan : Plan) : Type 0 where
   pub subcommand : subcommand_name plan.subcommand ≡ name
   pub file : first_of (codes "file") rows ≡ Some plan.file.now
   pub memory : option_map (λ s. s.now) plan.memory ≡ first_of (codes "mem") rows
+  pub packet : plan.packet ≡ number_in (first_of (codes "packet") rows)
   pub other : option_map (λ s. s.now) plan.other ≡ other_in rows
+  pub other_packet : plan.other_packet ≡ number_in (first_of (codes "other-packet") rows)
   pub target : Aims rows plan.target
   pub options : Chooses rows plan.options
   pub json : plan.json ≡ is_given (first_of (codes "json") rows)
@@ -172,6 +178,8 @@ pub record AreInRange (rows : List Row) (options : Options) : Type 0 where
   pub lines : IsNumber (first_of (codes "lines") rows)
   pub from : IsNumber (first_of (codes "from") rows)
   pub count : IsNumber (first_of (codes "count") rows)
+  pub packet : IsNumber (first_of (codes "packet") rows)
+  pub other_packet : IsNumber (first_of (codes "other-packet") rows)
   pub limit : IsLimit options.limit
   pub most : IsLimit options.lines
 
@@ -189,9 +197,16 @@ names_other rows = if is_some (first_of (codes "other") rows)
 abbrev pub writes_fit : List Row → Bool
 writes_fit rows = not (is_given (first_of (codes "writes") rows) && is_some (first_of (codes "trace") rows))
 
+-- A packet is one of the capture that its context's option names.
+abbrev pub is_of : Text → Text → List Row → Bool
+is_of packet path rows = if is_some (first_of packet rows) then is_some (first_of path rows) else true
+
+abbrev pub packets_fit : List Row → Bool
+packets_fit rows = is_of (codes "packet") (codes "mem") rows && is_of (codes "other-packet") (codes "other-mem") rows
+
 -- Options go together: FILE is one thing, an object has maps of its own, `diff` is told of one other side, steps that are counted are those of a run
--- that isn't strict, programs in turn have numbers, and so have maps, and a part of a test and a tracefile are written as they are, and so is a
--- graph.
+-- that isn't strict, a packet is of a context, programs in turn have numbers, and so have maps, and a part of a test and a tracefile are written as
+-- they are, and so is a graph.
 abbrev pub may_be_object : List Row → Bool
 may_be_object rows = not (is_given (first_of (codes "words") rows))
     && (not (is_given (first_of (codes "listing") rows)) && not (is_some (first_of (codes "maps") rows)))
@@ -234,7 +249,8 @@ abbrev pub told_fits : Text → List Row → Bool
 told_fits name rows = not (shows_json rows) && (not (is_json_tracefile rows) && graph_fits name rows)
 
 abbrev pub go_together : Text → List Row → Bool
-go_together name rows = entries_fit rows && (are_counts (texts_in (codes "entries") rows) && (not (counts_strictly rows) && told_fits name rows))
+go_together name rows = entries_fit rows && (are_counts (texts_in (codes "entries") rows)
+    && (packets_fit rows && (not (counts_strictly rows) && told_fits name rows)))
 
 -- A plan says what a subcommand's matches say, with numbers in their ranges and options that go together.
 pub record IsPlanOf (name : Text) (rows : List Row) (plan : Plan) : Type 0 where

@@ -13,11 +13,7 @@ use Rattle.bpfdb_cli.specs.declared.subcommands.CliSubcommand.{CliSubcommand}
 abbrev pub text_rule : Text → Rule
 text_rule name = record (new_rule name) { long = Some name; value_names = 1 }
 
--- One that is known by an older name, too.
-abbrev pub renamed_rule : Text → Text → Rule
-renamed_rule name old_name = record (text_rule name) { aliases = old_name ∷ [] }
-
--- One with a number of steps or of lines, and one that takes nothing.
+-- One with a number of steps, of lines or of a packet, and one that takes nothing.
 abbrev pub count_rule_of : Text → Rule
 count_rule_of name = record (text_rule name) { parser = Some (vp.Unsigned 1 greatest_count) }
 
@@ -33,7 +29,6 @@ rule_by takes.Nothing name = flag_rule name
 rule_by takes.Obsolete name = flag_rule name
 rule_by takes.Text name = text_rule name
 rule_by (takes.ShortText letter) name = record (text_rule name) { short = Some letter }
-rule_by (takes.Renamed old_name) name = renamed_rule name old_name.now
 rule_by takes.Texts name = record (text_rule name) { action = Some Append }
 rule_by (takes.TextOr default) name = record (text_rule name) { defaults = default.now ∷ [] }
 rule_by takes.Count name = count_rule_of name

@@ -370,6 +370,14 @@ pub const MEM_LONG: &str = "File with the context, 0 to 65536 bytes: its address
 length in r2. Without it the context is empty, and r1 is 0.
 Example: -m packet.bin";
 
+/// `--packet`.
+pub const PACKET: &str = "Packet, from 1, of the capture of -m";
+
+pub const PACKET_LONG: &str = "Number of a packet, from 1, of the capture that -m names, of Ethernet
+and in pcap's own format: its bytes are the context, as many as were
+captured. Without it the context is the whole file.
+Example: -m web.pcap --packet 3";
+
 /// `--maps`.
 pub const MAPS: &str = "Maps: V bytes, 1 to 256, and N entries, 1 to 4096";
 
@@ -540,6 +548,13 @@ pub const OTHER_MEM: &str = "Second context, a file of 0 to 65536 bytes";
 
 pub const OTHER_MEM_LONG: &str = "Second context, a file of 0 to 65536 bytes: the program runs on
 it, too. It can't be used with OTHER";
+
+/// `--other-packet N`.
+pub const OTHER_PACKET: &str = "Packet, from 1, of the capture of --other-mem";
+
+pub const OTHER_PACKET_LONG: &str =
+    "Number of a packet, from 1, of the capture that --other-mem names,
+as --packet is of that of -m";
 
 /// `--trace PATH`.
 pub const OTHER_TRACE: &str = "Trace of another machine, in place of a second run";

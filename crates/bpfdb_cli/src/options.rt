@@ -12,13 +12,11 @@ pub(crate) enum Takes<'a> {
     Text,
     /// A text; the option has a name of one letter, too.
     ShortText(char),
-    /// A text; the option was called so before, and is still known by that name.
-    Renamed(&'a str),
     /// A text each time that it comes.
     Texts,
     /// A text, or this one.
     TextOr(&'a str),
-    /// A number of steps or of lines.
+    /// A number of steps, of lines or of a packet.
     Count,
     /// Such a number, or this one.
     CountOr(&'a str),
@@ -54,6 +52,15 @@ pub(crate) const MEM: CliOption<'static> = CliOption {
     value: "PATH",
     about: help::MEM,
     long_about: help::MEM_LONG,
+};
+
+/// `--packet N`.
+pub(crate) const PACKET: CliOption<'static> = CliOption {
+    name: "packet",
+    takes: Takes::Count,
+    value: "N",
+    about: help::PACKET,
+    long_about: help::PACKET_LONG,
 };
 
 /// `--maps VxN,VxN`.
@@ -257,7 +264,7 @@ pub(crate) const AS_COMPILED: CliOption<'static> = CliOption {
 /// `--struct KIND`.
 pub(crate) const STRUCT: CliOption<'static> = CliOption {
     name: "struct",
-    takes: Takes::Renamed("packet"),
+    takes: Takes::Text,
     value: "KIND",
     about: help::STRUCT,
     long_about: help::STRUCT_LONG,
@@ -351,6 +358,15 @@ pub(crate) const OTHER_MEM: CliOption<'static> = CliOption {
     value: "PATH",
     about: help::OTHER_MEM,
     long_about: help::OTHER_MEM_LONG,
+};
+
+/// `--other-packet N`.
+pub(crate) const OTHER_PACKET: CliOption<'static> = CliOption {
+    name: "other-packet",
+    takes: Takes::Count,
+    value: "N",
+    about: help::OTHER_PACKET,
+    long_about: help::OTHER_PACKET_LONG,
 };
 
 /// `--trace PATH`.

@@ -7,7 +7,7 @@ ghost use Rattle.input_texts.specs.Turns.{has_place};
 ghost use Rattle.clap.specs.Words.{Row, Text, all_of, first_of, found_of, rows_of, subcommand_rows_of};
 ghost use Rattle.bpfdb_limits.specs.Limits.{IsLimit};
 ghost use Rattle.bpfdb_cli.specs.Scaffolding.{AskAlike};
-ghost use Rattle.bpfdb_cli.specs.Plans.{Aims, AreInRange, Chooses, HasKindIfTold, IsFaultOf, IsNumber, IsPlan, IsPlanOf, NamesPart, NamesRegisters, Says, Tells, asks_of_link, counts_strictly, go_together, is_given, joins_nothing, joins_packet, names_one, object_fits, is_object, kinds_fit, may_be_object, names_other, number_or, other_in, run_fits, given_or, NamesFields, NamesStruct, entries_fit, has_offset, graph_fits, is_json_graph, is_json_tracefile, most_texts, names_side, writes_fit, shows_json, texts_in, told_fits, turns_in};
+ghost use Rattle.bpfdb_cli.specs.Plans.{Aims, AreInRange, Chooses, HasKindIfTold, IsFaultOf, IsNumber, IsPlan, IsPlanOf, NamesPart, NamesRegisters, Says, Tells, asks_of_link, counts_strictly, go_together, is_given, joins_nothing, joins_packet, names_one, object_fits, is_object, kinds_fit, may_be_object, names_other, number_or, other_in, run_fits, given_or, NamesFields, NamesStruct, entries_fit, has_offset, graph_fits, is_json_graph, is_json_tracefile, most_texts, names_side, number_in, is_of, packets_fit, writes_fit, shows_json, texts_in, told_fits, turns_in};
 
 use crate::command_line::command_line;
 use crate::plans::{EntryTakes, MOST_TEXTS, Plan, PlanFault, TargetWords};
@@ -44,6 +44,9 @@ const WRITES_AND_TRACE: &str = "the argument '--writes' cannot be used with '--t
 
 const NO_OTHER: &str =
     "a second program, '[OTHER]', or '--other-mem <PATH>' or '--trace <PATH>' is needed";
+
+const PACKET_ALONE: &str =
+    "'--packet <N>' needs '--mem <PATH>', and '--other-packet <N>' needs '--other-mem <PATH>'";
 
 const STRICT_AND_PROFILE: &str = "the argument '--strict' cannot be used with '--profile'";
 
@@ -168,6 +171,12 @@ fn plan_in<'a>(name: &'a str, found: &ArgMatches<'a>) -> Result<Plan<'a>, &'stat
     let Some(options) = options_in(found) else {
         return Err(BAD_VALUE);
     };
+    let Some(packet) = number_in(text_of(found, "packet")) else {
+        return Err(BAD_VALUE);
+    };
+    let Some(other_packet) = number_in(text_of(found, "other-packet")) else {
+        return Err(BAD_VALUE);
+    };
     let Some(takes) = takes_of(text_of(found, "struct")) else {
         return Err(BAD_VALUE);
     };
@@ -186,7 +195,9 @@ fn plan_in<'a>(name: &'a str, found: &ArgMatches<'a>) -> Result<Plan<'a>, &'stat
         subcommand,
         file,
         memory: text_of(found, "mem"),
+        packet,
         other: other_of(found),
+        other_packet,
         target,
         options,
         json: is_given(found, "json"),
@@ -206,10 +217,31 @@ fn misfit_in(name: &str, found: &ArgMatches<'_>) -> Option<&'static str>
     if !counts_fit(found) {
         return Some(BAD_COUNT);
     }
+    if !packets_fit(found) {
+        return Some(PACKET_ALONE);
+    }
     if counts_strictly(found) {
         Some(STRICT_AND_PROFILE)
     } else {
         misfit_of_text(name, found)
+    }
+}
+
+/// Whether each packet that is asked for is one of a context.
+fn packets_fit(found: &ArgMatches<'_>) -> bool
+    ensures { result ≡ packets_fit (rows_of (found_of found.now)) }
+{
+    is_of(found, "packet", "mem") && is_of(found, "other-packet", "other-mem")
+}
+
+/// Whether a packet that is asked for is one of the context that this option names.
+fn is_of(found: &ArgMatches<'_>, packet: &str, path: &str) -> bool
+    ensures { result ≡ is_of packet.now path.now (rows_of (found_of found.now)) }
+{
+    if has_text(found, packet) {
+        has_text(found, path)
+    } else {
+        true
     }
 }
 
@@ -704,6 +736,20 @@ fn number_or(text: Option<&str>, default: u64) -> Option<u64>
         None => Some(default),
         Some(text) => match text.parse::<u64>() {
             Ok(number) => Some(number),
+            Err(_) => None,
+        },
+    }
+}
+
+/// The number of an option that may be absent; None where its text is no number below 2^64.
+fn number_in(text: Option<&str>) -> Option<Option<u64>>
+    ensures found { IfSome result (λ number. number ≡ number_in (option_map (λ t. t.now) text.entry)) }
+    ensures none { IfNone result (IsNumber (option_map (λ t. t.now) text.entry) → ⊥) }
+{
+    match text {
+        None => Some(None),
+        Some(text) => match text.parse::<u64>() {
+            Ok(number) => Some(Some(number)),
             Err(_) => None,
         },
     }

@@ -66,9 +66,14 @@ pub struct Plan<'a> {
     pub file: &'a str,
     /// The path of the file whose bytes are the context; without one the context is empty.
     pub memory: Option<&'a str>,
+    /// Which packet of that file, a capture, is the context, counted from 1; without one it is all of
+    /// the file.
+    pub packet: Option<u64>,
     /// The path of the other file: of the script that is obeyed before `origin` asks, or of the second
     /// program or context of `diff`, or of its trace.
     pub other: Option<&'a str>,
+    /// Which packet of that one, a capture, is the second context of `diff`.
+    pub other_packet: Option<u64>,
     pub target: TargetWords<'a>,
     pub options: Options<'a>,
     /// What is printed is told as objects of JSON, one a line.

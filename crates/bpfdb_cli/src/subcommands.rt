@@ -20,6 +20,7 @@ pub(crate) const RUNS: [CliSubcommand<'static>; 3] = [
         example: help::RUN_EXAMPLE,
         options: &[
             options::MEM,
+            options::PACKET,
             options::MAPS,
             options::REGS,
             options::STEPS,
@@ -48,6 +49,7 @@ pub(crate) const RUNS: [CliSubcommand<'static>; 3] = [
         example: help::TRACE_EXAMPLE,
         options: &[
             options::MEM,
+            options::PACKET,
             options::MAPS,
             options::REGS,
             options::STEPS,
@@ -80,6 +82,7 @@ pub(crate) const RUNS: [CliSubcommand<'static>; 3] = [
         example: help::DEBUG_EXAMPLE,
         options: &[
             options::MEM,
+            options::PACKET,
             options::MAPS,
             options::REGS,
             options::JOURNAL,
@@ -111,6 +114,7 @@ pub(crate) const QUESTIONS: [CliSubcommand<'static>; 4] = [
         example: help::ORIGIN_EXAMPLE,
         options: &[
             options::MEM,
+            options::PACKET,
             options::MAPS,
             options::REGS,
             options::GDB_JOURNAL,
@@ -145,6 +149,7 @@ pub(crate) const QUESTIONS: [CliSubcommand<'static>; 4] = [
         example: help::WHYNOT_EXAMPLE,
         options: &[
             options::MEM,
+            options::PACKET,
             options::MAPS,
             options::REGS,
             options::GDB_JOURNAL,
@@ -178,7 +183,9 @@ pub(crate) const QUESTIONS: [CliSubcommand<'static>; 4] = [
         example: help::DIFF_EXAMPLE,
         options: &[
             options::MEM,
+            options::PACKET,
             options::OTHER_MEM,
+            options::OTHER_PACKET,
             options::OTHER_TRACE,
             options::MAPS,
             options::REGS,
@@ -213,6 +220,7 @@ pub(crate) const QUESTIONS: [CliSubcommand<'static>; 4] = [
         example: help::GDB_EXAMPLE,
         options: &[
             options::MEM,
+            options::PACKET,
             options::MAPS,
             options::REGS,
             options::GDB_JOURNAL,
