@@ -14,6 +14,8 @@ pub(crate) enum Takes<'a> {
     ShortText(char),
     /// A text; the option was called so before, and is still known by that name.
     Renamed(&'a str),
+    /// Nothing; the option has a name of one letter, too, and is still known by its old name.
+    RenamedFlag(char, &'a str),
     /// A text each time that it comes.
     Texts,
     /// A text, or this one.
@@ -218,13 +220,13 @@ pub(crate) const ENTRIES: CliOption<'static> = CliOption {
     long_about: help::ENTRIES_LONG,
 };
 
-/// `--stub NUMBER=VALUE,NUMBER=VALUE`.
-pub(crate) const STUB: CliOption<'static> = CliOption {
-    name: "stub",
-    takes: Takes::Text,
+/// `--helper NUMBER=VALUE,NUMBER=VALUE`.
+pub(crate) const HELPER: CliOption<'static> = CliOption {
+    name: "helper",
+    takes: Takes::Renamed("stub"),
     value: "NUMBER=VALUE",
-    about: help::STUB,
-    long_about: help::STUB_LONG,
+    about: help::HELPER,
+    long_about: help::HELPER_LONG,
 };
 
 /// `--script PATH`.
@@ -290,13 +292,22 @@ pub(crate) const FAITHFUL: CliOption<'static> = CliOption {
     long_about: "",
 };
 
-/// `--joined`.
-pub(crate) const JOINED: CliOption<'static> = CliOption {
-    name: "joined",
-    takes: Takes::Nothing,
+/// `-r`, `--relocatable`.
+pub(crate) const RELOCATABLE: CliOption<'static> = CliOption {
+    name: "relocatable",
+    takes: Takes::RenamedFlag('r', "joined"),
     value: "",
-    about: help::JOINED,
+    about: help::RELOCATABLE,
     long_about: "",
+};
+
+/// `-o PATH`, `--output PATH`.
+pub(crate) const OUTPUT: CliOption<'static> = CliOption {
+    name: "output",
+    takes: Takes::ShortText('o'),
+    value: "PATH",
+    about: help::OUTPUT,
+    long_about: help::OUTPUT_LONG,
 };
 
 /// `--lines N`.

@@ -69,6 +69,8 @@ pub struct Plan<'a> {
     /// The path of the other file: of the script that is obeyed before `origin` asks, or of the second
     /// program or context of `diff`, or of its trace.
     pub other: Option<&'a str>,
+    /// The path of the file that takes what is linked; without one standard output does.
+    pub output: Option<&'a str>,
     pub target: TargetWords<'a>,
     pub options: Options<'a>,
     /// What is printed is told as objects of JSON, one a line.
