@@ -3,6 +3,7 @@ pub mod Contents
 pub mod Files
 pub mod Linux
 pub mod Notes
+pub mod Outputs
 pub mod Tests
 pub mod Jobs
 pub mod Kinds

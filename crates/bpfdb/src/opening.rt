@@ -54,6 +54,7 @@ pub fn first_plan() -> Plan<'static>
         file: "",
         memory: None,
         other: None,
+        output: None,
         target: TargetWords {
             is_words: true,
             is_listing: false,
