@@ -95,7 +95,7 @@ entry_rule = record (new_rule (codes "entry")) { long = Some (codes "entry"); va
 abbrev pub entries_rule : Rule
 entries_rule = record (new_rule (codes "entries")) { long = Some (codes "entries"); value_names = 1; action = Some Append }
 
--- `--helper NUMBER=VALUE,NUMBER=VALUE`, which was called `--stub`: the helpers whose calls are answered by a constant.
+-- `--helper NAME=VALUE,NAME=VALUE`, which was called `--stub`: the helpers whose calls are answered by a constant.
 abbrev pub helper_rule : Rule
 helper_rule = record (new_rule (codes "helper")) { long = Some (codes "helper"); aliases = codes "stub" ∷ []; value_names = 1 }
 

@@ -220,11 +220,11 @@ pub(crate) const ENTRIES: CliOption<'static> = CliOption {
     long_about: help::ENTRIES_LONG,
 };
 
-/// `--helper NUMBER=VALUE,NUMBER=VALUE`.
+/// `--helper NAME=VALUE,NAME=VALUE`.
 pub(crate) const HELPER: CliOption<'static> = CliOption {
     name: "helper",
     takes: Takes::Renamed("stub"),
-    value: "NUMBER=VALUE",
+    value: "NAME=VALUE",
     about: help::HELPER,
     long_about: help::HELPER_LONG,
 };

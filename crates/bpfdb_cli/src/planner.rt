@@ -59,7 +59,7 @@ const RELOCATABLE_AND_STRUCT: &str =
     "the argument '--relocatable' cannot be used with '--struct <KIND>'";
 
 const RELOCATABLE_AND_HELPER: &str =
-    "the argument '--relocatable' cannot be used with '--helper <NUMBER=VALUE>'";
+    "the argument '--relocatable' cannot be used with '--helper <NAME=VALUE>'";
 
 const RELOCATABLE_AND_ENTRY: &str =
     "the argument '--relocatable' cannot be used with one '--entry <NAME>'";
