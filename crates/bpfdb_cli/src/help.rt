@@ -516,7 +516,7 @@ function answers. Example: --with mock.o --with bpfdb-linux.o";
 pub const RELOCATABLE: &str = "Writes FILE and --with as one object, no program";
 
 /// `-o`, `--output`.
-pub const OUTPUT: &str = "File for what is linked, in place of standard output";
+pub const OUTPUT: &str = "File for what is linked, not standard output";
 
 pub const OUTPUT_LONG: &str = "File for what is linked; nothing is on standard output then. What
 stands in it is lost, but stays where the link fails.
