@@ -217,7 +217,7 @@ options() {
     {
         # (but for an older word that asks for nothing, which help leaves out)
         sed -n 's/.* long = Some (codes "\([a-z-]*\)").*/--\1/p' crates/bpfdb_cli/specs/CommandLine.antt | grep -v -x -e --as-compiled
-        sed -n 's/.*ShortText(.\([a-zA-Z]\).).*/-\1/p' crates/bpfdb_cli/src/options.rt
+        sed -n 's/.*\(ShortText\|RenamedFlag\)(.\([a-zA-Z]\)[^a-z].*/-\2/p' crates/bpfdb_cli/src/options.rt
         printf '%s\n' -h --help -V --version
     } | sort -u > "$work/sorted"
     awk -F ' *\\| *' '/^## / { inside = $0 == "## OPTIONS" } inside && NF > 3 && $2 ~ /`/ { print $2 }' docs/COMMANDS.md |

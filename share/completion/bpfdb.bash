@@ -47,18 +47,18 @@ _bpfdb() {
     --section) _bpfdb_of_file --section "$word"; return ;;
     --entry) _bpfdb_of_file --entry "$word"; return ;;
     --entries) :; return ;;
-    --stub) :; return ;;
+    --helper) :; return ;;
     --script) mapfile -t COMPREPLY < <(compgen -f -- "$word"); return ;;
     --fields) :; return ;;
     --struct) :; return ;;
     --with) mapfile -t COMPREPLY < <(compgen -f -- "$word"); return ;;
+    -o | --output) mapfile -t COMPREPLY < <(compgen -f -- "$word"); return ;;
     --lines) :; return ;;
     --other-mem) mapfile -t COMPREPLY < <(compgen -f -- "$word"); return ;;
     --other-packet) :; return ;;
     --trace) mapfile -t COMPREPLY < <(compgen -f -- "$word"); return ;;
     --only) _bpfdb_of_file --only "$word"; return ;;
     --show) mapfile -t COMPREPLY < <(compgen -W "program context options script" -- "$word"); return ;;
-    -o | --output) mapfile -t COMPREPLY < <(compgen -f -- "$word"); return ;;
     --title) :; return ;;
     --port) :; return ;;
     --over) mapfile -t COMPREPLY < <(compgen -W "gdb bpfdb" -- "$word"); return ;;
@@ -68,23 +68,23 @@ _bpfdb() {
         return
     fi
     case $job in
-    run) words="-m --mem --packet --maps --regs --steps --strict --words --listing --object --section --entry --entries --stub --fields --struct --with --no-linux --faithful --json -h --help" ;;
-    trace) words="-m --mem --packet --maps --regs --steps --from --count --branches --profile --strict --words --listing --object --section --entry --entries --stub --fields --struct --with --no-linux --faithful --json -h --help" ;;
-    debug) words="-m --mem --packet --maps --regs --journal --steps --words --listing --object --section --entry --entries --stub --fields --struct --with --no-linux --faithful -h --help" ;;
-    origin) words="-m --mem --packet --maps --regs --journal --steps --branches --words --listing --object --section --entry --entries --stub --script --fields --struct --with --no-linux --faithful --lines --addresses --json --dot -h --help" ;;
-    whynot) words="-m --mem --packet --maps --regs --journal --steps --words --listing --object --section --entry --entries --stub --script --fields --struct --with --no-linux --faithful --lines --addresses --alone --json -h --help" ;;
-    diff) words="-m --mem --packet --maps --regs --journal --steps --words --listing --object --section --entry --entries --stub --fields --struct --with --no-linux --faithful --lines --addresses --alone --other-mem --other-packet --trace --writes --json -h --help" ;;
+    run) words="-m --mem --packet --maps --regs --steps --strict --words --listing --object --section --entry --entries --helper --fields --struct --with --no-linux --faithful --json -h --help" ;;
+    trace) words="-m --mem --packet --maps --regs --steps --from --count --branches --profile --strict --words --listing --object --section --entry --entries --helper --fields --struct --with --no-linux --faithful --json -h --help" ;;
+    debug) words="-m --mem --packet --maps --regs --journal --steps --words --listing --object --section --entry --entries --helper --fields --struct --with --no-linux --faithful -h --help" ;;
+    origin) words="-m --mem --packet --maps --regs --journal --steps --branches --words --listing --object --section --entry --entries --helper --script --fields --struct --with --no-linux --faithful --lines --addresses --json --dot -h --help" ;;
+    whynot) words="-m --mem --packet --maps --regs --journal --steps --words --listing --object --section --entry --entries --helper --script --fields --struct --with --no-linux --faithful --lines --addresses --alone --json -h --help" ;;
+    diff) words="-m --mem --packet --maps --regs --journal --steps --words --listing --object --section --entry --entries --helper --fields --struct --with --no-linux --faithful --lines --addresses --alone --other-mem --other-packet --trace --writes --json -h --help" ;;
     asm) words="-h --help" ;;
-    disasm) words="--maps --words --listing --object --section --entry --entries --stub --fields --struct --with --no-linux --faithful --json -h --help" ;;
-    lines) words="--object --section --entry --entries --stub --fields --struct --with --no-linux --faithful --json -h --help" ;;
-    check) words="--maps --words --listing --object --section --entry --entries --stub --fields --struct --with --no-linux --faithful --json -h --help" ;;
-    load) words="--maps --words --listing --object --section --entry --entries --stub --fields --struct --with --no-linux --faithful --json -h --help" ;;
-    link) words="--section --entry --entries --stub --fields --struct --with --no-linux --faithful --joined -h --help" ;;
-    gdb) words="-m --mem --packet --maps --regs --journal --steps --words --listing --object --registers --section --entry --entries --stub --fields --struct --with --no-linux --faithful -h --help" ;;
+    disasm) words="--maps --words --listing --object --section --entry --entries --helper --fields --struct --with --no-linux --faithful --json -h --help" ;;
+    lines) words="--object --section --entry --entries --helper --fields --struct --with --no-linux --faithful --json -h --help" ;;
+    check) words="--maps --words --listing --object --section --entry --entries --helper --fields --struct --with --no-linux --faithful --json -h --help" ;;
+    load) words="--maps --words --listing --object --section --entry --entries --helper --fields --struct --with --no-linux --faithful --json -h --help" ;;
+    link) words="--section --entry --entries --helper --fields --struct --with --no-linux --faithful -r --relocatable -o --output -h --help" ;;
+    gdb) words="-m --mem --packet --maps --regs --journal --steps --words --listing --object --registers --section --entry --entries --helper --fields --struct --with --no-linux --faithful -h --help" ;;
     test) words="--only --show --cover --cover-info --anywhere --json -h --help" ;;
     batch) words="--maps --steps -h --help" ;;
-    shell) words="-m --mem --packet --maps --regs --journal --steps --words --listing --object --section --entry --entries --stub --fields --struct --with --no-linux --faithful -h --help" ;;
-    page) words="-m --mem --packet --maps --regs --steps --words --listing --object --section --entry --entries --stub --fields --struct --with --no-linux --faithful -o --output --from --count --title -h --help" ;;
+    shell) words="-m --mem --packet --maps --regs --journal --steps --words --listing --object --section --entry --entries --helper --fields --struct --with --no-linux --faithful -h --help" ;;
+    page) words="-m --mem --packet --maps --regs --steps --words --listing --object --section --entry --entries --helper --fields --struct --with --no-linux --faithful -o --output --from --count --title -h --help" ;;
     dap) words="--port --over -h --help" ;;
     help) words="run trace debug origin whynot diff asm disasm lines check load link gdb test batch" ;;
     *) return ;;

@@ -1,9 +1,9 @@
 // The line of words: what a line says, and what it says of the same file with another subcommand.
 
 // Options with a value, those of linking, and which subcommands take a context, maps and the kinds of files.
-const WITH_VALUE = new Set(["-m", "--mem", "--packet", "--maps", "--regs", "--journal", "--steps", "--registers", "--section", "--entry", "--entries", "--stub", "--with", "--struct", "--fields", "--script",
-  "--other-mem", "--other-packet", "--trace", "--lines", "--from", "--count", "--only", "--show"]);
-const LINKING = new Set(["--section", "--entry", "--entries", "--stub", "--as-compiled", "--fields", "--struct", "--with"]);
+const WITH_VALUE = new Set(["-m", "--mem", "--packet", "--maps", "--regs", "--journal", "--steps", "--registers", "--section", "--entry", "--entries", "--helper", "--stub", "--with", "--struct", "--fields", "--script",
+  "--other-mem", "--other-packet", "--trace", "--lines", "--from", "--count", "--only", "--show", "-o", "--output"]);
+const LINKING = new Set(["--section", "--entry", "--entries", "--helper", "--stub", "--as-compiled", "--fields", "--struct", "--with"]);
 const RUNS = ["run", "debug", "trace", "origin", "whynot", "diff"];
 const OFFERED = {
   listing: [...RUNS, "check", "load", "asm", "lines", "disasm"],

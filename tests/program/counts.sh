@@ -39,7 +39,7 @@ for compiler in $compilers; do
     for n in 1 77 4294967295; do
         "$program" link --section prog/hash --with library.o --entries hash=$n sized.o > words 2> told || complain "hash of $n: $(cat told)"
         result "$(printf '0x%x' $((1000000 + 80000 + 2000 + n + 1000000000 * (2000000 + 40000 + 800 + 4))))\n" run $(told_maps) words
-        "$program" link --joined --with library.o --entries hash=$n --section prog/hash sized.o > joined.o && "$program" link --section prog/hash joined.o > again 2> told
+        "$program" link -r --with library.o --entries hash=$n --section prog/hash sized.o > joined.o && "$program" link --section prog/hash joined.o > again 2> told
         count=$((count + 1))
         cmp -s words again || complain "hash of $n, joined: $(cat told)"
     done
@@ -81,7 +81,7 @@ for compiler in $compilers; do
         usage "$own" run --object --entries many=5 --entries "$word" sized.o
     done
     usage "$own" link --section prog/shared --entries few=5 --entries many=5 --entries few=5 sized.o
-    usage "'--section', '--entry', '--entries', '--stub', '--fields', '--struct' and '--with' are of objects: without '--words', '--listing' and '--maps'" run --words --entries few=5 words
+    usage "'--section', '--entry', '--entries', '--helper', '--fields', '--struct' and '--with' are of objects: without '--words', '--listing' and '--maps'" run --words --entries few=5 words
     refused 'refused E1: no ELF file' run --entries few=5 words
     seventeen=$(for n in $(seq 17); do printf -- ' --entries m%s=1' "$n"; done)
     # shellcheck disable=SC2086

@@ -23,12 +23,12 @@ result '0x3\n' run --object point.o
 result '0x7\n' run --object text.o
 result '0x1\n' run --object --section a two.o
 result '0x2\n' run --object --section b two.o
-result '0x1\n' run --object --stub 2=7,1=0 -m two_key arrays.o
+result '0x1\n' run --object --helper 2=7,1=0 -m two_key arrays.o
 result 'ok 13 instructions in 15 slots\n' check --object arrays.o
 result 'ok 22 instructions in 29 slots\n' check --object point.o
 result 'ok 13 instructions in 13 slots\n' check --object --entry first programs.o
-refused 'refused E25 at slot 8: unknown helper 5 (bpf_ktime_get_ns): --with OBJECT or --stub 5=VALUE answers it: prog, slot 7' check --object --entry second programs.o
-result 'ok 14 instructions in 14 slots\n' check --object --entry second --stub 5=7 programs.o
+refused 'refused E25 at slot 8: unknown helper 5 (bpf_ktime_get_ns): --with OBJECT or --helper 5=VALUE answers it: prog, slot 7' check --object --entry second programs.o
+result 'ok 14 instructions in 14 slots\n' check --object --entry second --helper 5=7 programs.o
 session 'debug --object' 'stepi 13\nx 0x300000000 8\nundo\n' \
     '13 forward; done; at 1: ldmapval r2, 0, 0\n0x300000000: 0100000000000000\n13 back; done; at 0: ja32 L12\n' debug --object point.o
 
@@ -62,14 +62,14 @@ done <<'ROWS'
 |calls.o
 --section .text|calls.o
 |arrays.o
---stub 1=7|arrays.o
+--helper 1=7|arrays.o
 |typed.o
 |data.o
 |point.o
 |text.o
 --section b|two.o
 --entry first|programs.o
---entry second --stub 5=-1|programs.o
+--entry second --helper 5=-1|programs.o
 --fields compiled|overrun.o
 |overrun.o
 ROWS
@@ -100,7 +100,7 @@ bytes program b7 00 00 00 2a 00 00 00 EXIT
 for subcommand in run trace debug origin gdb check disasm; do
     refused 'refused E9: more than one code section: --entry NAME chooses one: first, second' $subcommand --object two.o
     refused 'refused E8: no such code section: a, b' $subcommand --object --section c two.o
-    refused 'refused E32: malformed list of stubs' $subcommand --object --stub a two.o
+    refused 'refused E32: malformed list of stubs' $subcommand --object --helper a two.o
     refused 'refused E1: no ELF file' $subcommand --object cut.o
     refused 'refused E1: no ELF file' $subcommand --object program
     refused 'refused E1: no ELF file' $subcommand --object program.s
@@ -143,10 +143,10 @@ data|624=ff02|E28: malformed data section
 ROWS
 
 # Nothing is told of maps, of calls and of fields, and where standard error fails that changes nothing.
-"$program" run --object --stub 2=7,1=0 -m two_key arrays.o > found/out 2> /dev/full
+"$program" run --object --helper 2=7,1=0 -m two_key arrays.o > found/out 2> /dev/full
 echo $? > found/status
 : > found/err
-check 'bpfdb run --object --stub, and standard error is full' 0 '0x1\n' ''
+check 'bpfdb run --object --helper, and standard error is full' 0 '0x1\n' ''
 "$program" run --object point.o > /dev/full 2> found/err
 echo $? > found/status
 : > found/out

@@ -27,7 +27,7 @@ if has bash 'completion in bash'; then
     completed 'help\n' bpfdb he
     completed '--version\n' bpfdb --v
     completed '--maps\n' bpfdb run --ma
-    completed '--steps\n--strict\n--stub\n--struct\n' bpfdb run --st
+    completed '--steps\n--strict\n--struct\n' bpfdb run --st
     completed '\n' bpfdb run --journal
     completed '--journal\n' bpfdb debug --j
     completed '--section\n' bpfdb link --sec

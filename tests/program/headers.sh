@@ -133,7 +133,7 @@ PACKETS
                 with $compiler $level -DBPFDB_XDP=filter "$top/examples/xdp/xdp.c"
                 linked counter '--maps 8x256' --section xdp --entry bpfdb
                 with $compiler $level -DBPFDB_TC=classify "$parts/headers/classifier.c"
-                linked classifier '*calls answered by --stub: 1' --section tc --entry bpfdb --stub 6=0
+                linked classifier '*calls answered by --helper: 1' --section tc --entry bpfdb --helper 6=0
                 while IFS='|' read -r name of_firewall of_counter of_classifier protocol digits; do
                     packet_of "$digits"
                     verdict "$name, $compiler $level" firewall "$of_firewall" 40 "$((of_firewall))"
@@ -195,7 +195,7 @@ PACKETS
             refused_link "a name that no program has, $compiler" 'E19: symbol is not defined in the object: filer' --section xdp --entry bpfdb
             refused_link "without an entry, $compiler" 'E30: more than one program in the code section: --entry NAME chooses one: bpfdb, filter' --section xdp
             with $compiler -O2 -DBPFDB_TC=classify "$parts/headers/classifier.c"
-            refused_link "bpf_printk, $compiler" 'E25: unknown helper 6 (bpf_trace_printk): --with OBJECT or --stub 6=VALUE answers it: tc, slot' --section tc --entry bpfdb
+            refused_link "bpf_printk, $compiler" 'E25: unknown helper 6 (bpf_trace_printk): --with OBJECT or --helper 6=VALUE answers it: tc, slot' --section tc --entry bpfdb
             sed 's/MAP_TYPE_ARRAY/MAP_TYPE_HASH/' "$top/examples/xdp/xdp.c" > elsewhere.c
             with $compiler -O2 -DBPFDB_XDP=filter elsewhere.c
             refused_link "a hash, $compiler" 'E50: map is a hash, and no array: counts' --section xdp --entry bpfdb
@@ -215,7 +215,7 @@ PACKETS
             # (no name here has a blank within)
             set -- $row
             clang $architecture -g -O2 -target bpf -c -o program.o "$3"
-            stub=--stub=6=0
+            stub=--helper=6=0
             refused_link "$1 without the header" "$kernels: $1" --section "$2" --struct none $stub
             linked "bare-$1" '*' --section "$2" $stub
         done

@@ -341,9 +341,10 @@ nothing|check --object typed.o
 nothing|disasm --object typed.o
 nothing|lines --object --with calls.o overrun.o
 nothing|link typed.o
+nothing|link -o taken typed.o
 nothing|link --section none --with calls.o overrun.o
 nothing|link --with calls.o --with calls.o --with calls.o overrun.o
-nothing|link --joined --with calls.o overrun.o
+nothing|link -r --with calls.o overrun.o
 nothing|link --entries events=7 typed.o
 nothing|link --struct xdp overrun.o
 nothing|asm labels.s
@@ -426,7 +427,7 @@ little|path|disasm --listing count.s
 little|path|test alone.test
 little|path|run --object calls.o
 little|path|link overrun.o
-little|path|link --joined --with calls.o overrun.o
+little|path|link -r --with calls.o overrun.o
 little|path|origin --journal 1024 --listing count.s
 little|path|diff --journal 1024 --listing count.s further.s
 grown|path|origin --journal 1024 --script path --listing count.s

@@ -66,7 +66,7 @@ has_words() {
     case $1 in *+*) answered=${1#*+} ;; esac
     {
         case $shapes in *:*) echo "--maps ${shapes#*:}" ;; esac
-        [ -z "$2" ] || echo "calls answered by --stub: $answered"
+        [ -z "$2" ] || echo "calls answered by --helper: $answered"
     } > wanted/told
     case $shapes in
         0:*) ;;

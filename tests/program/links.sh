@@ -17,7 +17,7 @@ while IFS='|' read -r name asked answer; do
     set --
     [ "$section" = - ] || set -- "$@" --section "$section"
     [ -z "$entry" ] || set -- "$@" --entry "$entry"
-    [ -z "$stub" ] || set -- "$@" --stub "$stub"
+    [ -z "$stub" ] || set -- "$@" --helper "$stub"
     : > script
     run link "$@" changed.o
     count=$((count + 1))

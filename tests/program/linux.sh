@@ -207,7 +207,7 @@ packet_to_an_interface|packet to interface 3, 5 bytes at 0020: 0102030405\npacke
 file_of_an_iterator|file, 9 bytes at 0020: name pid\nfile, 11 bytes at 0040: init     1\nfile, 3 bytes at 0060: x\\x00\nfile, 0 bytes at 0078: \n
 ROWS
         # (of the joined object the maps needn't be given)
-        "$program" link --joined --section test --entry ring_buffer --with library.o events.o > words 2> told || complain "events.o: link --joined: $(cat told)"
+        "$program" link -r --section test -o words --with library.o events.o 2> told || complain "events.o: link -r: $(cat told)"
         maps='--section test --entry ring_buffer'
         sent "ring_buffer, joined, $compiler" 'map 2: ring, 3 bytes at 0020: 070809\nmap 2: ring, 2 bytes at 0038: 0044\nmap 2: ring, 1 byte at 0050, discarded: 00\nmap 2: ring, 1 byte at 0068, neither submitted nor discarded: 55\n'
 

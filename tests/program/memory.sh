@@ -175,6 +175,7 @@ object calls
 bytes linked 85 10 00 00 06 00 00 00 bf 01 00 00 00 00 00 00 85 10 00 00 01 00 00 00 EXIT \
     bf 10 00 00 00 00 00 00 07 00 00 00 01 00 00 00 EXIT bf 10 00 00 00 00 00 00 27 00 00 00 03 00 00 00 EXIT
 wants "$plain$e26" 0 "$text" '' link calls.o
+wants "$plain$e26" 0 '' '' link -o taken calls.o
 object point
 object text
 bytes stored \

@@ -226,6 +226,43 @@ echo $? > found/status
 : > found/out
 check 'bpfdb link arrays.o, and the output is full' 2 '' 'cannot write output\n'
 
+# With -o a file takes the words, in place of what it held, and standard output nothing; what is told stays. A link that fails leaves the file as it was, or
+# makes none.
+"$program" link arrays.o > /dev/null 2> told
+told=$(text told)
+for words in '-o taken' -otaken --output=taken; do
+    seq 1000 > taken
+    # (words without blanks but for the option's own)
+    # shellcheck disable=SC2086
+    row "bpfdb link $words" 0 "$script_unread" '' "$told" link arrays.o $words
+    printf '%b' "$text" > words
+    same "bpfdb link $words: the file" words taken
+done
+"$program" link -o taken arrays.o > /dev/full 2> found/err || complain 'link -o, and the output is full'
+cp arrays.o itself.o
+row 'bpfdb link -o of FILE itself' 0 "$script_unread" '' "$told" link -o itself.o itself.o
+same 'bpfdb link -o of FILE itself: the file' words itself.o
+printf 'as it was' > kept
+cp kept taken
+refused 'refused E8: no such code section: prog' link -o taken --section none arrays.o
+refused 'cannot read missing.o' link -o taken --with missing.o arrays.o
+same 'bpfdb link -o of a link that fails' kept taken
+refused 'refused E8: no such code section: prog' link -o untaken --section none arrays.o
+[ ! -e untaken ] || complain 'link -o of a link that fails makes a file'
+refused 'cannot write missing/taken' link -o missing/taken arrays.o
+refused 'cannot write .' link -o . arrays.o
+refused 'cannot write ' link -o '' arrays.o
+refused 'cannot write /dev/full' link --output /dev/full arrays.o
+refused 'cannot write missing/\\x1b[31m' link -o "missing/$(printf '\033[31m')" arrays.o
+rm taken
+"$program" link -o taken arrays.o 2> /dev/full > found/out
+echo $? > found/status
+: > found/err
+check 'bpfdb link -o, and standard error is full' 2 '' ''
+same 'bpfdb link -o, and standard error is full: the file' words taken
+usage "a value is required for '--output <PATH>' but none was supplied" link arrays.o -o
+usage "the argument '--output <PATH>' cannot be used multiple times" link -o taken --output taken arrays.o
+
 # What bpfdb can't have. Of sizes that are out of range the option is told, and then refused (the first map has values of no byte); of a map that is no array
 # none is (the type of the first is that of a hash).
 { head -c 192 arrays.o; printf '\000'; tail -c +194 arrays.o; } > sizeless.o
@@ -250,17 +287,17 @@ unlinked 'refused E30: more than one program in the code section: --entry NAME c
 unlinked 'refused E31: no such function in the code section: twice, first, second' --entry third programs.o
 # (`second` calls helper 5, which isn't there; behind the jump to it that is a slot later than in the section. `first` doesn't come there, so it is linked: what isn't
 # reached is `exit`, and its calls aren't answered)
-clock='unknown helper 5 (bpf_ktime_get_ns): --with OBJECT or --stub 5=VALUE answers it: prog, slot 7'
+clock='unknown helper 5 (bpf_ktime_get_ns): --with OBJECT or --helper 5=VALUE answers it: prog, slot 7'
 unlinked "refused E25 at slot 8: $clock" --section=prog --entry=second programs.o
-unlinked "refused E25 at slot 8: $clock" --entry second --stub 4=0,6=0 programs.o
+unlinked "refused E25 at slot 8: $clock" --entry second --helper 4=0,6=0 programs.o
 bytes words $(printf '%s' 'bf21000000000000 8510000002000000 0700000001000000 9500000000000000 bf10000000000000 6700000001000000 9500000000000000 9500000000000000 9500000000000000 9500000000000000 9500000000000000 9500000000000000 9500000000000000' | tr -d ' ' | sed 's/../& /g')
 row 'bpfdb link --entry first' 0 "$script_unread" "$text" '' link --entry first programs.o
-row 'bpfdb link --entry first --stub 5=7' 0 "$script_unread" "$text" 'calls answered by --stub: 0\n' link --entry first --stub 5=7 programs.o
+row 'bpfdb link --entry first --helper 5=7' 0 "$script_unread" "$text" 'calls answered by --helper: 0\n' link --entry first --helper 5=7 programs.o
 # The number of the helper is at 124. The first and the last that have a name (in the kernel's header), and those beside them; 1, 2 and 64 are there.
 while IFS='|' read -r octal helper; do
     { head -c 124 programs.o; printf "$octal"; tail -c +129 programs.o; } > changed.o
     # (a function of another object answers a helper by its name)
-    case $helper in *' '*) way='--with OBJECT or --stub' ;; *) way=--stub ;; esac
+    case $helper in *' '*) way='--with OBJECT or --helper' ;; *) way=--helper ;; esac
     unlinked "refused E25 at slot 8: unknown helper $helper: $way ${helper%% *}=VALUE answers it: prog, slot 7" --entry second changed.o
 done <<'ROWS'
 \0\0\0\0|0
@@ -282,7 +319,7 @@ ROWS
 # A call by BTF id (src_reg 2) of the number 5 is no call of helper 5, and bpfdb doesn't have it: no stub answers it.
 { head -c 121 programs.o; printf '\040'; tail -c +123 programs.o; } > changed.o
 for list in 5=7 4=0,5=0; do
-    unlinked 'refused E25 at slot 8: unknown instruction: prog, slot 7' --entry second --stub "$list" changed.o
+    unlinked 'refused E25 at slot 8: unknown instruction: prog, slot 7' --entry second --helper "$list" changed.o
 done
 unlinked 'refused E25 at slot 8: unknown instruction: prog, slot 7' --entry second changed.o
 # The symbol that isn't defined; a control byte of it is shown as such.
@@ -301,27 +338,27 @@ unlinked 'refused E25 at slot 0: unknown instruction: .text, slot 0' unknown.o
 # limit of the numbers a list is taken (and `programs.o`, whose helper isn't in it, refused for that).
 for list in '' , 5 5= =0 5=0, ,5=0 5:0 5=0,,6=0 '5 =0' '5= 0' '5=0 ' 5=+0 +5=0 -5=0 5=- 5=--1 5=0x 5==0 5=0=0 5=a 5=0,a=0 '5=0;6=0' get_prandom_u3=0 get_prandom_u322=0 \
     bpf_=0 bpf_bpf_ktime_get_ns=0 BPF_ktime_get_ns=0 ktime_get_ns ktime_get_ns= 'ktime_get_ns =0' ' ktime_get_ns=0' unspec=0 ktime_get_ns=ktime_get_ns; do
-    unlinked 'refused E32: malformed list of stubs' --stub="$list" programs.o
+    unlinked 'refused E32: malformed list of stubs' --helper="$list" programs.o
 done
 for list in 4294967296=0 5=2147483648 5=-2147483649 5=18446744073709551616 99999999999999999999999=0 5=0xffffffff 5=0,6=2147483648; do
-    unlinked 'refused E33: helper or value of a stub out of range' --stub "$list" programs.o
+    unlinked 'refused E33: helper or value of a stub out of range' --helper "$list" programs.o
 done
 for list in 5=0,5=0 5=0,0x5=1 5=0,6=0,05=0 5=0,5=0,a 0=0,0=0 5=0,ktime_get_ns=1 ktime_get_ns=0,bpf_ktime_get_ns=0 get_prandom_u32=0,7=0; do
-    unlinked 'refused E34: two stubs of one helper' --stub "$list" programs.o
+    unlinked 'refused E34: two stubs of one helper' --helper "$list" programs.o
 done
 sixteen=$(seq -s , 101 116 | sed 's/,/=0,/g')=0
-unlinked 'refused E35: more than 16 stubs' --stub "$sixteen,117=0" programs.o
-unlinked 'refused E34: two stubs of one helper' --stub "$sixteen,116=0" programs.o
-unlinked 'refused E32: malformed list of stubs' --stub a empty
+unlinked 'refused E35: more than 16 stubs' --helper "$sixteen,117=0" programs.o
+unlinked 'refused E34: two stubs of one helper' --helper "$sixteen,116=0" programs.o
+unlinked 'refused E32: malformed list of stubs' --helper a empty
 for list in "$sixteen" 4294967295=0 0=0 4=2147483647 4=-2147483648 4=-0 4=0x7fffffff 4=-0x80000000 0004=0000 \
     map_lookup_elem=0 bpf_cgrp_storage_delete=0 ktime_get_boot_ns=0; do
-    unlinked "refused E25 at slot 8: $clock" --entry second --stub "$list" programs.o
+    unlinked "refused E25 at slot 8: $clock" --entry second --helper "$list" programs.o
 done
 
 # Calls of helpers that a list answers are `mov r0, VALUE`: in `second` that of helper 5. What is told follows the maps.
 while IFS='|' read -r list value; do
     bytes words $(printf '%s' "0600000007000000 9500000000000000 9500000000000000 9500000000000000 9500000000000000 bf10000000000000 6700000001000000 9500000000000000 b7000000$value bf06000000000000 b701000005000000 85100000f9ffffff 0f60000000000000 9500000000000000" | tr -d ' ' | sed 's/../& /g')
-    row "bpfdb link --stub $list" 0 "$script_unread" "$text" 'calls answered by --stub: 1\n' link --entry second --stub "$list" programs.o
+    row "bpfdb link --helper $list" 0 "$script_unread" "$text" 'calls answered by --helper: 1\n' link --entry second --helper "$list" programs.o
 done <<'ROWS'
 5=7|07000000
 5=-1|ffffffff
@@ -330,11 +367,11 @@ ktime_get_ns=7|07000000
 trace_printk=3,bpf_ktime_get_ns=-1|ffffffff
 5=-2147483648|00000080
 ROWS
-"$program" link --entry second --stub 5=7 programs.o > found/out 2> /dev/full
+"$program" link --entry second --helper 5=7 programs.o > found/out 2> /dev/full
 echo $? > found/status
 : > found/err
 bytes words $(printf '%s' '0600000007000000 9500000000000000 9500000000000000 9500000000000000 9500000000000000 bf10000000000000 6700000001000000 9500000000000000 b700000007000000 bf06000000000000 b701000005000000 85100000f9ffffff 0f60000000000000 9500000000000000' | tr -d ' ' | sed 's/../& /g')
-check 'bpfdb link --stub, and standard error is full' 2 "$text" ''
+check 'bpfdb link --helper, and standard error is full' 2 "$text" ''
 
 # The slot that is told of a relocation is one of the program that would come out: slots of `.text` count behind those of the section. In deep.o, which clang 14
 # made by -O2, `entry` has two slots, and the first one of `next` refers to data:
@@ -380,12 +417,12 @@ check_names() {
 
 # What is told of calls follows the maps, also where nothing calls the helper; each call is counted, and none but that helper's is answered: the two of arrays.o
 # are of helper 1, and with r0 = 0 neither key is found.
-"$program" link --stub 5=0 arrays.o > arrays 2> told
+"$program" link --helper 5=0 arrays.o > arrays 2> told
 check_told '--maps 8x2,16x256
-calls answered by --stub: 0'
-"$program" link --stub 2=7,1=0 arrays.o > arrays 2> told
+calls answered by --helper: 0'
+"$program" link --helper 2=7,1=0 arrays.o > arrays 2> told
 check_told '--maps 8x2,16x256
-calls answered by --stub: 2'
+calls answered by --helper: 2'
 printf '\002\000\000\000' > context
 result '0x1\n' run --maps 8x2,16x256 -m context arrays
 text=$text_of_arrays
@@ -414,7 +451,7 @@ mkdir bin
 ln -s "$program" bin/bpfdb
 cp arrays.o filter.o
 recipe=$(sed -n 's/^ *`\(bpfdb run .*\)`$/\1/p' "$top/examples/README.md")
-(PATH=$PWD/bin:$PATH && sh -c "$recipe --stub 2=7,1=0 -m context") > found/out 2> found/err
+(PATH=$PWD/bin:$PATH && sh -c "$recipe --helper 2=7,1=0 -m context") > found/out 2> found/err
 echo $? > found/status
 check "$recipe" 0 '0x1\n' ''
 

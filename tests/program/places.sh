@@ -149,7 +149,7 @@ EOF
         "$compiler" -g -O2 -target bpf -c "$parts/join/$name.c" -o $name.o 2> found/err || complain "$compiler: $name.c: $(cat found/err)"
     done
     for section in time text trace cells; do
-        "$program" link --joined --section $section --with functions.o program.o > joined.o 2> found/err || complain "$section: $(cat found/err)"
+        "$program" link -r --section $section --with functions.o program.o > joined.o 2> found/err || complain "$section: $(cat found/err)"
         held joined.o --section $section
     done
     printf '0M\007\010\011' > context

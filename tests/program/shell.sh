@@ -200,7 +200,7 @@ PYTHON
         python3 patched.py "$@" || complain "tests/program/shell.sh: $1 isn't made"
     }
     habits shell-c.txt -m context.bin overrun.o
-    for words in '--stub 6=0 --as-compiled' '--stub=6=0'; do
+    for words in '--helper 6=0 --as-compiled' '--helper=6=0'; do
         opened="$words -m context.bin overrun.o"
         habit '' 'b overrun.c:26' '> break 24 / ok'
     done
@@ -288,7 +288,7 @@ PYTHON
 [ "$2" != --help ] || exec "$REAL" "$@"
 echo "$*" | sed 's|/dev/fd/[0-9]*|KEPT|' >> called
 case $1 in
-link) printf '\225\0\0\0\0\0\0\0' && printf -- '--maps 8x2\nmap 0: counters\ncalls answered by --stub: 1\n' >&2 ;;
+link) printf '\225\0\0\0\0\0\0\0' && printf -- '--maps 8x2\nmap 0: counters\ncalls answered by --helper: 1\n' >&2 ;;
 *) exec "$REAL" "$@" ;;
 esac
 SCRIPT
@@ -298,7 +298,7 @@ SCRIPT
         '--section filter overrun.o --steps 9|load --section filter --json -- KEPT|debug --section filter --steps 9 -- KEPT' \
         '--steps=9 --no-linux overrun.o|load --no-linux --json -- KEPT|debug --steps=9 --no-linux -- KEPT' \
         '--entry=entry --object -mcontext --section filter --maps=1x1 overrun.o|lines --entry=entry --object --section filter --json -- KEPT|link --entry=entry --section filter -- KEPT|load --maps=1x1 --json -- KEPT|debug -mcontext --maps=1x1 -- KEPT' \
-        '--stub 5=0,14=-1 --struct xdp --with mock.o overrun.o|load --stub 5=0,14=-1 --struct xdp --with mock.o --json -- KEPT|debug --stub 5=0,14=-1 --struct xdp --with mock.o -- KEPT' \
+        '--helper 5=0,14=-1 --struct xdp --with mock.o overrun.o|load --helper 5=0,14=-1 --struct xdp --with mock.o --json -- KEPT|debug --helper 5=0,14=-1 --struct xdp --with mock.o -- KEPT' \
         '--journal=1024 sum.s|load --json -- sum.s|debug --journal=1024 -- sum.s' \
         '--listing -m context -- sum.s|load --listing --json -- sum.s|debug --listing -m context -- sum.s' \
         '--entry entry context|load --entry entry --json -- context|debug --entry entry -- context'; do

@@ -146,7 +146,7 @@ if has python3 'bpfdb-symbols'; then
     converted data.o data.sym
     holds data.sym '8 prog' '300000000 .data' '0 _start' '28 _setup'
     [ "$(field data.sym 24)" = 8 ] || complain 'bpfdb-symbols data.o: the entry'
-    converted --entry second --stub 5=0 programs.o programs.sym
+    converted --entry second --helper 5=0 programs.o programs.sym
     holds programs.sym '8 prog' '0 _start'
     [ "$(field programs.sym 24)" = 64 ] || complain 'bpfdb-symbols --entry second programs.o: the entry'
     [ "$(field calls.sym 24)" = 0 ] || complain 'bpfdb-symbols calls.o: the entry'
@@ -236,8 +236,8 @@ C
         # What the link asks for is said to it: helpers that a constant answers, and entries of maps.
         printf 'static long (*f)(void) = (void *)14; __attribute__((section("prog"))) long entry(void) { return f(); }\n' > stubbed.c
         clang -O1 -target bpf -c -o stubbed.o stubbed.c
-        refused_object 'refused E25 at slot 0: unknown helper 14 (bpf_get_current_pid_tgid): --with OBJECT or --stub 14=VALUE answers it: prog, slot 0' stubbed.o
-        converted --stub 14=3 stubbed.o stubbed.sym
+        refused_object 'refused E25 at slot 0: unknown helper 14 (bpf_get_current_pid_tgid): --with OBJECT or --helper 14=VALUE answers it: prog, slot 0' stubbed.o
+        converted --helper 14=3 stubbed.o stubbed.sym
         clang -g -O1 -fstack-size-section -target bpf -c -o sized.o "$parts/counts/sized.c" 2> found/err
         refused_object 'refused E52: entries not 1 to 4096: open' sized.o --section prog/open
         converted --section prog/open --entries open=3 --entries few=1 sized.o sized.sym

@@ -51,7 +51,7 @@ needs() {
         # shellcheck disable=SC2086
         refused 'refused E1: no ELF file' $subcommand "$@" words $what
         # shellcheck disable=SC2086
-        [ "$subcommand" = lines ] || usage "'--section', '--entry', '--entries', '--stub', '--fields', '--struct' and '--with' are of objects: without '--words', '--listing' and '--maps'" $subcommand "$@" --words words $what
+        [ "$subcommand" = lines ] || usage "'--section', '--entry', '--entries', '--helper', '--fields', '--struct' and '--with' are of objects: without '--words', '--listing' and '--maps'" $subcommand "$@" --words words $what
     done
 }
 
@@ -68,8 +68,8 @@ for compiler in $compilers; do
     each 0x2bc '--section first --with clock.o' reads.o
     each 0x2bc '--section first --with clock.o --with late.o' reads.o
     each 0x384 '--section first --with late.o --with clock.o' reads.o
-    each 0xc8 '--section first --stub 5=2' reads.o
-    each 0xc9 '--section first --stub ktime_get_ns=2 --entries few=4' reads.o
+    each 0xc8 '--section first --helper 5=2' reads.o
+    each 0xc9 '--section first --helper ktime_get_ns=2 --entries few=4' reads.o
     each 0x2bd '--section first --with clock.o --entries few=4 --as-compiled --fields compiled' reads.o
     each 0x7 '--section second --entry two' reads.o
     each 0x8 '--section second --entry three' reads.o

@@ -89,7 +89,7 @@ exit'
     # What they call is answered as ever: 100 * 2 + 1. `unused` isn't reached, so its call isn't asked for.
     "$program" link --with clock.o --entry begin --entry end pair.o > words 2> told || complain "link of begin end: $(cat told)"
     result '0xc9\n' run $(told_maps) words
-    "$program" link --joined --with clock.o --entry begin --entry end pair.o > joined.o && "$program" link joined.o > again 2> found/err || complain "joined: $(cat found/err)"
+    "$program" link -r --with clock.o --entry begin --entry end pair.o > joined.o && "$program" link joined.o > again 2> found/err || complain "joined: $(cat found/err)"
     count=$((count + 1))
     cmp -s words again && cmp -s told found/err || complain 'programs in turn in an object that is joined'
     # The other options of a link, and other subcommands. 41 + 1 of `count`, whose data are those of both calls; 7 - 1 of a constant.
@@ -98,7 +98,7 @@ exit'
     refused 'refused E31: no such function in the code section: count' link --section prog/one --entry store --entry count pair.o
     refused 'refused E8: no such code section: .text, prog/one, prog/two, prog/three, prog/timed, prog/timed too, prog/field, prog/fields' link --section none --entry store --entry take pair.o
     result '0x2b\n' run --object --section prog/two --entry take --entry count --entry count --entry count -m context pair.o
-    result '0x6\n' run --object --stub 5=6 --entry begin@0 --entry store --entry unused -m context pair.o
+    result '0x6\n' run --object --helper 5=6 --entry begin@0 --entry store --entry unused -m context pair.o
     printf 'continue\ninfo regs\n' | "$program" debug --object --entry store --entry take -m context pair.o > found/out 2> found/err
     count=$((count + 1))
     grep -q '^r0=0x27232 ' found/out || complain "debug: $(cat found/out found/err)"
@@ -156,7 +156,7 @@ exit'
     # Symbols of programs in turn, of the object itself and of the one that link writes of them: functions at which `lines` tells them.
     for words in '--entry store --entry take@8 pair.o' joined.o; do
         # shellcheck disable=SC2086
-        case $words in joined.o) "$program" link --joined --entry store --entry take@8 pair.o > joined.o || complain 'link --joined of programs in turn' ;; esac
+        case $words in joined.o) "$program" link -r --entry store --entry take@8 pair.o > joined.o || complain 'link -r of programs in turn' ;; esac
         # shellcheck disable=SC2086
         BPFDB=$program "$top/share/bpfdb-symbols" $words symbols 2> found/err || complain "symbols of $words: $(cat found/err)"
         python3 "$top/tests/trials/objects.py" functions symbols | grep -v -e ' _start$' -e ' _setup$' > found/functions
@@ -180,7 +180,7 @@ exit'
     done
     # shellcheck disable=SC2046
     usage "the argument '--entry <NAME>' is used more than 16 times" link $(entries $(yes count | head -n 17)) pair.o
-    usage "'--section', '--entry', '--entries', '--stub', '--fields', '--struct' and '--with' are of objects: without '--words', '--listing' and '--maps'" run --listing --entry store --entry take words
+    usage "'--section', '--entry', '--entries', '--helper', '--fields', '--struct' and '--with' are of objects: without '--words', '--listing' and '--maps'" run --listing --entry store --entry take words
     refused 'refused E1: no ELF file' run --entry store --entry take words
     refused 'refused E31: no such function in the code section: none' link --entry store --entry none pair.o
     refused 'refused E31: no such function in the code section: none' link --entry none@8 --entry nothing pair.o

@@ -101,7 +101,7 @@ compare 'bpfdb asm first.s'
 # Options that the subcommand doesn't have.
 for absent in 'run --journal=65536' 'debug -j=65536' 'asm -m=context' 'asm --mem=context' 'asm --maps=8x2' 'asm --journal=65536' \
     'asm --steps=7' 'asm --listing' 'disasm -m=context' 'disasm --mem=context' 'disasm --journal=65536' 'disasm --steps=7' \
-    'check -m=context' 'check --mem=context' 'check --journal=65536' 'check --steps=7' 'asm --section=a' 'asm --entry=a' 'asm --object' 'link --object' 'test --object' 'asm --with=a' 'test --with=a' 'debug --joined' \
+    'check -m=context' 'check --mem=context' 'check --journal=65536' 'check --steps=7' 'asm --section=a' 'asm --entry=a' 'asm --object' 'link --object' 'test --object' 'asm --with=a' 'test --with=a' 'debug --joined' 'debug -r' 'lines --relocatable' 'asm -o=a' 'disasm --output=a' \
     'link -m=context' 'link --mem=context' 'link --maps=8x2' 'link --journal=65536' 'link --steps=7' 'link --listing' \
     'run --from=7' 'run --count=7' 'run --branches' 'run --profile' 'debug --from=7' 'debug --count=7' 'debug --profile' 'trace --journal=65536' 'trace --registers=x86' \
     'origin --registers=x86' 'origin --alone' 'whynot --branches' 'run --branches' 'gdb --alone' 'whynot --registers=x86' 'run --lines=7' 'debug --lines=7' 'debug --addresses' 'gdb --lines=7' 'lines --lines=7' 'lines --listing' 'lines --maps=8x2' 'lines -m=context' 'lines --steps=7' 'lines --joined' 'run --registers=x86' 'debug --registers=x86' 'test --listing' 'test --maps=8x2' 'test --steps=7' 'diff --script=a' 'diff --branches' 'diff --dot' 'trace --trace=a' 'run --trace=a' 'debug --trace=a' 'run --other-mem=a' 'trace --other-mem=a' 'debug --other-mem=a' 'run --only=a' 'debug --only=a' 'run --cover' 'run --cover-info' 'trace --cover' 'debug --strict' 'diff --strict' 'link --only=a' 'run --show=program' 'debug --show=script'
@@ -132,7 +132,7 @@ usage "unexpected argument '--Steps' found" run --Steps 7 first
 usage "unexpected argument 'second' found" run first second
 usage 'a value is none of those that its option takes' gdb --registers arm first
 # Options that don't go together: FILE is one thing, an object has its own maps, and of a link is asked where FILE is an object.
-of_objects="'--section', '--entry', '--entries', '--stub', '--fields', '--struct' and '--with' are of objects: without '--words', '--listing' and '--maps'"
+of_objects="'--section', '--entry', '--entries', '--helper', '--fields', '--struct' and '--with' are of objects: without '--words', '--listing' and '--maps'"
 for subcommand in run trace debug origin whynot diff gdb disasm check load; do
     what=''
     [ $subcommand != whynot ] || what=0
@@ -145,7 +145,7 @@ for subcommand in run trace debug origin whynot diff gdb disasm check load; do
     usage "the argument '--object' cannot be used with '--listing'" $subcommand --listing --maps 8x2 --section a --object first $what
     usage "the argument '--object' cannot be used with '--maps <VxN,VxN>'" $subcommand --maps 8x2 --object first $what
     usage "the argument '--object' cannot be used with '--maps <VxN,VxN>'" $subcommand --object first $what --maps=
-    for option in --section=a --section= --entry=a --stub=5=0 --as-compiled --fields=strict --struct=xdp --with=a; do
+    for option in --section=a --section= --entry=a --helper=5=0 --as-compiled --fields=strict --struct=xdp --with=a; do
         usage "$of_objects" $subcommand $option --maps 8x2 first $what
         usage "$of_objects" $subcommand first $what --listing $option
         usage "$of_objects" $subcommand first $what $option --words
@@ -153,7 +153,7 @@ for subcommand in run trace debug origin whynot diff gdb disasm check load; do
     usage "the argument '--object' cannot be used multiple times" $subcommand --object --object first $what
     usage "unexpected value 'yes' for '--object' found; no more were expected" $subcommand --object=yes first $what
     usage "a value is required for '--section <NAME>' but none was supplied" $subcommand first $what --object --section
-    usage "the argument '--stub <NUMBER=VALUE>' cannot be used multiple times" $subcommand --object --stub 1=0 --stub 1=0 first $what
+    usage "the argument '--helper <NAME=VALUE>' cannot be used multiple times" $subcommand --object --helper 1=0 --helper 1=0 first $what
 done
 usage 'a value is none of those that its option takes' test --show words two.test
 for subcommand in $subcommands; do
@@ -206,8 +206,8 @@ usage "the argument '--section <NAME>' cannot be used multiple times" link --sec
 usage "a value is required for '--entry <NAME>' but none was supplied" link first --entry
 # (several entries are programs of the object)
 refused 'refused E1: no ELF file' link --entry a --entry a first
-usage "a value is required for '--stub <NUMBER=VALUE>' but none was supplied" link first --stub
-usage "the argument '--stub <NUMBER=VALUE>' cannot be used multiple times" link --stub 5=0 --stub 6=0 first
+usage "a value is required for '--helper <NAME=VALUE>' but none was supplied" link first --helper
+usage "the argument '--helper <NAME=VALUE>' cannot be used multiple times" link --helper 5=0 --helper 6=0 first
 for number in 0x400 1k 1024.0; do
     usage "invalid value '$number' for '--journal <J>': invalid digit found in string" debug --journal $number first
 done

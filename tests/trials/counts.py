@@ -1,5 +1,5 @@
 #!/usr/bin/env python3
-"""counts.py BPFDB OBJECT: what 'link --joined --entries' makes of OBJECT (tests/program/counts/sized.c), by another reader of ELF and BTF: the map that is
+"""counts.py BPFDB OBJECT: what 'link -r --entries' makes of OBJECT (tests/program/counts/sized.c), by another reader of ELF and BTF: the map that is
 named has its entries, all other maps and the rest of the file are what they were; and damaged objects, of which each is refused in one line or has other
 entries. Prints how many rows held."""
 import random
@@ -77,7 +77,7 @@ class Btf:
 def linked(content, *words):
     with open('counted.o', 'wb') as file:
         file.write(content)
-    done = subprocess.run([program, 'link', '--joined', '--section', 'prog/shared', *words, 'counted.o'], capture_output=True, timeout=10, check=False)
+    done = subprocess.run([program, 'link', '-r', '--section', 'prog/shared', *words, 'counted.o'], capture_output=True, timeout=10, check=False)
     return done.returncode, done.stdout, done.stderr
 
 

@@ -46,7 +46,7 @@ def joined(a, b, section):
         file.write(a)
     with open('b.o', 'wb') as file:
         file.write(b)
-    done = subprocess.run([program, 'link', '--joined', '--with', 'b.o', '--section', section, 'a.o'], capture_output=True, timeout=20)
+    done = subprocess.run([program, 'link', '-r', '--with', 'b.o', '--section', section, 'a.o'], capture_output=True, timeout=20)
     return done.returncode, done.stdout, done.stderr
 
 

@@ -71,7 +71,7 @@ def main():
                 content = whole[:at] + bytes([chance.choice((whole[at] ^ 1 << chance.randrange(8), chance.randrange(256), 0x85, 0x10))]) + whole[at + 1:]
                 with open(changed, 'wb') as file:
                     file.write(content)
-                done = subprocess.run([program, 'link', '--stub=5=7', changed], stdin=subprocess.DEVNULL, capture_output=True)
+                done = subprocess.run([program, 'link', '--helper=5=7', changed], stdin=subprocess.DEVNULL, capture_output=True)
                 slots = code(content)
                 lead = begins(done.stdout, slots) if done.returncode == 0 and slots else None
                 if lead is None:

@@ -9,7 +9,9 @@ use Rattle.bpfdb_options.specs.declared.subcommand.Subcommand.{Subcommand}
 use Rattle.bpfdb_options.specs.declared.subcommand.Subcommand.TheVariants.{Debug}
 use Rattle.bpfdb_jobs.specs.Done.{DoesJob}
 use Rattle.bpfdb.specs.declared.telling.Telling.{Telling}
-use Rattle.bpfdb.specs.Telling.{DoesTold, ErrLost, Exhausted, OutLost, Retells, Tells, Written, telling_of}
+use Rattle.bpfdb.specs.Telling.{DoesTold, Retells, telling_of}
+use Rattle.bpfdb.specs.Telling as retold
+use Rattle.bpfdb.specs.Outputs.{Does, DoesForFile, EndsForFile, ErrLost, Exhausted, Kept, KeptLost, PrintsInMemory, Unwritten, Written}
 use Rattle.bpfdb.specs.Contents.{Contents}
 use Rattle.bpfdb.specs.Contexts.{with_contexts}
 use Rattle.bpfdb.specs.Files.{World}
@@ -18,10 +20,10 @@ use Rattle.bpfdb.specs.Done.{DoesFitting, DoesOr, DoesPlan, DoesRead, DoesReplac
 -- It is that of the plan's job, unless it is 2, told as JSON or not.
 ends_retold_with : {R W E : Type 0} (reader : Stream R) (writer : Stream W) (errors : Stream E) (telling : Telling) (job : Job) (status : ℕ)
     → Retells telling job reader writer errors status → status ≢ 2 → EndsWith job.subcommand job status
-ends_retold_with reader writer errors telling job status (Exhausted out told done does kept said two) other = absurd (other two)
-ends_retold_with reader writer errors telling job status (Tells text err done tells (OutLost lost said two)) other = absurd (other two)
-ends_retold_with reader writer errors telling job status (Tells text err done tells (ErrLost gets lost two)) other = absurd (other two)
-ends_retold_with reader writer errors telling job status (Tells text err done tells (Written gets said same)) other =
+ends_retold_with reader writer errors telling job status (retold.Exhausted out told done does kept said two) other = absurd (other two)
+ends_retold_with reader writer errors telling job status (retold.Tells text err done tells (retold.OutLost lost said two)) other = absurd (other two)
+ends_retold_with reader writer errors telling job status (retold.Tells text err done tells (retold.ErrLost gets lost two)) other = absurd (other two)
+ends_retold_with reader writer errors telling job status (retold.Tells text err done tells (retold.Written gets said same)) other =
     ends_with reader tells.out tells.told job.subcommand job status (subst (λ (s : ℕ). DoesJob job.subcommand job reader tells.out tells.told s) (sym same) tells.does) other
 
 ends_told_with : {R W E : Type 0} (reader : Stream R) (writer : Stream W) (errors : Stream E) (telling : Option Telling) (job : Job) (status : ℕ)
@@ -62,6 +64,26 @@ pub ends_plan_with : {R W E : Type 0} (reader : Stream R) (writer : Stream W) (e
 ends_plan_with reader writer errors world plan status (Unread fault why same kept told two) other = absurd (other two)
 ends_plan_with reader writer errors world plan status (Done of are does) other =
     ends_read_with reader writer errors world plan of status does other
+
+-- So it is where a file takes what the plan prints.
+ends_for_file_with : {R W E : Type 0} (reader : Stream R) (file : Stream W) (errors : Stream E) (world : World) (plan : Plan) (path text err : List ℕ)
+    (done status : ℕ) → PrintsInMemory world plan reader text err done → EndsForFile path text err done file errors status → status ≢ 2
+    → EndsPlanWith plan status
+ends_for_file_with reader file errors world plan path text err done status prints (KeptLost not_well same lost two) other = absurd (other two)
+ends_for_file_with reader file errors world plan path text err done status prints (ErrLost well gets lost two) other = absurd (other two)
+ends_for_file_with reader file errors world plan path text err done status prints (Unwritten well lost told two) other = absurd (other two)
+ends_for_file_with reader file errors world plan path text err done status prints (Kept not_well kept gets same) other =
+    ends_plan_with reader prints.out prints.told world plan status
+    (subst (λ (s : ℕ). DoesPlan world plan reader prints.out prints.told s) (sym same) prints.does) other
+ends_for_file_with reader file errors world plan path text err done status prints (Written well gets said ends) other =
+    ends_plan_with reader prints.out prints.told world plan status
+    (subst (λ (s : ℕ). DoesPlan world plan reader prints.out prints.told s) (well ∙ sym ends) prints.does) other
+
+pub ends_file_with : {R W E : Type 0} (reader : Stream R) (file : Stream W) (errors : Stream E) (world : World) (plan : Plan) (path : List ℕ) (status : ℕ)
+    → DoesForFile world plan path reader file errors status → status ≢ 2 → EndsPlanWith plan status
+ends_file_with reader file errors world plan path status (Exhausted out told done does kept said two) other = absurd (other two)
+ends_file_with reader file errors world plan path status (Does text err done prints ends) other =
+    ends_for_file_with reader file errors world plan path text err done status prints ends other
 
 -- Of a plan to debug it is 0 then.
 pub debug_ends_with : (plan : Plan) (status : ℕ) → plan.subcommand ≡ Debug → EndsPlanWith plan status → status ≡ 0

@@ -4,6 +4,7 @@ pub mod Contexts
 pub mod Files
 pub mod Linux
 pub mod Notes
+pub mod Outputs
 pub mod Tests
 pub mod Jobs
 pub mod Kinds

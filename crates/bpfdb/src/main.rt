@@ -19,6 +19,7 @@ mod library;
 mod linux;
 mod notes;
 mod opening;
+mod output;
 mod prompt;
 mod telling;
 mod tests;
@@ -35,6 +36,7 @@ use host::Host;
 use input::is_closed;
 use library::Library;
 use opening::{BuiltIn, SystemFiles, first_plan};
+use output::{LateFile, do_for_file};
 use prompt::{FIRST_GREETING, GREETING, Prompting};
 use std::io;
 use std::io::{BufReader, BufWriter, IsTerminal, Read, Stderr, Write};
@@ -196,7 +198,7 @@ fn do_over_streams<F: Opener>(
     do_over(rt, &host, plan, &mut reader, &mut writer, errors)
 }
 
-/// Does a plan over a reader and a writer.
+/// Does a plan over a reader, and over a writer, or over a file in its place where the plan names one.
 fn do_over<'a, F: Opener, R: Read, W: Write>(
     rt: &HostRuntime,
     host: &Host<'a, F>,
@@ -209,7 +211,13 @@ fn do_over<'a, F: Opener, R: Read, W: Write>(
     ensures value { result ≢ 2 → EndsPlanWith plan.now result }
     ensures status { result ≤ 2 }
 {
-    do_plan(rt.alloc(), host, plan, reader, writer, errors)
+    match plan.output {
+        Some(path) => {
+            let mut file = Counted::new(Retrying::new(LateFile::new(rt, path)));
+            do_for_file(rt.alloc(), host, plan, path, reader, &mut file, errors)
+        }
+        None => do_plan(rt.alloc(), host, plan, reader, writer, errors),
+    }
 }
 
 /// Whether commands are typed: the plan reads them, and standard input is a terminal.

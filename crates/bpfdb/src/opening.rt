@@ -56,6 +56,7 @@ pub fn first_plan() -> Plan<'static>
         packet: None,
         other: None,
         other_packet: None,
+        output: None,
         target: TargetWords {
             is_words: true,
             is_listing: false,

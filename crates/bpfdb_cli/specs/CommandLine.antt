@@ -103,9 +103,9 @@ entry_rule = record (new_rule (codes "entry")) { long = Some (codes "entry"); va
 abbrev pub entries_rule : Rule
 entries_rule = record (new_rule (codes "entries")) { long = Some (codes "entries"); value_names = 1; action = Some Append }
 
--- `--stub NUMBER=VALUE,NUMBER=VALUE`: the helpers whose calls are answered by a constant.
-abbrev pub stub_rule : Rule
-stub_rule = record (new_rule (codes "stub")) { long = Some (codes "stub"); value_names = 1 }
+-- `--helper NAME=VALUE,NAME=VALUE`, which was called `--stub`: the helpers whose calls are answered by a constant.
+abbrev pub helper_rule : Rule
+helper_rule = record (new_rule (codes "helper")) { long = Some (codes "helper"); aliases = codes "stub" ∷ []; value_names = 1 }
 
 -- `--fields HOW`: whether fields stay where they were compiled; and an older word for that, which asks for nothing any more.
 abbrev pub fields_rule : Rule
@@ -129,9 +129,18 @@ no_linux_rule = record (new_rule (codes "no-linux")) { long = Some (codes "no-li
 abbrev pub faithful_rule : Rule
 faithful_rule = record (new_rule (codes "faithful")) { long = Some (codes "faithful"); action = Some SetTrue }
 
--- `--joined`: the object that is linked is written.
-abbrev pub joined_rule : Rule
-joined_rule = record (new_rule (codes "joined")) { long = Some (codes "joined"); action = Some SetTrue }
+-- `-r`, `--relocatable`, which was called `--joined`: the object that would be linked is written.
+abbrev pub relocatable_rule : Rule
+relocatable_rule = record (new_rule (codes "relocatable")) {
+  short = Some 114;
+  long = Some (codes "relocatable");
+  aliases = codes "joined" ∷ [];
+  action = Some SetTrue;
+}
+
+-- `-o PATH`, `--output PATH`: a file, which takes what is linked.
+abbrev pub output_rule : Rule
+output_rule = record (new_rule (codes "output")) { short = Some 111; long = Some (codes "output"); value_names = 1 }
 
 -- `--registers NAME`: the machine that gdb is told of.
 abbrev pub registers_rule : Rule
@@ -227,7 +236,7 @@ shared_file_rule = record (new_rule (codes "file")) { value_names = 1; defaults 
 
 -- What is asked of the link of an object: where it begins and what it is given, and what it is linked with.
 abbrev pub with_entry_rules : App → App
-with_entry_rules app = with_rule (with_rule (with_rule (with_rule app section_rule) entry_rule) entries_rule) stub_rule
+with_entry_rules app = with_rule (with_rule (with_rule (with_rule app section_rule) entry_rule) entries_rule) helper_rule
 
 abbrev pub with_link_rules : App → App
 with_link_rules app = with_rule (with_rule (with_rule (with_rule (with_rule (with_rule (with_entry_rules app)
@@ -266,7 +275,7 @@ abbrev pub load_app : App
 load_app = with_rule (with_rule (with_file_kinds (with_rule (new_app (codes "load")) maps_rule)) json_rule) file_rule
 
 abbrev pub link_app : App
-link_app = with_rule (with_rule (with_link_rules (new_app (codes "link"))) joined_rule) file_rule
+link_app = with_rule (with_rule (with_rule (with_link_rules (new_app (codes "link"))) relocatable_rule) output_rule) file_rule
 
 abbrev pub test_app : App
 test_app = with_rule (with_rule (with_rule (with_rule (with_rule (with_rule (with_rule (new_app (codes "test"))

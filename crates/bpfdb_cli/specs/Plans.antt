@@ -78,7 +78,7 @@ pub record Chooses (rows : List Row) (options : Options) : Type 0 where
   pub branches : options.only_branches ≡ is_given (first_of (codes "branches") rows)
   pub profile : options.is_profile ≡ is_given (first_of (codes "profile") rows)
   pub strict : options.is_strict ≡ is_given (first_of (codes "strict") rows)
-  pub joined : options.is_joined ≡ is_given (first_of (codes "joined") rows)
+  pub joined : options.is_joined ≡ is_given (first_of (codes "relocatable") rows)
   pub registers : NamesRegisters (first_of (codes "registers") rows) options.registers
   pub what : option_map (λ s. s.now) options.what ≡ first_of (codes "what") rows
   pub lines : options.lines ≡ number_or default_lines (first_of (codes "lines") rows)
@@ -126,7 +126,7 @@ turns_in rows = if names_one (texts_in (codes "entry") rows) then [] else texts_
 -- Something is asked of the link of an object.
 abbrev pub asks_of_link : List Row → Bool
 asks_of_link rows = is_some (first_of (codes "section") rows) || (is_some (first_of (codes "entry") rows)
-    || (is_some (first_of (codes "stub") rows) || (is_given (first_of (codes "as-compiled") rows) || (is_some (first_of (codes "struct") rows)
+    || (is_some (first_of (codes "helper") rows) || (is_given (first_of (codes "as-compiled") rows) || (is_some (first_of (codes "struct") rows)
     || (is_some (first_of (codes "fields") rows) || (is_some (first_of (codes "with") rows) || is_some (first_of (codes "entries") rows)))))))
 
 -- FILE is said to be an object, or that is asked.
@@ -141,7 +141,7 @@ pub record Aims (rows : List Row) (target : TargetWords) : Type 0 where
   pub maps : option_map (λ s. s.now) target.maps ≡ first_of (codes "maps") rows
   pub section : option_map (λ s. s.now) target.section ≡ first_of (codes "section") rows
   pub entry : option_map (λ s. s.now) target.entry ≡ first_of (codes "entry") rows
-  pub stubs : option_map (λ s. s.now) target.stubs ≡ first_of (codes "stub") rows
+  pub stubs : option_map (λ s. s.now) target.stubs ≡ first_of (codes "helper") rows
   pub fields : NamesFields (first_of (codes "fields") rows) target.strict_fields
   pub takes : NamesStruct (first_of (codes "struct") rows) target.takes
   pub with : map (λ s. s.now) target.with.items ≡ texts_in (codes "with") rows
@@ -161,6 +161,7 @@ pub record Says (name : Text) (rows : List Row) (plan : Plan) : Type 0 where
   pub packet : plan.packet ≡ number_in (first_of (codes "packet") rows)
   pub other : option_map (λ s. s.now) plan.other ≡ other_in rows
   pub other_packet : plan.other_packet ≡ number_in (first_of (codes "other-packet") rows)
+  pub output : option_map (λ s. s.now) plan.output ≡ first_of (codes "output") rows
   pub target : Aims rows plan.target
   pub options : Chooses rows plan.options
   pub json : plan.json ≡ is_given (first_of (codes "json") rows)
@@ -230,17 +231,24 @@ is_json_tracefile rows = is_given (first_of (codes "cover-info") rows) && is_giv
 abbrev pub is_json_graph : List Row → Bool
 is_json_graph rows = is_given (first_of (codes "dot") rows) && is_given (first_of (codes "json") rows)
 
--- `--joined` writes the object that something makes of FILE: others that are joined to it, other entries of its maps, or programs in turn.
--- That of a packet's program isn't written.
+-- `-r` writes the object that something makes of FILE: others that are joined to it, other entries of its maps, or programs in turn. What is asked
+-- of the program that would be linked of it doesn't go with it: its struct, its helpers, and where it begins. Fields are left where others are joined.
 abbrev pub joins_nothing : List Row → Bool
-joins_nothing rows = is_given (first_of (codes "joined") rows) && (not (is_some (first_of (codes "with") rows))
+joins_nothing rows = is_given (first_of (codes "relocatable") rows) && (not (is_some (first_of (codes "with") rows))
     && (not (is_some (first_of (codes "entries") rows)) && names_one (texts_in (codes "entry") rows)))
 
-abbrev pub joins_packet : List Row → Bool
-joins_packet rows = is_given (first_of (codes "joined") rows) && is_some (first_of (codes "struct") rows)
+abbrev pub asks_of_program : List Row → Bool
+asks_of_program rows = is_some (first_of (codes "struct") rows) || (is_some (first_of (codes "helper") rows)
+    || (is_some (first_of (codes "entry") rows) && names_one (texts_in (codes "entry") rows)))
+
+abbrev pub asks_of_fields : List Row → Bool
+asks_of_fields rows = is_some (first_of (codes "fields") rows) && not (is_some (first_of (codes "with") rows))
+
+abbrev pub joins_otherwise : List Row → Bool
+joins_otherwise rows = is_given (first_of (codes "relocatable") rows) && (asks_of_program rows || asks_of_fields rows)
 
 abbrev pub object_fits : Text → List Row → Bool
-object_fits name rows = not (joins_nothing rows) && (not (joins_packet rows) && run_fits name rows)
+object_fits name rows = not (joins_nothing rows) && (not (joins_otherwise rows) && run_fits name rows)
 
 abbrev pub graph_fits : Text → List Row → Bool
 graph_fits name rows = not (is_json_graph rows) && object_fits name rows

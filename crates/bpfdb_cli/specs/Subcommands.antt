@@ -1,5 +1,5 @@
 -- Scaffolding: no public contract cites this. What an entry of the table of subcommands tells `clap`.
-use Rattle.std.specs.Prelude.{[], ◌∷◌, Some, true, fold}
+use Rattle.std.specs.Prelude.{ℕ, [], ◌∷◌, Some, true, fold}
 use Rattle.clap.specs.Words.{App, Rule, Text, new_app, new_rule, with_rule, with_subcommand}
 use Rattle.clap.specs.declared.builder.action.ArgAction.TheVariants.{Append, SetTrue}
 use Rattle.clap.specs.declared.builder.value_parser.ValueParser.TheVariants as vp
@@ -20,6 +20,10 @@ count_rule_of name = record (text_rule name) { parser = Some (vp.Unsigned 1 grea
 abbrev pub flag_rule : Text → Rule
 flag_rule name = record (new_rule name) { long = Some name; action = Some SetTrue }
 
+-- One that takes nothing, and is known by a letter and by an older name, too.
+abbrev pub renamed_flag_rule : Text → ℕ → Text → Rule
+renamed_flag_rule name letter old_name = record (flag_rule name) { short = Some letter; aliases = old_name ∷ [] }
+
 -- What stands behind the options.
 abbrev pub operand_rule : Text → Rule
 operand_rule name = record (new_rule name) { value_names = 1 }
@@ -29,6 +33,8 @@ rule_by takes.Nothing name = flag_rule name
 rule_by takes.Obsolete name = flag_rule name
 rule_by takes.Text name = text_rule name
 rule_by (takes.ShortText letter) name = record (text_rule name) { short = Some letter }
+rule_by (takes.Renamed old_name) name = renamed_rule name old_name.now
+rule_by (takes.RenamedFlag letter old_name) name = renamed_flag_rule name letter old_name.now
 rule_by takes.Texts name = record (text_rule name) { action = Some Append }
 rule_by (takes.TextOr default) name = record (text_rule name) { defaults = default.now ∷ [] }
 rule_by takes.Count name = count_rule_of name

@@ -2,7 +2,7 @@
 ghost use Rattle.std.specs.Prelude.{◌≡◌, IfOk, false, fold};
 ghost use Rattle.clap.specs.Words.{app_of, new_app, rule_of, with_subcommand};
 ghost use Rattle.bpfdb_cli.specs.CommandLine.{bare_app, command_app, with_files, with_questions, with_runs, with_subcommands};
-ghost use Rattle.bpfdb_cli.specs.Subcommands.{count_rule_of, entry_app, flag_rule, operand_rule, option_rule, text_rule, with_entry, with_option};
+ghost use Rattle.bpfdb_cli.specs.Subcommands.{count_rule_of, entry_app, flag_rule, operand_rule, option_rule, renamed_flag_rule, renamed_rule, text_rule, with_entry, with_option};
 
 use crate::help;
 use crate::options::{CliOption, Takes};
@@ -54,6 +54,34 @@ fn operand<'a>(alloc: Global, option: &CliOption<'a>) -> Arg<'a>
         .help(option.about)
 }
 
+/// An option with a text that has another name, too, which help leaves out.
+fn renamed<'a>(
+    alloc: Global,
+    option: &CliOption<'a>,
+    old_name: &'a str,
+) -> Result<Arg<'a>, AllocError>
+    ensures value { IfOk result (λ arg. rule_of arg
+        ≡ renamed_rule option.now.name.now old_name.now) }
+    ensures local { IfOk result (λ arg. arg.global ≡ false) }
+{
+    text_option(alloc, option).alias(old_name)
+}
+
+/// An option that takes nothing and has a name of one letter, and another name, too, which help leaves
+/// out.
+fn renamed_flag<'a>(
+    alloc: Global,
+    option: &CliOption<'a>,
+    letter: char,
+    old_name: &'a str,
+) -> Result<Arg<'a>, AllocError>
+    ensures value { IfOk result (λ arg. rule_of arg
+        ≡ renamed_flag_rule option.now.name.now letter old_name.now) }
+    ensures local { IfOk result (λ arg. arg.global ≡ false) }
+{
+    flag(alloc, option).short(letter).alias(old_name)
+}
+
 /// What `clap` is told of an option.
 fn argument_of<'a>(alloc: Global, option: &CliOption<'a>) -> Result<Arg<'a>, AllocError>
     ensures value { IfOk result (λ arg. rule_of arg ≡ option_rule option.now) }
@@ -64,6 +92,8 @@ fn argument_of<'a>(alloc: Global, option: &CliOption<'a>) -> Result<Arg<'a>, All
         Takes::Obsolete => Ok(flag(alloc, option).hide(true)),
         Takes::Text => Ok(text_option(alloc, option)),
         Takes::ShortText(letter) => Ok(text_option(alloc, option).short(letter)),
+        Takes::Renamed(old_name) => renamed(alloc, option, old_name),
+        Takes::RenamedFlag(letter, old_name) => renamed_flag(alloc, option, letter, old_name),
         Takes::Texts => Ok(text_option(alloc, option).action(ArgAction::Append)),
         Takes::TextOr(default) => Ok(text_option(alloc, option).default_value(default)),
         Takes::Count => Ok(count_option(alloc, option)),

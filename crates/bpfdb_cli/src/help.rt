@@ -297,12 +297,14 @@ of maps the maps' numbers, 0 for the one that stands first in its section. If
 debug information (-g) or the section maps has the maps' sizes, they are printed
 on standard error as an option --maps. The first thing that is wrong is one line
 on standard error, with its number; then the exit status is 2.
-With --joined FILE and the objects of --with are written as one object, for gdb
-or to link again.";
+With -r FILE and the objects of --with are written as one object, for gdb or to
+link again. With -o a file takes what is linked, and standard output nothing;
+where the link fails, what the file held stays.";
 
 pub const LINK_EXAMPLE: &str = "Example:
   $ clang -O2 -target bpf -c count.c
-  $ bpfdb link count.o > count.bin";
+  $ bpfdb link -o count.bin count.o
+  $ bpfdb link -r --with mock.o -o both.o count.o";
 
 pub const TEST: &str = "Runs the tests of a file";
 
@@ -477,13 +479,14 @@ pub const ENTRIES_LONG: &str = "Name of a map of the object, an =, and how many 
 to 4294967295, whatever the object says. Up to 16 times, one a map.
 Example: --entries flows=64";
 
-/// `--stub`.
-pub const STUB: &str = "Helpers whose calls a constant answers";
+/// `--helper`.
+pub const HELPER: &str = "Helpers whose calls a constant answers";
 
-pub const STUB_LONG: &str = "Helpers whose calls are answered by a constant in r0, at most 16: each
+pub const HELPER_LONG: &str =
+    "Helpers whose calls are answered by a constant in r0, at most 16: each
 its number or its name in the kernel, an =, and -2147483648 to
 2147483647. Nothing else happens at such a call.
-Example: --stub 5=0,get_current_pid_tgid=-1";
+Example: --helper 5=0,get_current_pid_tgid=-1";
 
 /// `--struct`.
 pub const STRUCT: &str = "The kernel's struct that the entry takes";
@@ -517,8 +520,15 @@ its symbol of that name. If it has bpf_map_lookup_elem, maps of any
 kind are data of its own. Up to 16 times: the first one that has a
 function answers. Example: --with mock.o --with bpfdb-linux.o";
 
-/// `--joined`.
-pub const JOINED: &str = "Writes FILE and --with as one object, no program";
+/// `-r`, `--relocatable`.
+pub const RELOCATABLE: &str = "Writes FILE and --with as one object, no program";
+
+/// `-o`, `--output`.
+pub const OUTPUT: &str = "File for what is linked, not standard output";
+
+pub const OUTPUT_LONG: &str = "File for what is linked; nothing is on standard output then. What
+stands in it is lost, but stays where the link fails.
+Example: -o count.bin";
 
 /// `--script`.
 pub const SCRIPT: &str = "Script that is obeyed in place of a run";

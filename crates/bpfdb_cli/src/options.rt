@@ -12,6 +12,10 @@ pub(crate) enum Takes<'a> {
     Text,
     /// A text; the option has a name of one letter, too.
     ShortText(char),
+    /// A text; the option was called so before, and is still known by that name.
+    Renamed(&'a str),
+    /// Nothing; the option has a name of one letter, too, and is still known by its old name.
+    RenamedFlag(char, &'a str),
     /// A text each time that it comes.
     Texts,
     /// A text, or this one.
@@ -225,13 +229,13 @@ pub(crate) const ENTRIES: CliOption<'static> = CliOption {
     long_about: help::ENTRIES_LONG,
 };
 
-/// `--stub NUMBER=VALUE,NUMBER=VALUE`.
-pub(crate) const STUB: CliOption<'static> = CliOption {
-    name: "stub",
-    takes: Takes::Text,
-    value: "NUMBER=VALUE",
-    about: help::STUB,
-    long_about: help::STUB_LONG,
+/// `--helper NAME=VALUE,NAME=VALUE`.
+pub(crate) const HELPER: CliOption<'static> = CliOption {
+    name: "helper",
+    takes: Takes::Renamed("stub"),
+    value: "NAME=VALUE",
+    about: help::HELPER,
+    long_about: help::HELPER_LONG,
 };
 
 /// `--script PATH`.
@@ -297,13 +301,22 @@ pub(crate) const FAITHFUL: CliOption<'static> = CliOption {
     long_about: "",
 };
 
-/// `--joined`.
-pub(crate) const JOINED: CliOption<'static> = CliOption {
-    name: "joined",
-    takes: Takes::Nothing,
+/// `-r`, `--relocatable`.
+pub(crate) const RELOCATABLE: CliOption<'static> = CliOption {
+    name: "relocatable",
+    takes: Takes::RenamedFlag('r', "joined"),
     value: "",
-    about: help::JOINED,
+    about: help::RELOCATABLE,
     long_about: "",
+};
+
+/// `-o PATH`, `--output PATH`.
+pub(crate) const OUTPUT: CliOption<'static> = CliOption {
+    name: "output",
+    takes: Takes::ShortText('o'),
+    value: "PATH",
+    about: help::OUTPUT,
+    long_about: help::OUTPUT_LONG,
 };
 
 /// `--lines N`.

@@ -7,7 +7,7 @@ ghost use Rattle.input_texts.specs.Turns.{has_place};
 ghost use Rattle.clap.specs.Words.{Row, Text, all_of, first_of, found_of, rows_of, subcommand_rows_of};
 ghost use Rattle.bpfdb_limits.specs.Limits.{IsLimit};
 ghost use Rattle.bpfdb_cli.specs.Scaffolding.{AskAlike};
-ghost use Rattle.bpfdb_cli.specs.Plans.{Aims, AreInRange, Chooses, HasKindIfTold, IsFaultOf, IsNumber, IsPlan, IsPlanOf, NamesPart, NamesRegisters, Says, Tells, asks_of_link, counts_strictly, go_together, is_given, joins_nothing, joins_packet, names_one, object_fits, is_object, kinds_fit, may_be_object, names_other, number_or, other_in, run_fits, given_or, NamesFields, NamesStruct, entries_fit, has_offset, graph_fits, is_json_graph, is_json_tracefile, most_texts, names_side, number_in, is_of, packets_fit, writes_fit, shows_json, texts_in, told_fits, turns_in};
+ghost use Rattle.bpfdb_cli.specs.Plans.{Aims, AreInRange, Chooses, HasKindIfTold, IsFaultOf, IsNumber, IsPlan, IsPlanOf, NamesFields, NamesPart, NamesRegisters, NamesStruct, Says, Tells, asks_of_fields, asks_of_link, asks_of_program, counts_strictly, entries_fit, given_or, go_together, graph_fits, has_offset, is_given, is_json_graph, is_json_tracefile, is_object, is_of, joins_nothing, joins_otherwise, kinds_fit, may_be_object, most_texts, names_one, names_other, names_side, number_in, number_or, object_fits, other_in, packets_fit, run_fits, shows_json, texts_in, told_fits, turns_in, writes_fit};
 
 use crate::command_line::command_line;
 use crate::plans::{EntryTakes, MOST_TEXTS, Plan, PlanFault, TargetWords};
@@ -56,9 +56,19 @@ const TRACEFILE_AND_JSON: &str = "the argument '--cover-info' cannot be used wit
 
 const DOT_AND_JSON: &str = "the argument '--dot' cannot be used with '--json'";
 
-const JOINED_ALONE: &str = "'--joined' needs '--with', '--entries', or several '--entry'";
+const RELOCATABLE_ALONE: &str = "'--relocatable' needs '--with', '--entries', or several '--entry'";
 
-const JOINED_AND_STRUCT: &str = "the argument '--joined' cannot be used with '--struct <KIND>'";
+const RELOCATABLE_AND_STRUCT: &str =
+    "the argument '--relocatable' cannot be used with '--struct <KIND>'";
+
+const RELOCATABLE_AND_HELPER: &str =
+    "the argument '--relocatable' cannot be used with '--helper <NAME=VALUE>'";
+
+const RELOCATABLE_AND_ENTRY: &str =
+    "the argument '--relocatable' cannot be used with one '--entry <NAME>'";
+
+const RELOCATABLE_AND_FIELDS: &str =
+    "the argument '--relocatable' cannot be used with '--fields <HOW>' without '--with'";
 
 const MANY_OBJECTS: &str = "the argument '--with <OBJECT>' is used more than 16 times";
 
@@ -73,7 +83,7 @@ const BAD_COUNT: &str =
     "each '--entries <NAME=N>' names a map of its own, and N is a number, 1 to 4294967295";
 
 const OF_OBJECTS: &str =
-    "'--section', '--entry', '--entries', '--stub', '--fields', '--struct' and '--with' are of objects: without '--words', '--listing' and '--maps'";
+    "'--section', '--entry', '--entries', '--helper', '--fields', '--struct' and '--with' are of objects: without '--words', '--listing' and '--maps'";
 
 /// The plan of a command line, of which the first word is the program's name.
 pub fn plan<'a>(alloc: Global, words: &'a [&'a str]) -> Result<Plan<'a>, PlanFault>
@@ -198,6 +208,7 @@ fn plan_in<'a>(name: &'a str, found: &ArgMatches<'a>) -> Result<Plan<'a>, &'stat
         packet,
         other: other_of(found),
         other_packet,
+        output: text_of(found, "output"),
         target,
         options,
         json: is_given(found, "json"),
@@ -279,12 +290,11 @@ fn misfit_of_object(name: &str, found: &ArgMatches<'_>) -> Option<&'static str>
     ensures some { OnSome result (object_fits name.now (rows_of (found_of found.now)) ≡ false) }
 {
     if joins_nothing(found) {
-        return Some(JOINED_ALONE);
+        return Some(RELOCATABLE_ALONE);
     }
-    if joins_packet(found) {
-        Some(JOINED_AND_STRUCT)
-    } else {
-        misfit_of_run(name, found)
+    match misfit_of_joining(found) {
+        Some(why) => Some(why),
+        None => misfit_of_run(name, found),
     }
 }
 
@@ -292,17 +302,51 @@ fn misfit_of_object(name: &str, found: &ArgMatches<'_>) -> Option<&'static str>
 fn joins_nothing(found: &ArgMatches<'_>) -> bool
     ensures { result ≡ joins_nothing (rows_of (found_of found.now)) }
 {
-    if !is_given(found, "joined") || has_text(found, "with") {
+    if !is_given(found, "relocatable") || has_text(found, "with") {
         return false;
     }
     !has_text(found, "entries") && has_one_entry(found)
 }
 
-/// Whether a packet's program is to be written as an object.
-fn joins_packet(found: &ArgMatches<'_>) -> bool
-    ensures { result ≡ joins_packet (rows_of (found_of found.now)) }
+/// What is asked beside the object that is to be written and isn't done of it, if there is something.
+fn misfit_of_joining(found: &ArgMatches<'_>) -> Option<&'static str>
+    ensures { is_some result ≡ joins_otherwise (rows_of (found_of found.now)) }
 {
-    is_given(found, "joined") && has_text(found, "struct")
+    if !is_given(found, "relocatable") {
+        return None;
+    }
+    match asked_of_program(found) {
+        Some(why) => Some(why),
+        None => asked_of_fields(found),
+    }
+}
+
+/// What is asked of the one program that would be linked of an object, if something is.
+fn asked_of_program(found: &ArgMatches<'_>) -> Option<&'static str>
+    ensures { is_some result ≡ asks_of_program (rows_of (found_of found.now)) }
+{
+    if has_text(found, "struct") {
+        return Some(RELOCATABLE_AND_STRUCT);
+    }
+    if has_text(found, "helper") {
+        return Some(RELOCATABLE_AND_HELPER);
+    }
+    if has_text(found, "entry") && has_one_entry(found) {
+        Some(RELOCATABLE_AND_ENTRY)
+    } else {
+        None
+    }
+}
+
+/// What is asked of the fields of an object to which nothing is joined, if something is.
+fn asked_of_fields(found: &ArgMatches<'_>) -> Option<&'static str>
+    ensures { is_some result ≡ asks_of_fields (rows_of (found_of found.now)) }
+{
+    if has_text(found, "fields") && !has_text(found, "with") {
+        Some(RELOCATABLE_AND_FIELDS)
+    } else {
+        None
+    }
 }
 
 /// Whether no programs are called in turn.
@@ -506,7 +550,7 @@ fn asks_of_link(found: &ArgMatches<'_>) -> bool
     let adds = has_text(found, "with") || has_text(found, "entries");
     let fits = has_text(found, "struct") || (has_text(found, "fields") || adds);
     let leaves = is_given(found, "as-compiled") || fits;
-    chooses || (has_text(found, "stub") || leaves)
+    chooses || (has_text(found, "helper") || leaves)
 }
 
 /// What a subcommand's matches say of FILE and of the program that runs, whose entry takes this, and
@@ -538,7 +582,7 @@ fn target_in<'a>(
         maps: text_of(found, "maps"),
         section: text_of(found, "section"),
         entry: text_of(found, "entry"),
-        stubs: text_of(found, "stub"),
+        stubs: text_of(found, "helper"),
         strict_fields,
         takes,
         with,
@@ -574,7 +618,7 @@ fn options_in<'a>(found: &ArgMatches<'a>) -> Option<Options<'a>>
         only_branches: is_given(found, "branches"),
         is_profile: is_given(found, "profile"),
         is_strict: is_given(found, "strict"),
-        is_joined: is_given(found, "joined"),
+        is_joined: is_given(found, "relocatable"),
         registers,
         what: text_of(found, "what"),
         lines,

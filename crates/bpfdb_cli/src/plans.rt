@@ -74,6 +74,8 @@ pub struct Plan<'a> {
     pub other: Option<&'a str>,
     /// Which packet of that one, a capture, is the second context of `diff`.
     pub other_packet: Option<u64>,
+    /// The path of the file that takes what is linked; without one standard output does.
+    pub output: Option<&'a str>,
     pub target: TargetWords<'a>,
     pub options: Options<'a>,
     /// What is printed is told as objects of JSON, one a line.

@@ -18,7 +18,7 @@ use Rattle.bpfdb_script.specs.Refusals as commands
 use Rattle.bpfdb_script.specs.Shown.{shown}
 use Rattle.input_texts.specs.TraceFaults.{line_fault}
 use Rattle.bpfdb_faults.specs.declared.fault.JobFault.{JobFault}
-use Rattle.bpfdb_faults.specs.declared.fault.JobFault.TheVariants.{Unreadable, NotText, Refused, Input, Output, Memory, StepLimit}
+use Rattle.bpfdb_faults.specs.declared.fault.JobFault.TheVariants.{Unreadable, Unwritable, NotText, Refused, Input, Output, Memory, StepLimit}
 use Rattle.bpfdb_faults.specs.declared.kind.KindFault.{KindFault}
 use Rattle.bpfdb_faults.specs.declared.kind.KindFault.TheVariants as kind
 use Rattle.bpfdb_faults.specs.declared.refusal.JobRefusal.{JobRefusal}
@@ -41,8 +41,8 @@ label_text helper (byte ∷ bytes) = decimal helper ++ codes " (bpf_" ++ (byte �
 
 -- The options that answer it: functions are found by names.
 abbrev pub answer_text : ℕ → List ℕ → List ℕ
-answer_text helper [] = codes ": --stub " ++ decimal helper ++ codes "=VALUE answers it"
-answer_text helper (byte ∷ bytes) = codes ": --with OBJECT or --stub " ++ decimal helper ++ codes "=VALUE answers it"
+answer_text helper [] = codes ": --helper " ++ decimal helper ++ codes "=VALUE answers it"
+answer_text helper (byte ∷ bytes) = codes ": --with OBJECT or --helper " ++ decimal helper ++ codes "=VALUE answers it"
 
 -- Those that there aren't, besides the first one, by their numbers.
 abbrev pub other_text : Bool → ℕ → List ℕ
@@ -150,9 +150,9 @@ refusal_line (NoTest name) = no_test_line name.now
 refusal_line ManyTests = codes "refused T8: more than one test is asked for\n"
 refusal_line refusal = session_line refusal
 
--- A file that can't be read.
-abbrev pub unreadable_line : List ℕ → List ℕ
-unreadable_line name = codes "cannot read " ++ shown name ++ codes "\n"
+-- A file that can't be read, or written.
+abbrev pub file_line : List ℕ → List ℕ → List ℕ
+file_line words name = words ++ shown name ++ codes "\n"
 
 -- A read of standard input that failed, and a write of standard output.
 abbrev pub input_line : List ℕ
@@ -163,7 +163,8 @@ output_line = codes "cannot write output\n"
 
 -- The line of each fault.
 abbrev pub line_of : JobFault → List ℕ
-line_of (Unreadable name) = unreadable_line name.now
+line_of (Unreadable name) = file_line (codes "cannot read ") name.now
+line_of (Unwritable name) = file_line (codes "cannot write ") name.now
 line_of NotText = codes "the command line is not UTF-8 text\n"
 line_of (Refused refusal) = refusal_line refusal
 line_of Input = input_line

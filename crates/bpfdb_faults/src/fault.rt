@@ -6,6 +6,8 @@ use crate::refusal::JobRefusal;
 pub enum JobFault<'a> {
     /// A file can't be read: its name, as the command line has it.
     Unreadable(&'a str),
+    /// A file can't be written: its name, as the command line has it.
+    Unwritable(&'a str),
     /// The words of the command line are no text.
     NotText,
     /// What is asked for is refused: a letter for what, a number and a text for why.

@@ -3,7 +3,7 @@ ghost use Rattle.std.specs.Prelude.{◌≡◌, ◌≤◌, ◌++◌, codes, lengt
 ghost use Rattle.counted_io.specs.Writing.{WritesAfter};
 ghost use Rattle.bpf_link.specs.Helpers.{helper_name};
 ghost use Rattle.bpf_suite.specs.Refusals.{refusal_text};
-ghost use Rattle.bpfdb_faults.specs.Faults.{answer_text, helpers_text, label_text, line_of, hint_of, more_of, name_text, object_text, other_map_line, origin_text, other_text, others_text, refusal_line, refused_line, slot_of_words, source_text, functions_end};
+ghost use Rattle.bpfdb_faults.specs.Faults.{answer_text, file_line, helpers_text, label_text, line_of, hint_of, more_of, name_text, object_text, other_map_line, origin_text, other_text, others_text, refusal_line, refused_line, slot_of_words, source_text, functions_end};
 
 use crate::fault::JobFault;
 use crate::refusal::JobRefusal;
@@ -23,11 +23,8 @@ pub fn put_line<E: Write>(
     ensures { WritesAfter E.contents errors.old so_far errors.new result (line_of fault.now) }
 {
     match fault {
-        JobFault::Unreadable(name) => {
-            let begun = put(errors, so_far, b"cannot read ");
-            let named = put_shown(errors, begun, name.as_bytes());
-            put(errors, named, b"\n")
-        }
+        JobFault::Unreadable(name) => put_file(errors, so_far, b"cannot read ", name),
+        JobFault::Unwritable(name) => put_file(errors, so_far, b"cannot write ", name),
         JobFault::NotText => put(errors, so_far, b"the command line is not UTF-8 text\n"),
         JobFault::Refused(refusal) => put_refusal(errors, so_far, refusal),
         JobFault::Input => put(errors, so_far, b"cannot read input\n"),
@@ -35,6 +32,20 @@ pub fn put_line<E: Write>(
         JobFault::Memory => put(errors, so_far, b"out of memory\n"),
         JobFault::StepLimit(limit, slot) => put_limit(errors, so_far, *limit, *slot),
     }
+}
+
+/// Writes the line of a file, behind these words.
+fn put_file<E: Write>(
+    errors: &mut Counted<E>,
+    so_far: Result<(), WriteFault>,
+    words: &[u8],
+    name: &str,
+) -> Result<(), WriteFault>
+    ensures { WritesAfter E.contents errors.old so_far errors.new result (file_line words.now name.now) }
+{
+    let begun = put(errors, so_far, words);
+    let named = put_shown(errors, begun, name.as_bytes());
+    put(errors, named, b"\n")
 }
 
 /// Writes the line of a refusal.
@@ -377,7 +388,7 @@ fn put_answer<E: Write>(
     match name {
         [] => {
             let pieces = [
-                Piece::Text(b": --stub "),
+                Piece::Text(b": --helper "),
                 Piece::Decimal(number),
                 Piece::Text(b"=VALUE answers it"),
             ];
@@ -385,7 +396,7 @@ fn put_answer<E: Write>(
         }
         _ => {
             let pieces = [
-                Piece::Text(b": --with OBJECT or --stub "),
+                Piece::Text(b": --with OBJECT or --helper "),
                 Piece::Decimal(number),
                 Piece::Text(b"=VALUE answers it"),
             ];

@@ -294,7 +294,7 @@ DiffPrints true job a = AgainstPrints job a
 DiffPrints false job a = RunsPrint job a
 
 -- `link`: the words of the program, and what is told of it: the shapes of its maps, in the order of their numbers (none unless the object
--- defines each as an array), and their names; how many calls are answered; and how many fields are left as compiled. Or with `--joined` the
+-- defines each as an array), and their names; how many calls are answered; and how many fields are left as compiled. Or with `-r` the
 -- object that would be linked.
 abbrev pub link_print : Job → LinkedObject → Print
 link_print job linked = record (printed linked.program.words.items) {

@@ -43,7 +43,7 @@ count_line text (Some count) = text ++ decimal count ++ codes "\n"
 -- Its maps, their names, how many calls of helpers are answered, and how many fields are left where they were compiled.
 unfoldable pub linked_text : List ℕ → List MapShape → List ℕ → Option ℕ → Option ℕ → List ℕ
 linked_text object shapes places answered fields =
-    maps_line shapes ++ names_behind shapes object places ++ count_line (codes "calls answered by --stub: ") answered
+    maps_line shapes ++ names_behind shapes object places ++ count_line (codes "calls answered by --helper: ") answered
     ++ count_line (codes "fields left as compiled: ") fields
 
 -- What is told of an object: its maps, their names by where these stand in it, how many calls are answered, and how many fields are left; of none of

@@ -47,7 +47,7 @@ fn write_linked<E: Write>(
 {
     let listed = put_maps(errors, Ok(()), shapes);
     let told = put_names_behind(errors, listed, shapes, object, places);
-    let called = put_count(errors, told, b"calls answered by --stub: ", answered);
+    let called = put_count(errors, told, b"calls answered by --helper: ", answered);
     let left = put_count(errors, called, b"fields left as compiled: ", fields);
     flush_after(errors, left)
 }

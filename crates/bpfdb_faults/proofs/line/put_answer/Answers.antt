@@ -3,11 +3,11 @@ use Rattle.bpfdb_faults.specs.Faults.{answer_text}
 use Rattle.bpfdb_faults.proofs.line.put_answer.Goals as goal
 
 -- a helper that has no name, and one that has
-unnamed : (helper : ℕ) (name : List ℕ) → length name < 1 → answer_text helper name ≡ codes ": --stub " ++ decimal helper ++ codes "=VALUE answers it"
+unnamed : (helper : ℕ) (name : List ℕ) → length name < 1 → answer_text helper name ≡ codes ": --helper " ++ decimal helper ++ codes "=VALUE answers it"
 unnamed helper [] none = refl
 unnamed helper (byte ∷ bytes) none = absurd (omega (arith, none))
 
-named : (helper : ℕ) (name : List ℕ) → 0 < length name → answer_text helper name ≡ codes ": --with OBJECT or --stub " ++ decimal helper ++ codes "=VALUE answers it"
+named : (helper : ℕ) (name : List ℕ) → 0 < length name → answer_text helper name ≡ codes ": --with OBJECT or --helper " ++ decimal helper ++ codes "=VALUE answers it"
 named helper [] some = absurd (omega (arith, some))
 named helper (byte ∷ bytes) some = refl
 

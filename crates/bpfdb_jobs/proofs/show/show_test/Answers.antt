@@ -33,6 +33,7 @@ hidden : {W E : Type 0} {writer : Stream W} {errors : Stream E} (part : TestPart
 hidden part job test (fault.Refused (Listing why)) status same asked hides told two = Refused (Listing why) (test, asked, hides) same told two
 hidden part job test fault.Memory status same asked hides told two = Exhausted same told two
 hidden part job test (fault.Unreadable name) status same asked hides told two = absurd hides
+hidden part job test (fault.Unwritable name) status same asked hides told two = absurd hides
 hidden part job test fault.NotText status same asked hides told two = absurd hides
 hidden part job test fault.Input status same asked hides told two = absurd hides
 hidden part job test fault.Output status same asked hides told two = absurd hides
