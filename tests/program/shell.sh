@@ -200,7 +200,7 @@ PYTHON
         python3 patched.py "$@" || complain "tests/program/shell.sh: $1 isn't made"
     }
     habits shell-c.txt -m context.bin overrun.o
-    for words in '--helper 6=0 --as-compiled' '--helper=6=0'; do
+    for words in '--helper 6=0 --as-compiled' '--helper=6=0' '--stub 6=0'; do
         opened="$words -m context.bin overrun.o"
         habit '' 'b overrun.c:26' '> break 24 / ok'
     done
