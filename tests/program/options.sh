@@ -8,6 +8,7 @@
 settings() {
     cat << 'TABLE'
 -m|mem.s||-m=context|0x5|-m=missing|cannot read missing\n|
+--packet|mem.s|-m=two.pcap|--packet=2|0x9|--packet=3|refused P4: no such packet: the capture has 2 (two.pcap)\n|
 --maps|map.s||--maps=8x4|0x1|--maps=8x|refused M5: malformed map list\n|
 --regs|regs.s||--regs=r3=0x5|0x5|--regs=r10=5|refused O5: r10 is not writable\n|
 --section|programs.o||--section=one|0xb|--section=none|refused E8: no such code section: one, several, time, map, xdp\n|
@@ -26,19 +27,19 @@ TABLE
 # OPTION..|SUBCOMMAND..|WHY: options that subcommands don't take, and why.
 lacking() {
     cat << 'TABLE'
--m --regs|disasm lines check load link|nothing runs
--m --regs --section --entry --with --helper --stub --entries --struct --fields --no-linux --faithful|asm|FILE is a listing, and nothing runs
+-m --packet --regs|disasm lines check load link|nothing runs
+-m --packet --regs --section --entry --with --helper --stub --entries --struct --fields --no-linux --faithful|asm|FILE is a listing, and nothing runs
 --maps|asm|the words of a listing hang on no map
 --maps|lines link|a listing's lines hang on no map, and an object has its own
--m --maps --regs --section --entry --with --helper --stub --entries --struct --fields --no-linux --faithful|test|FILE says it of each test
--m|batch|each case has its own
+-m --packet --maps --regs --section --entry --with --helper --stub --entries --struct --fields --no-linux --faithful|test|FILE says it of each test
+-m --packet|batch|each case has its own
 --regs --section --entry --with --helper --stub --entries --struct --fields --no-linux --faithful|batch|each case is words
 TABLE
 }
 
 # The options of help that say nothing of that: how much runs, how the answer is told, what FILE is, and what else is read.
 others='--steps --strict --from --count --branches --profile --journal --words --listing --object --script --lines --addresses --alone --registers
-    --json --dot --other-mem --trace --writes --only --show --cover --cover-info --anywhere --relocatable --output --help'
+    --json --dot --other-mem --other-packet --trace --writes --only --show --cover --cover-info --anywhere --relocatable --output --help'
 
 running='run trace debug origin whynot diff gdb'
 
@@ -183,6 +184,9 @@ chmod +x forgetful
 
 bytes context 05 06 07
 bytes other 06
+# A capture of two packets, 08 and 09 0a (pcap: the low byte first, Ethernet).
+bytes two.pcap d4 c3 b2 a1 02 00 04 00 00 00 00 00 00 00 00 00 00 00 04 00 01 00 00 00 \
+    00 00 00 00 00 00 00 00 01 00 00 00 01 00 00 00 08 00 00 00 00 00 00 00 00 02 00 00 00 02 00 00 00 09 0a
 printf 'ldxb r0, [r1+0]\nexit\n' > mem.s
 printf 'mov r0, r3\nexit\n' > regs.s
 # 1 where the map has more than three entries.

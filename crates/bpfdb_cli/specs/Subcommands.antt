@@ -20,6 +20,10 @@ count_rule_of name = record (text_rule name) { parser = Some (vp.Unsigned 1 grea
 abbrev pub flag_rule : Text → Rule
 flag_rule name = record (new_rule name) { long = Some name; action = Some SetTrue }
 
+-- One that is known by an older name, too.
+abbrev pub renamed_rule : Text → Text → Rule
+renamed_rule name old_name = record (text_rule name) { aliases = old_name ∷ [] }
+
 -- One that takes nothing, and is known by a letter and by an older name, too.
 abbrev pub renamed_flag_rule : Text → ℕ → Text → Rule
 renamed_flag_rule name letter old_name = record (flag_rule name) { short = Some letter; aliases = old_name ∷ [] }
