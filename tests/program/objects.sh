@@ -262,6 +262,7 @@ check 'bpfdb link -o, and standard error is full' 2 '' ''
 same 'bpfdb link -o, and standard error is full: the file' words taken
 usage "a value is required for '--output <PATH>' but none was supplied" link arrays.o -o
 usage "the argument '--output <PATH>' cannot be used multiple times" link -o taken --output taken arrays.o
+text=$text_of_arrays
 
 # What bpfdb can't have. Of sizes that are out of range the option is told, and then refused (the first map has values of no byte); of a map that is no array
 # none is (the type of the first is that of a hash).
