@@ -342,9 +342,8 @@ fn put_more<E: Write>(
             ];
             put_all(errors, so_far, &pieces)
         }
-        LinkFault::ManySections | LinkFault::ManyPrograms => {
-            put(errors, so_far, b": --entry NAME chooses one")
-        }
+        LinkFault::ManySections => put(errors, so_far, b": --entry NAME chooses one"),
+        LinkFault::ManyPrograms => put(errors, so_far, b": --entry NAME chooses one"),
         _ => put(errors, so_far, b""),
     }
 }
