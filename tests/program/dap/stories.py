@@ -115,7 +115,7 @@ def joined():
         return
     os.makedirs('joined', exist_ok=True)
     for program, words in (('limit.o', {'args': ['--struct', 'xdp', '--with', 'bpfdb-linux.o', '-mipv6.bin']}),
-                           ('limit.o', {'packet': 'xdp', 'with': ['mock.o', 'bpfdb-linux.o'], 'context': 'ipv6.bin', 'asCompiled': True, 'object': False}),
+                           ('limit.o', {'struct': 'xdp', 'with': ['mock.o', 'bpfdb-linux.o'], 'context': 'ipv6.bin', 'asCompiled': True, 'object': False}),
                            ('../limit.o', {'cwd': 'joined', 'context': '../ipv6.bin', 'args': ['--with=../mock.o', '--struct=xdp', '--object']})):
         editor, stop = started(program, **words)
         hold(stop[:2], ('entry', 'limit'), f'the entry by {words}')
