@@ -85,12 +85,12 @@ begin entry:29
 next entry:31
 2 back; done; at 0: mov r2, r1, entry:29
 0 moves, 0 commands, 0 of 4194304 bytes, entry:29
-firewall bpfdb:56
+firewall firewall:61
 continue firewall:54
 ok, firewall:54
-continue bpfdb:61
+continue _start:13
 19 back; done; at 44: ldxh r1, [r1+22], firewall:54
-begin bpfdb:56
+begin _start:1
 ' ''
     else
         left_out "Emacs's dap-mode" 'there is no elpa-dap-mode'

@@ -42,12 +42,12 @@
   (princ (format "%s, %s\n" said (frame)) 'external-debugging-output))
 (ask #'bpfdb-undo)
 (ask (lambda () (bpfdb-ask "info history")))
-;; README's second session: the breakpoint, an edit, the end, and back. (r1 holds the header of IPv4, byte 14 of the packet.)
+;; README's second session, of the object as it is: the breakpoint, an edit, the end (slot 12 of the setup, whose lines are its slots), and back. (r1 holds the header of IPv4, byte 14 of the packet.)
 (find-file "firewall.c")
 (goto-char (point-min))
 (forward-line 53)
 (dap-breakpoint-add)
-(go "firewall" (lambda () (dap-debug (list :type "bpfdb" :request "launch" :name "firewall" :section "xdp" :entry "bpfdb"
+(go "firewall" (lambda () (dap-debug (list :type "bpfdb" :request "launch" :name "firewall"
                                            :program (expand-file-name "firewall.o") :context (expand-file-name "packet.bin")))))
 (go "continue" (lambda () (dap-continue (dap--cur-session) 1)))
 (ask (lambda () (bpfdb-ask "set reg r1 0x100000012")))
