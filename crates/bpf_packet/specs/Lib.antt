@@ -10,3 +10,4 @@ pub mod Least
 pub mod Rewriting
 pub mod Entry
 pub mod Packets
+pub mod Verdicts

@@ -13,7 +13,9 @@ mod slot;
 mod solver;
 mod tables;
 mod uses;
+mod verdict;
 
 pub use fault::{PacketFault, SlotFault, UseFault};
 pub use packet::Packet;
 pub use program::on_packet;
+pub use verdict::verdict_name;
