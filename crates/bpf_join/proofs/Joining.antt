@@ -76,9 +76,8 @@ told_at first places one other records types same again typed told =
     subst (λ b. HasRecords b first places records) (typed ∙ ap (has_types first) same) (subst (λ p. HasRecords types first p records) again told)
 
 -- The code of a joined object.
-pub joined_is : (first second : Plan) (functions : List (Option ℕ)) (own : ℕ) (slots code all : List ℕ) → functions ≡ callees second → own ≡ own_slots first
-    → slots ≡ unlinked first.parts → code ≡ called_below functions own slots own → all ≡ code ++ second.parts.code.slots → all ≡ joined_code first second
-joined_is first second functions own slots code all called size begun made whole =
+pub joined_is : (first second : Plan) (own : ℕ) (slots code all : List ℕ) → own ≡ own_slots first → slots ≡ unlinked first.parts → code ≡ called_below (callees second) own slots own
+    → all ≡ code ++ second.parts.code.slots → all ≡ joined_code first second
+joined_is first second own slots code all size begun made whole =
     whole ∙ ap (λ c. c ++ second.parts.code.slots)
-    (made ∙ (ap (λ f. called_below f own slots own) called ∙ (ap (λ o. called_below (callees second) o slots o) size
-    ∙ ap (λ s. called_below (callees second) (own_slots first) s (own_slots first)) begun)))
+    (made ∙ (ap (λ o. called_below (callees second) o slots o) size ∙ ap (λ s. called_below (callees second) (own_slots first) s (own_slots first)) begun))

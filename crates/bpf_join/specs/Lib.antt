@@ -1,6 +1,7 @@
 pub mod Gathered
 pub mod Functions
 pub mod Codes
+pub mod Known
 pub mod Moved
 pub mod Spots
 pub mod Symbols

@@ -1,11 +1,12 @@
 //! The code of a joined object.
-ghost use Rattle.std.specs.Prelude.{◌≡◌, ◌≤◌, ◌<◌, ◌+◌, ◌*◌, ◌++◌, IfErr, IfOk, List, Option, length};
+ghost use Rattle.std.specs.Prelude.{◌≡◌, ◌≤◌, ◌<◌, ◌+◌, ◌*◌, ◌++◌, IfErr, IfOk, length};
 ghost use Rattle.bpf_isa.specs.Checker.{most_slots};
 ghost use Rattle.bpf_join.specs.Codes.{called_below, called_in, joined_code, own_slots, with_call};
-ghost use Rattle.bpf_link.specs.Parts.{slots_in};
+ghost use Rattle.bpf_join.specs.Functions.{callees};
+ghost use Rattle.bpf_join.specs.Known.{AreKnown};
 ghost use Rattle.bpf_link.specs.declared.fault.LinkFault.TheVariants.{Memory};
 
-use crate::functions::callees;
+use crate::functions::{Asked, answer_to, none_known};
 use bpf_link::{LinkFault, Plan, Side, calls_helper, u32_at, unlinked};
 use byteorder::{ByteOrder, LittleEndian};
 use std::alloc::Global;
@@ -18,19 +19,17 @@ pub fn own_slots(first: &Plan<'_>) -> usize
     first.parts.len()
 }
 
-/// The function that a slot calls.
-fn called_in(functions: &[Option<u16>], slots: &[u8], p: usize) -> Option<u16>
-    requires { 8 * p + 8 ≤ length slots.now }
-    ensures { result ≡ called_in functions.now slots.now p }
+/// The function that a slot calls, where of some helpers the functions are known.
+fn called_in(functions: &Plan<'_>, known: Vec<Option<Option<u16>>>, slots: &[u8], p: usize) -> Asked
+    requires known { AreKnown functions.now known.items }
+    requires inside { 8 * p + 8 ≤ length slots.now }
+    ensures known { AreKnown functions.now result.known.items }
+    ensures to { result.to ≡ called_in (callees functions.now) slots.now p }
 {
     if !calls_helper(slots, p) {
-        return None;
+        return Asked { known, to: None };
     }
-    let number = u32_at(slots, 8 * p + 4) as usize;
-    if number >= functions.len() {
-        return None;
-    }
-    functions[number]
+    answer_to(functions, known, u32_at(slots, 8 * p + 4))
 }
 
 /// Code with a call in a slot, where there is a function.
@@ -52,17 +51,28 @@ fn with_call(own: usize, mut slots: Vec<u8>, p: usize, to: Option<u16>) -> Vec<u
 }
 
 /// The first object's code with its calls.
-fn called(functions: &[Option<u16>], own: usize, slots: Vec<u8>) -> Vec<u8>
+fn called(
+    alloc: Global,
+    functions: &Plan<'_>,
+    own: usize,
+    slots: Vec<u8>,
+) -> Result<Vec<u8>, LinkFault>
     requires small { own ≤ most_slots }
     requires size { 8 * own ≤ length slots.items }
-    ensures { result.items ≡ called_below functions.now own slots.items own }
+    ensures ok { IfOk result (λ code. code.items ≡ called_below (callees functions.now) own slots.items own) }
+    ensures err { IfErr result (λ fault. fault ≡ Memory) }
 {
+    let mut known = match none_known(alloc) {
+        Ok(known) => known,
+        Err(fault) => return Err(fault),
+    };
     let mut all = slots;
     for p in 0..own {
-        let to = called_in(functions, &all, p);
-        all = with_call(own, all, p, to);
+        let asked = called_in(functions, known, &all, p);
+        known = asked.known;
+        all = with_call(own, all, p, asked.to);
     }
-    all
+    Ok(all)
 }
 
 /// Code, and the functions behind it.
@@ -82,16 +92,15 @@ pub fn joined_code(alloc: Global, first: &Plan<'_>, second: &Plan<'_>) -> Result
     ensures ok { IfOk result (λ code. code.items ≡ joined_code first.now second.now) }
     ensures err { IfErr result (λ fault. fault ≡ Memory) }
 {
-    let functions = match callees(alloc, second) {
-        Ok(functions) => functions,
-        Err(fault) => return Err(fault),
-    };
     let slots = match unlinked(alloc, &first.parts) {
         Ok(slots) => slots,
         Err(fault) => return Err(fault),
     };
     first.parts.invariant();
-    let code = called(functions.as_slice(), own_slots(first), slots);
+    let code = match called(alloc, second, own_slots(first), slots) {
+        Ok(code) => code,
+        Err(fault) => return Err(fault),
+    };
     match with_functions(code, second) {
         Ok(all) => Ok(all),
         Err(fault) => Err(fault),

@@ -1,7 +1,9 @@
 //! The functions of an object that answer calls of helpers.
-ghost use Rattle.std.specs.Prelude.{◌≡◌, ◌≤◌, ◌<◌, IfErr, IfOk, IfSome, Some, if◌then◌else◌, length};
+ghost use Rattle.std.specs.Prelude.{◌≡◌, ◌≤◌, ◌<◌, IfErr, IfOk, IfSome, None, Some, get_or, if◌then◌else◌, length};
 ghost use Rattle.bpf_join.specs.Functions.{answering, answers, callee, callees, has_prefix, names_helper, slot_of};
+ghost use Rattle.bpf_join.specs.Known.{AreKnown};
 ghost use Rattle.bpf_link.specs.declared.fault.LinkFault.TheVariants.{Memory};
+ghost use Rattle.bpf_link.specs.declared.plan.Plan.{Plan};
 
 use bpf_link::{
     LinkFault, Plan, Side, SymbolEntry, helper_name, is_program, name_at, symbol_place,
@@ -9,7 +11,7 @@ use bpf_link::{
 use std::alloc::Global;
 
 /// How many helpers have a number in the kernel's list, from 0 on, which is none.
-pub const HELPERS: u32 = 212;
+pub const HELPERS: usize = 212;
 
 /// Whether `bpf_` stands at a place.
 fn has_prefix(bytes: &[u8], at: usize) -> bool
@@ -94,17 +96,42 @@ pub fn callee(functions: &Plan<'_>, number: u32) -> Option<u16>
     slot_of(functions, symbol)
 }
 
-/// The same of each helper, by its number.
-pub fn callees(alloc: Global, functions: &Plan<'_>) -> Result<Vec<Option<u16>>, LinkFault>
-    ensures ok { IfOk result (λ all. all.items ≡ callees functions.now) }
+/// What is known of the functions that answer helpers, and the one that answers the last helper that
+/// was asked for.
+#[derive(Drop)]
+pub struct Asked {
+    /// By the number of each helper the slot at which its function begins, if one does; none of a
+    /// helper that wasn't asked for.
+    pub known: Vec<Option<Option<u16>>>,
+    pub to: Option<u16>,
+}
+
+/// No helper was asked for.
+pub fn none_known(alloc: Global) -> Result<Vec<Option<Option<u16>>>, LinkFault>
+    ensures ok { IfOk result (λ known. (functions : Plan) → AreKnown functions known.items) }
     ensures err { IfErr result (λ fault. fault ≡ Memory) }
 {
-    let mut all = Vec::new(alloc);
-    for number in 0..HELPERS {
-        match all.push(callee(functions, number)) {
-            Ok(()) => {}
-            Err(_) => return Err(LinkFault::Memory),
+    match vec![in alloc; None; HELPERS] {
+        Ok(known) => Ok(known),
+        Err(_) => Err(LinkFault::Memory),
+    }
+}
+
+/// The slot at which the function begins that answers a helper, which is looked for once.
+pub fn answer_to(functions: &Plan<'_>, mut known: Vec<Option<Option<u16>>>, number: u32) -> Asked
+    requires { AreKnown functions.now known.items }
+    ensures known { AreKnown functions.now result.known.items }
+    ensures to { result.to ≡ get_or (callees functions.now) number None }
+{
+    if number as usize >= known.len() {
+        return Asked { known, to: None };
+    }
+    match known[number as usize] {
+        Some(to) => Asked { known, to },
+        None => {
+            let to = callee(functions, number);
+            known[number as usize] = Some(to);
+            Asked { known, to }
         }
     }
-    Ok(all)
 }

@@ -352,7 +352,8 @@ fn fields_of(
 /// The result is an object that `link_with` takes, with the same section. Its other sections are
 /// those of the first object, whose symbols keep their numbers, and the data of the second.
 /// Relocations of fields are refused unless `as_compiled` leaves them. Takes time in proportion to
-/// the lengths of both, and for each undefined symbol and each map in proportion to their symbols.
+/// the lengths of both, and for each helper that is called, each undefined symbol and each map in
+/// proportion to their symbols.
 pub fn join(
     alloc: Global,
     first: &[u8],
