@@ -29,7 +29,8 @@ use Rattle.bpf_origin.proofs.Backs.{back_more}
 use Rattle.bpf_steps.specs.State.{State}
 use Rattle.bpf_whynot.specs.Answers.{only}
 use Rattle.bpf_whynot.specs.Sures.{TellsSure, told_sure}
-use Rattle.bpf_whynot.specs.Branches.{AreBranches, Branches, Quest, end_text, quest_about}
+use Rattle.bpf_whynot.specs.Branches.{AreBranches, Branches, Quest, aim_at, end_text, holds_from, quest_about}
+use Rattle.bpf_whynot.specs.Keeps.{Held, TellsKeep}
 use Rattle.bpf_whynot.specs.Branches.Branches.{ended as is_ended}
 use Rattle.bpf_whynot.specs.Courses.{IsSameCourse, TellsBranches}
 use Rattle.bpf_whynot.specs.BranchTurns.{Begins, GoesOn, Knows, Takes, quest_of}
@@ -54,15 +55,16 @@ module _ {K W : Type 0} (holds : K → List Kept → Type 0) (contents : W → O
     pub writes : WritesAfter contents was before now hunt.told text
     pub is : (rest : Answer) → Branches q k (quest_of hunt wanted) history p.state rest → AreBranches q parts t.history y (with_line text rest)
 
-  begins_about : (hunt : Hunt) (wanted : List Place) (x : State) → Begins x q before hunt → wanted ≡ take most_places (want_parts [] parts)
+  begins_about : (hunt : Hunt) (wanted : List Place) (x : State) → Begins x q before wanted hunt → wanted ≡ take most_places (want_parts [] parts)
       → quest_of hunt wanted ≡ quest_about q parts x
   begins_about hunt wanted x b all =
-      ap (quest_of hunt) all
-      ∙ ap (λ (n : ℕ). record (quest_of hunt (take most_places (want_parts [] parts))) { values = n }) b.values
-      ∙ ap (λ (a : Aim). record (quest_of hunt (take most_places (want_parts [] parts))) { values = q.lines; aim = a }) b.aim
-      ∙ ap (λ (n : ℕ). record (quest_about q parts x) { lines = n }) b.lines
+      ap (λ (n : ℕ). record (quest_of hunt wanted) { values = n }) b.values
+      ∙ ap (λ (a : Aim). record (quest_of hunt wanted) { values = q.lines; aim = a }) b.aim
+      ∙ ap (λ (n : ℕ). record (quest_of hunt wanted) { values = q.lines; aim = aim_at x; lines = n }) b.lines
+      ∙ ap (λ (h : Held). record (quest_of hunt wanted) { values = q.lines; aim = aim_at x; lines = q.lines; held = h }) b.held
+      ∙ ap (λ (ws : List Place). holds_from x (record (quest_of hunt ws) { values = q.lines; aim = aim_at x; lines = q.lines })) all
 
-  pub going_begins : (hunt : Hunt) (wanted : List Place) (p : CourseValue K) → Follows holds p t → p.state ≡ y → Begins p.state q before hunt
+  pub going_begins : (hunt : Hunt) (wanted : List Place) (p : CourseValue K) → Follows holds p t → p.state ≡ y → Begins p.state q before wanted hunt
       → wanted ≡ take most_places (want_parts [] parts) → Going 0 hunt wanted p was
   going_begins hunt wanted p stands at b all = record {
     history = t.history;
@@ -194,7 +196,7 @@ kept_program x (move.Edit e) y leads = ap (λ (z : State). z.program) leads.afte
 
 pub knows_back : (x : State) (m : Move) (y : State) (hunt : Hunt) → Leads x m y → Knows y hunt → Knows x hunt
 knows_back x m y hunt leads knows =
-    subst (λ program. TellsSure program hunt.aim.slot (told_sure hunt.sure)) (kept_program x m y leads) knows
+    subst (λ program. TellsSure program hunt.aim.slot (told_sure hunt.sure) × TellsKeep program hunt.keep) (kept_program x m y leads) knows
 
 -- the course stays of one keeper, one turn after another
 pub same_course : {K : Type 0} (room refusals : K → ℕ) (a b c : CourseValue K) → IsSameCourse room refusals a b → IsSameCourse room refusals b c

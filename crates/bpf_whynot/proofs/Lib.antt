@@ -10,6 +10,7 @@ pub mod Passing
 pub mod Going
 pub mod Latest
 pub mod Surely
+pub mod Keeping
 pub mod Turning
 pub mod BranchGoing
 pub mod Finding

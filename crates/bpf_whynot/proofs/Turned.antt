@@ -12,9 +12,10 @@ use Rattle.bpf_machine.proofs.StepLaws.{change_at}
 use Rattle.bpf_steps.specs.Next.{change_by, changed, jumps as is_taken, next, target}
 use Rattle.bpf_steps.specs.Runs.{state_after}
 use Rattle.bpf_steps.specs.State.{State, depth}
-use Rattle.bpf_whynot.specs.BranchLaws.{BranchesLeadThere, ComesTo, IsWayOut, LoneBranchesArePassedAgain, NoneDecides, SureIsComeTo, TurnedBranchesLeadElsewhere, gone}
+use Rattle.bpf_whynot.specs.BranchLaws.{BranchesLeadThere, ComesTo, IsWayOut, KeptIsNotWritten, LoneBranchesArePassedAgain, NoneDecides, SureIsComeTo, TurnedBranchesLeadElsewhere, gone}
 use Rattle.bpf_whynot.specs.Branches.{DecidesBy, JustOne}
 use Rattle.bpf_whynot.specs.Flows.{ends}
+use Rattle.bpf_whynot.specs.Keeps.{CanWrite, writes_one}
 use Rattle.bpf_whynot.specs.Reach.{calls, goes_on, jumps}
 use Rattle.bpf_whynot.specs.Sures.{IsSure, Way, is_end_but, is_target}
 use Rattle.bpf_whynot.specs.Sures.Way.{there as way_there, on as way_on, jumped as way_jumped}
@@ -247,3 +248,29 @@ lone_branches_are_passed_again x n m slot way i is stands told out other alone c
         (alone (state_after k (gone x way)).pc d.0
         (subst (λ (p : Checked). insn_at p (state_after k (gone x way)).pc ≡ Some d.0) kept d.1)
         (subst (λ (p : Checked). DecidesBy p slot (state_after k (gone x way)).pc d.0) kept d.2))
+
+-- What is kept isn't written.
+unless_true : (b : Bool) → (b ≡ true → ⊥) → b ≡ false
+unless_true true none = absurd (none refl)
+unless_true false none = refl
+
+pub kept_is_not_written : KeptIsNotWritten
+kept_is_not_written x n places wall is never within level apart_from =
+    unless_true (writes_one x.program places wall (state_after n x).pc)
+    (λ writes. last.1 (way_there (start_within x.program (state_after n x).pc last.0) writes))
+  where
+    IsUnwritten : ℕ → Type 0
+    IsUnwritten v = IsStart x.program v × (CanWrite x.program places wall v → ⊥)
+
+    each : (k w : ℕ) → k < n → depth (state_after k x) ≡ depth x → Flow x.program (state_after k x).pc w
+        → IsUnwritten (state_after k x).pc → IsUnwritten w
+    each k w low deep f was = (
+      flow_starts x.program is.checked (state_after k x).pc w f,
+      λ can.
+          was.1
+          (way_before x.program wall.slot (writes_one x.program places wall) (state_after k x).pc w
+          (apart (state_after k x).pc wall.slot (apart_from k (omega (arith, low)) deep)) f can),
+    )
+
+    last : IsUnwritten (state_after n x).pc
+    last = follows x is.checked n within IsUnwritten (is.start, never) each level

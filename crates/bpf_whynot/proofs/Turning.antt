@@ -1,9 +1,11 @@
 -- One move of the pass: what the answer is by it.
 use Rattle.std.proofs.Common.{◌≡◌, ◌≢◌, ◌<◌, inl, inr, ℕ, ◌+◌, ◌-◌, Bool, true, false, List, [], Option, Some, None, refl, sym, ap, subst, ◌∙◌, arith}
-use Rattle.std.specs.Prelude.{Result, ◌↔◌, ◌==◌, not, if◌then◌else◌, ℤ, take}
+use Rattle.std.specs.Prelude.{Result, ◌↔◌, ◌==◌, ◌||◌, nat_lt, not, if◌then◌else◌, ℤ, take}
+use lib.Chars.{codes}
 use Rattle.std.proofs.lemmas.Bool.Decides.{nat_tests}
 use Rattle.counted_io.specs.Counted.{Tally}
 use Rattle.counted_io.specs.Writing.{WritesAfter}
+use Rattle.counted_io.proofs.Appending.{WritesAfter-WritesAfter}
 use Rattle.bpfdb_script.proofs.Telling.{WritesAfter-nothing}
 use Rattle.counted_io.specs.declared.fault.WriteFault.{WriteFault}
 use Rattle.bpf_isa.specs.Programs.{Checked, insn_at}
@@ -28,9 +30,11 @@ use Rattle.bpf_whynot.specs.Flows.{target_slot}
 use Rattle.bpf_whynot.specs.Sures.{IsSure, TellsSure, told_sure}
 use Rattle.bpf_whynot.specs.declared.sure.Sure.{Sure}
 use Rattle.bpf_whynot.proofs.Flowing.{target_back, target_there}
-use Rattle.bpf_whynot.specs.Branches.{Branches, Decided, DecidedIt, DecidesBy, JustOne, Parts, Quest, aim_at, made}
-use Rattle.bpf_whynot.specs.Branches.Branches.{called as is_called, passed as is_passed, valued as is_valued, told as is_told, cut as is_cut}
-use Rattle.bpf_whynot.specs.BranchTurns.{Chases, Knows, Takes, quest_of}
+use Rattle.bpf_whynot.specs.Branches.{Branches, Decided, DecidedIt, DecidesBy, Entered, IsBranch, JustOne, Parts, Quest, aim_at, holds_from, kept_text, made, told_text}
+use Rattle.bpf_whynot.specs.Branches.Branches.{called as is_called, passed as is_passed, valued as is_valued, told as is_told, kept as is_kept, cut as is_cut}
+use Rattle.bpf_whynot.specs.BranchTurns.{Chases, IsOne, IsToldAs, Knows, Takes, quest_of}
+use Rattle.bpf_whynot.specs.Keeps.{Held, KeptIt, TellsKeep, held_of, held_places}
+use Rattle.bpf_whynot.specs.declared.keep.Keep.{Keep}
 use Rattle.bpf_whynot.specs.declared.branch_aim.Aim.{Aim}
 use Rattle.bpf_whynot.specs.declared.hunt.Hunt.{Hunt}
 use Rattle.bpf_whynot.specs.declared.hunt.Turn.{Turn}
@@ -140,25 +144,56 @@ pub edit_here : (b : Bool) (a : Aim) (r : Record) (y : State) → depth r.before
     → ((b ≡ true) ↔ (y.pc ≢ r.before.pc)) → (b ≡ true) ↔ DecidedIt a r y
 edit_here b a r y same is d = both_here b a r y same (by_edit b a.slot r.before y r.move is d)
 
--- what is looked for next
-aimed : (hunt : Hunt) (aim : Aim) (x : State) → aim ≡ aim_at x → (wanted : List Place) → record (quest_of hunt wanted) { aim = aim } ≡ record (quest_of hunt wanted) { aim = aim_at x }
-aimed hunt aim x is wanted = ap (λ (a : Aim). record (quest_of hunt wanted) { aim = a }) is
+-- what is looked for next, and what is held
+abbrev held_by : List Place → Aim → Held
+held_by places wall = record { places = places; wall = wall }
 
-pub chase_same : (x y : State) (aim : Aim) (hunt : Hunt) → y ≡ x → aim ≡ aim_at y → aim.slot ≡ hunt.aim.slot → Knows x hunt
-    → Chases x hunt (On (record { aim = aim; sure = hunt.sure; values = hunt.values; lines = hunt.lines; told = hunt.told }))
-chase_same x y aim hunt at is same knows = (
-  subst (λ (s : ℕ). TellsSure x.program s (told_sure hunt.sure)) (sym same) knows,
+pub hold_new : (x y : State) (aim : Aim) (wanted : List Place) (keep : Keep) (hunt : Hunt) → y ≡ x → aim ≡ aim_at y → TellsKeep y.program keep
+    → held_of keep ≡ record { places = held_places hunt.values wanted; wall = aim } → TellsSure x.program hunt.aim.slot (told_sure hunt.sure)
+    → Chases x wanted hunt.aim hunt
+    (On (record { aim = hunt.aim; sure = hunt.sure; values = hunt.values; lines = hunt.lines; told = hunt.told; keep = keep }))
+hold_new x y aim wanted keep hunt at is tells held sure = (
+  (sure, subst (λ (z : State). TellsKeep z.program keep) at tells),
   refl,
-  aimed hunt aim x (is ∙ ap aim_at at),
+  ap (λ (h : Held). record (quest_of hunt wanted) { held = h }) (held ∙ ap (held_by (held_places hunt.values wanted)) (is ∙ ap aim_at at)),
 )
 
-pub chase_new : (x y : State) (aim : Aim) (sure : Sure) (hunt : Hunt) → y ≡ x → aim ≡ aim_at y → TellsSure y.program aim.slot (told_sure sure)
-    → Chases x hunt (On (record { aim = aim; sure = sure; values = hunt.values; lines = hunt.lines; told = hunt.told }))
-chase_new x y aim sure hunt at is tells = (
-  subst (λ (z : State). TellsSure z.program aim.slot (told_sure sure)) at tells,
-  refl,
-  aimed hunt aim x (is ∙ ap aim_at at),
-)
+pub chases_from : (x : State) (wanted : List Place) (aim : Aim) (sure : Sure) (hunt : Hunt) (turn : Turn) → aim ≡ aim_at x
+    → Chases x wanted aim (record { aim = aim; sure = sure; values = hunt.values; lines = hunt.lines; told = hunt.told; keep = hunt.keep }) turn
+    → Chases x wanted (aim_at x) hunt turn
+chases_from x wanted aim sure hunt (Cut written) is chases = absurd chases
+chases_from x wanted aim sure hunt (On next) is chases =
+    (chases.0, chases.1, chases.2 ∙ ap (λ (a : Aim). holds_from x (record (quest_of hunt wanted) { aim = a })) is)
+
+pub is_lower : (a b : ℕ) → a < b → nat_lt a b ≡ true
+is_lower a b low = grind (arith, nat_tests, low)
+
+pub not_lower : (a b : ℕ) → (a < b → ⊥) → nat_lt a b ≡ false
+not_lower a b high = grind (arith, nat_tests, high)
+
+-- a branch that decided, or kept a value
+none_of : (a b : Bool) → (a || b) ≡ false → (a ≡ false) × (b ≡ false)
+none_of true b e = absurd cc
+none_of false b e = (refl, e)
+
+pub no_branch : (decided kept some : Bool) (s : Quest) (r : Record) (y : State) → (decided ≡ true) ↔ DecidedIt s.aim r y → (kept ≡ true) ↔ KeptIt s.held r y
+    → some ≡ (decided || kept) → some ≡ false → IsBranch s r y → ⊥
+no_branch decided kept some s r y d k e none branch =
+    let both = none_of decided kept (sym e ∙ none) in
+    elim branch [ inl x ↦ clash decided (d.1 x) both.0 | inr x ↦ clash kept (k.1 x) both.1 ]
+
+one_of : (b : Bool) (decided kept : Bool) (s : Quest) (r : Record) (y : State) → (b ≡ true) ↔ DecidedIt s.aim r y → (kept ≡ true) ↔ KeptIt s.held r y
+    → b ≡ decided → (decided || kept) ≡ true → IsOne decided s r y
+one_of b true kept s r y d k e some = d.0 e
+one_of b false kept s r y d k e some = ((λ is. clash b (d.1 is) e), k.0 some)
+
+pub told_as : (decided kept some : Bool) (s : Quest) (r : Record) (y : State) → (decided ≡ true) ↔ DecidedIt s.aim r y → (kept ≡ true) ↔ KeptIt s.held r y
+    → some ≡ (decided || kept) → some ≡ true → made s r y ≡ false → (Entered s r → ⊥) → IsToldAs decided s r y
+told_as decided kept some s r y d k e is other inside = record {
+  other = other;
+  inside = inside;
+  one = one_of decided decided kept s r y d k refl (sym e ∙ is);
+}
 
 -- what a move read
 pub read_by_step : (addresses : Bool) (x : State) (m : Move) → is_step m ≡ true → followed addresses x m ≡ followed addresses x move.Step
@@ -178,17 +213,18 @@ module _ {W : Type 0} (contents : W → Option (List ℕ)) (q : Question) (k : �
   told_on old a b e = subst (λ (told : Result (Unit {0}) WriteFault). WritesAfter contents old b old told []) (sym e) (WritesAfter-nothing contents old b)
 
   pub turn_passes : (old : Tally W) (hunt : Hunt) → left ≡ still_wanted y (overwritten r.before r.move) wanted → made (quest_of hunt wanted) r y ≡ false
-      → Knows r.before hunt → (depth r.before < hunt.aim.depth → ⊥) → (DecidedIt hunt.aim r y → ⊥)
+      → Knows r.before hunt → (Entered (quest_of hunt wanted) r → ⊥) → (IsBranch (quest_of hunt wanted) r y → ⊥)
       → Takes contents q k r h y wanted left old hunt old (On hunt)
-  turn_passes old hunt still not knows other none = record {
+  turn_passes old hunt still not knows inside none = record {
     knows = knows;
     text = [];
     writes = WritesAfter-nothing contents old hunt.told;
-    is = λ rest on. is_passed not other none (on_with _ _ rest (ap (quest_of hunt) still) on);
+    is = λ rest on. is_passed not inside none (on_with _ _ rest (ap (quest_of hunt) still) on);
   }
 
   pub turn_calls : (old : Tally W) (hunt : Hunt) (turn : Turn) → left ≡ still_wanted y (overwritten r.before r.move) wanted → made (quest_of hunt wanted) r y ≡ false
-      → depth r.before < hunt.aim.depth → Chases r.before hunt turn
+      → Entered (quest_of hunt wanted) r
+      → Chases r.before left (if nat_lt (depth r.before) hunt.aim.depth then aim_at r.before else hunt.aim) hunt turn
       → Takes contents q k r h y wanted left old hunt old turn
   turn_calls old hunt (Cut written) still not low chases = absurd chases
   turn_calls old hunt (On next) still not low chases = record {
@@ -197,11 +233,13 @@ module _ {W : Type 0} (contents : W → Option (List ℕ)) (q : Question) (k : �
     writes = told_on old next.told hunt.told chases.1;
     is = λ rest on.
         is_called not low
-        (on_with _ _ rest (chases.2 left ∙ ap (λ (ws : List Place). record (quest_of hunt ws) { aim = aim_at r.before }) still) on);
+        (on_with _ _ rest
+        (chases.2
+        ∙ ap (λ (ws : List Place). holds_from r.before (record (quest_of hunt ws) { aim = if nat_lt (depth r.before) hunt.aim.depth then aim_at r.before else hunt.aim })) still) on);
   }
 
   pub turn_values : (old : Tally W) (hunt : Hunt) (turn : Turn) → left ≡ take most_places (wanted_before q r y wanted) → made (quest_of hunt wanted) r y ≡ true
-      → Chases r.before (record hunt { values = hunt.values - 1 }) turn
+      → Chases r.before left (aim_at r.before) (record hunt { values = hunt.values - 1 }) turn
       → Takes contents q k r h y wanted left old hunt old turn
   turn_values old hunt (Cut written) more is chases = absurd chases
   turn_values old hunt (On next) more is chases = record {
@@ -211,25 +249,47 @@ module _ {W : Type 0} (contents : W → Option (List ℕ)) (q : Question) (k : �
     is = λ rest on.
         is_valued is
         (on_with _ _ rest
-        (chases.2 left ∙ ap (λ (ws : List Place). record (quest_of (record hunt { values = hunt.values - 1 }) ws) { aim = aim_at r.before }) more) on);
+        (chases.2
+        ∙ ap (λ (ws : List Place). holds_from r.before (record (quest_of (record hunt { values = hunt.values - 1 }) ws) { aim = aim_at r.before })) more) on);
   }
 
-  pub turn_cuts : (old now : Tally W) (hunt : Hunt) (written : Result (Unit {0}) WriteFault) → made (quest_of hunt wanted) r y ≡ false → DecidedIt hunt.aim r y
-      → hunt.lines ≡ 0 → WritesAfter contents old hunt.told now written lines_text → Takes contents q k r h y wanted left old hunt now (Cut written)
-  turn_cuts old now hunt written not here none writes = (writes, is_cut not here none)
+  one_branch : (decided : Bool) (s : Quest) → IsOne decided s r y → IsBranch s r y
+  one_branch true s one = inl one
+  one_branch false s one = inr one.1
 
-  pub turn_tells : (old now : Tally W) (hunt : Hunt) (told : Result (Unit {0}) WriteFault) (turn : Turn) → left ≡ still_wanted y (overwritten r.before r.move) wanted
-      → made (quest_of hunt wanted) r y ≡ false → DecidedIt hunt.aim r y → 0 < hunt.lines
-      → WritesAfter contents old hunt.told now told (lost_line q.places (k + 1) r.before r.move y)
-      → Chases r.before (record { aim = hunt.aim; sure = hunt.sure; values = hunt.values; lines = hunt.lines - 1; told = told }) turn
+  pub turn_cuts : (old now : Tally W) (hunt : Hunt) (decided : Bool) (written : Result (Unit {0}) WriteFault) → IsToldAs decided (quest_of hunt wanted) r y
+      → hunt.lines ≡ 0 → WritesAfter contents old hunt.told now written lines_text → Takes contents q k r h y wanted left old hunt now (Cut written)
+  turn_cuts old now hunt decided written this none writes =
+      (writes, is_cut this.other this.inside (one_branch decided (quest_of hunt wanted) this.one) none)
+
+  -- the text of either line
+  abbrev before_line : Bool → List ℕ
+  before_line decided = if decided then [] else codes "kept: "
+
+  pub turn_tells : (old mid now : Tally W) (hunt : Hunt) (decided : Bool) (begun told : Result (Unit {0}) WriteFault) (turn : Turn)
+      → left ≡ still_wanted y (overwritten r.before r.move) wanted → IsToldAs decided (quest_of hunt wanted) r y → 0 < hunt.lines
+      → WritesAfter contents old hunt.told mid begun (before_line decided)
+      → WritesAfter contents mid begun now told (lost_line q.places (k + 1) r.before r.move y)
+      → Chases r.before left (if decided then aim_at r.before else hunt.aim) (record hunt { lines = hunt.lines - 1; told = told }) turn
       → Takes contents q k r h y wanted left old hunt now turn
-  turn_tells old now hunt told (Cut written) still not here some writes chases = absurd chases
-  turn_tells old now hunt told (On next) still not here some writes chases = record {
+  turn_tells old mid now hunt decided begun told (Cut written) still this some first line chases = absurd chases
+  turn_tells old mid now hunt true begun told (On next) still this some first line chases = record {
     knows = chases.0;
-    text = lost_line q.places (k + 1) r.before r.move y;
-    writes = subst (λ (last : Result (Unit {0}) WriteFault). WritesAfter contents old hunt.told now last (lost_line q.places (k + 1) r.before r.move y)) (sym chases.1) writes;
+    text = told_text q (k + 1) r y;
+    writes = subst (λ (last : Result (Unit {0}) WriteFault). WritesAfter contents old hunt.told now last (told_text q (k + 1) r y)) (sym chases.1)
+        (WritesAfter-WritesAfter contents old mid now hunt.told begun told [] (told_text q (k + 1) r y) (told_text q (k + 1) r y) first line refl);
     is = λ rest on.
-        is_told not here some
+        is_told this.other this.inside this.one some
         (on_with _ _ rest
-        (chases.2 left ∙ ap (λ (ws : List Place). record (quest_of hunt ws) { aim = aim_at r.before; lines = hunt.lines - 1 }) still) on);
+        (chases.2 ∙ ap (λ (ws : List Place). holds_from r.before (record (quest_of hunt ws) { aim = aim_at r.before; lines = hunt.lines - 1 })) still) on);
+  }
+  turn_tells old mid now hunt false begun told (On next) still this some first line chases = record {
+    knows = chases.0;
+    text = kept_text q (k + 1) r y;
+    writes = subst (λ (last : Result (Unit {0}) WriteFault). WritesAfter contents old hunt.told now last (kept_text q (k + 1) r y)) (sym chases.1)
+        (WritesAfter-WritesAfter contents old mid now hunt.told begun told (codes "kept: ") (told_text q (k + 1) r y) (kept_text q (k + 1) r y) first line refl);
+    is = λ rest on.
+        is_kept this.other this.inside this.one.0 this.one.1 some
+        (on_with _ _ rest
+        (chases.2 ∙ ap (λ (ws : List Place). holds_from r.before (record (quest_of hunt ws) { lines = hunt.lines - 1 })) still) on);
   }

@@ -1,15 +1,18 @@
 -- Laws of what branches decide: why it is enough to look, in a call of a function, for the oldest slot that is to be explained; and what it means
--- for the runs of a machine that a slot is sure, that a branch decided it, and that this one had gone the other way.
-use Rattle.std.specs.Prelude.{◌≡◌, ◌≢◌, ◌≤◌, ◌<◌, ◌⊎◌, ℕ, suc, ◌+◌, pos, Some}
+-- for the runs of a machine that a slot is sure, that a branch decided it, that this one had gone the other way, and that one kept a value.
+use Rattle.std.specs.Prelude.{◌≡◌, ◌≢◌, ◌≤◌, ◌<◌, ◌⊎◌, ℕ, suc, ◌+◌, pos, false, List, Some}
 use Rattle.bpf_isa.specs.Programs.{Checked, insn_at, target_of}
 use Rattle.bpf_isa.specs.declared.instruction.Insn.{Insn}
 use Rattle.bpf_isa.specs.declared.instruction.Insn.TheVariants.{Exit}
 use Rattle.bpf_machine.specs.declared.moves.Move.TheVariants.{Step}
+use Rattle.bpf_origin.specs.declared.place.Place.{Place}
 use Rattle.bpf_steps.specs.Next.{next}
 use Rattle.bpf_steps.specs.Runs.{state_after}
 use Rattle.bpf_steps.specs.State.{State, IsState, depth}
 use Rattle.bpf_whynot.specs.Sures.{IsSure}
 use Rattle.bpf_whynot.specs.Branches.{Decided, DecidesBy}
+use Rattle.bpf_whynot.specs.Keeps.{CanWrite, writes_one}
+use Rattle.bpf_whynot.specs.declared.branch_aim.Aim.{Aim}
 
 -- Where a function comes to an older slot surely, and from there to a younger one, it comes to the younger one surely.
 abbrev pub SureGoesOn : Type 0
@@ -82,3 +85,11 @@ LoneBranchesArePassedAgain =
     (x : State) (n m slot way : ℕ) (i : Insn) → IsState x → insn_at x.program x.pc ≡ Some i → IsTold x n slot →
     IsWayOut x.pc i way → way ≢ (next x).pc → DecidesAlone x.program slot x.pc →
     ComesTo (gone x way) m slot → NeverAt (gone x way) m x.pc → ⊥
+
+-- What is kept isn't written: from a state from which the function can't write some places before it comes to a slot, in that call it takes no step at an
+-- instruction that may write one, as long as it comes to that slot after none of the steps.
+abbrev pub KeptIsNotWritten : Type 0
+KeptIsNotWritten =
+    (x : State) (n : ℕ) (places : List Place) (wall : Aim) → IsState x → (CanWrite x.program places wall x.pc → ⊥) →
+    GoesOnFor x n → depth (state_after n x) ≡ depth x → NeverAt x n wall.slot →
+    writes_one x.program places wall (state_after n x).pc ≡ false

@@ -12,6 +12,7 @@ pub mod Aims
 pub mod Looks
 pub mod Sures
 pub mod Standings
+pub mod Keeps
 pub mod Branches
 pub mod Courses
 pub mod BranchLaws

@@ -1,5 +1,5 @@
 //! Laws of the definitions, each proved as the contract of a function that does nothing.
-ghost use Rattle.bpf_whynot.specs.BranchLaws.{BranchesLeadThere, LoneBranchesArePassedAgain, OlderIsDecided, SureGoesOn, SureIsComeTo, TurnedBranchesLeadElsewhere};
+ghost use Rattle.bpf_whynot.specs.BranchLaws.{BranchesLeadThere, KeptIsNotWritten, LoneBranchesArePassedAgain, OlderIsDecided, SureGoesOn, SureIsComeTo, TurnedBranchesLeadElsewhere};
 
 /// Where a branch decided that a function came to a slot, and went a way that leads surely to an
 /// older slot, and from there surely to that one, it decided that the function came to the older
@@ -34,4 +34,11 @@ pub fn turned_branches_lead_elsewhere()
 #[tactic(none)]
 pub fn lone_branches_are_passed_again()
     ensures { LoneBranchesArePassedAgain }
+{}
+
+/// What is kept isn't written: from where a function can't write some places before it comes to a
+/// slot, no run of the machine takes a step, in that call, at an instruction that may write one.
+#[tactic(none)]
+pub fn kept_is_not_written()
+    ensures { KeptIsNotWritten }
 {}

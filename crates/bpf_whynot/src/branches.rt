@@ -12,6 +12,7 @@ ghost use Rattle.counted_io.specs.Writing.{WritesAfter};
 
 use crate::branch_aim::Aim;
 use crate::hunt::{Hunt, Turn};
+use crate::keep::Keep;
 use crate::turn::{chase, turn};
 use crate::value::{spare_written, want_read};
 use crate::{Standing, Sure};
@@ -42,7 +43,7 @@ pub fn put_branches<K: Keeper, W: Write>(
 {
     wanted.clear();
     let _all = wanted.want_parts(parts);
-    let mut hunt = match begin(alloc, course.cpu(), question, so_far) {
+    let mut hunt = match begin(alloc, course.cpu(), wanted, question, so_far) {
         Ok(hunt) => hunt,
         Err(error) => return Err(error),
     };
@@ -76,19 +77,26 @@ pub fn put_branches<K: Keeper, W: Write>(
 fn begin(
     alloc: Global,
     cpu: &Cpu,
+    wanted: &Wanted,
     question: Question<'_>,
     so_far: Result<(), WriteFault>,
 ) -> Result<Hunt, AllocError>
-    ensures { IfOk result (λ hunt. Begins cpu.now question.entry so_far hunt) }
+    ensures { IfOk result (λ hunt. Begins cpu.now question.entry so_far wanted.now hunt) }
 {
+    cpu.invariant();
     let aim = Aim::of(cpu);
-    match Sure::find(alloc, cpu.program(), aim.slot) {
-        Ok(sure) => Ok(Hunt {
+    let sure = match Sure::find(alloc, cpu.program(), aim.slot) {
+        Ok(sure) => sure,
+        Err(error) => return Err(error),
+    };
+    match Keep::find(alloc, cpu.program(), aim, wanted, question.lines) {
+        Ok(keep) => Ok(Hunt {
             aim,
             sure,
             values: question.lines,
             lines: question.lines,
             told: so_far,
+            keep,
         }),
         Err(error) => Err(error),
     }
@@ -123,7 +131,7 @@ fn take<K: Keeper, W: Write>(
     let is_told = has_line(hit, hunt.values);
     if is_told {
         let _all = want_read(cpu, taken.is_step, question.addresses, wanted);
-        return follow(alloc, cpu, hunt);
+        return follow(alloc, cpu, wanted, hunt);
     }
     turn(
         alloc,
@@ -133,6 +141,7 @@ fn take<K: Keeper, W: Write>(
         moves,
         question,
         hunt,
+        wanted,
         writer,
     )
 }
@@ -146,19 +155,21 @@ fn has_line(hit: bool, values: u64) -> bool
 
 /// Looks from now on for how the machine came to a move that made a value, the next one from where
 /// it stands.
-fn follow(alloc: Global, cpu: &Cpu, hunt: Hunt) -> Result<Turn, AllocError>
+fn follow(alloc: Global, cpu: &Cpu, wanted: &Wanted, hunt: Hunt) -> Result<Turn, AllocError>
     ensures { IfOk result (λ turn. (x : State) → cpu.now ≡ x → Knows x hunt →
-        Chases x (record hunt { values = hunt.values - 1 }) turn) }
+        Chases x wanted.now (spec.aim_at x) (record hunt { values = hunt.values - 1 }) turn) }
 {
     chase(
         alloc,
         cpu,
+        wanted,
         Hunt {
             aim: hunt.aim,
             sure: hunt.sure,
             values: hunt.values.saturating_sub(1),
             lines: hunt.lines,
             told: hunt.told,
+            keep: hunt.keep,
         },
     )
 }

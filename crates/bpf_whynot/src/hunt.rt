@@ -2,6 +2,7 @@
 
 use crate::Sure;
 use crate::branch_aim::Aim;
+use crate::keep::Keep;
 use counted_io::WriteFault;
 
 /// What is looked for, and what was told so far.
@@ -17,6 +18,8 @@ pub struct Hunt {
     pub lines: u64,
     /// Whether what was told could be written.
     pub told: Result<(), WriteFault>,
+    /// What holds the values that are looked for.
+    pub keep: Keep,
 }
 
 /// What became of one move of the pass.

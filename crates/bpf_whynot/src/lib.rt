@@ -1,6 +1,6 @@
 //! Why a program did not come to an instruction: where it could still have come to, and the move
 //! after which it couldn't; and why it came to where it stands: the branches that decided it, by
-//! dynamic control dependence over the history that is kept.
+//! dynamic control dependence over the history that is kept, and those that kept a value as it was.
 #![tactic(auto)]
 
 mod aim;
@@ -12,10 +12,13 @@ mod fault;
 mod flow;
 mod goals;
 mod hunt;
+mod keep;
+mod kept;
 pub mod laws;
 mod level;
 mod line;
 mod look;
+mod may_write;
 mod reach;
 mod search;
 mod sources;

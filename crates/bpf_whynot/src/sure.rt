@@ -1,5 +1,5 @@
 //! From where a function comes to a slot surely, whatever conditions decide.
-ghost use Rattle.std.specs.Prelude.{◌≡◌, IfOk, length};
+ghost use Rattle.std.specs.Prelude.{◌≡◌, ℕ, Bool, IfOk, length};
 ghost use Rattle.bpf_whynot.specs.Flows.{AreSources};
 ghost use Rattle.bpf_whynot.specs.Levels.{AreSeeds};
 ghost use Rattle.bpf_whynot.specs.Sures as spec;
@@ -60,23 +60,32 @@ fn ways(
     ensures { IfOk result (λ marks. spec.AreWays program.now slot
         (spec.last_of program.now slot to_slot) marks.items) }
 {
+    match last_slots(alloc, program, slot, to_slot) {
+        Ok(seeds) => ways_to(alloc, program, sources, slot, seeds.as_slice()),
+        Err(error) => Err(error),
+    }
+}
+
+/// From which slots there is a way to a flagged one, which doesn't go on from a slot.
+pub(crate) fn ways_to(
+    alloc: Global,
+    program: &Program,
+    sources: &Sources,
+    slot: usize,
+    seeds: &[bool],
+) -> Result<Vec<bool>, AllocError>
+    requires sources { AreSources program.now (length program.now.insns) sources.now }
+    requires seeds { length seeds.now ≡ length program.now.insns }
+    ensures { IfOk result (λ marks. (last : ℕ → Bool) →
+        AreSeeds last (length program.now.insns) seeds.now →
+        spec.AreWays program.now slot last marks.items) }
+{
     program.invariant();
-    let seeds = match last_slots(alloc, program, slot, to_slot) {
-        Ok(seeds) => seeds,
-        Err(error) => return Err(error),
-    };
     let above = match Vec::from_elem(alloc, true, program.len()) {
         Ok(above) => above,
         Err(error) => return Err(error),
     };
-    come_back(
-        alloc,
-        program,
-        above.as_slice(),
-        sources,
-        slot,
-        seeds.as_slice(),
-    )
+    come_back(alloc, program, above.as_slice(), sources, slot, seeds)
 }
 
 /// The slot, or the other ones in which a function ends.

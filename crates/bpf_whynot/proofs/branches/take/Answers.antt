@@ -48,7 +48,7 @@ returns-clause-takes g c =
     let hit = c.spare_written-hit.ensures.hit r h f stands in
     let still = c.spare_written-hit.ensures.still r h f stands in
     let is = c.has_line-is_told.ensures ∙ ap (λ (b : Bool). if c.args.hunt.values == 0 then false else b) hit in
-    takes k r h c.args.course.now.state c.args.wanted.now _ still m (c.cpu-cpu.ensures ∙ back.1.at) step
+    takes k r h c.args.course.now.state c.args.wanted.now still m (c.cpu-cpu.ensures ∙ back.1.at) step
     (c.of-after.ensures ∙ ap standing c.cpu.ensures)
     (knows_back r.before r.move c.args.course.now.state c.args.hunt stands.history.1.0 knows) (sym is ∙ c.if-is_told.false))
     c.turn.ensures

@@ -11,7 +11,7 @@ returns-then-deep-own c = λ r y here step stood knows.
 pub returns-then-is_step : goal.returns-then-is_step
 returns-then-is_step c = λ r y here step stood knows.
     step_here _ c.args.hunt.now.aim r y (sym (ap depth here) ∙ sym c.depth-deep.ensures ∙ c.if-deep-own.false) (sym step ∙ c.if-is_step.true)
-    (rw here at (c.decides.ensures c.args.hunt.now.aim.slot y (rw here knows)))
+    (rw here at (c.decides.ensures c.args.hunt.now.aim.slot y (rw here knows.0)))
 
 pub returns-else-is_step : goal.returns-else-is_step
 returns-else-is_step c = λ r y here step stood knows.
