@@ -17,6 +17,7 @@ use Rattle.bpf_steps.specs.State.{State, IsState}
 use Rattle.bpf_steps.proofs.Resolved.{start-within}
 use Rattle.bpf_machine.proofs.StepLaws.{law_rest}
 use Rattle.bpf_trace.specs.Runs.{steps_of}
+use Rattle.bpfdb_script.specs.SlotTexts.{SlotTexts, text_of_slot}
 use Rattle.bpf_trace.specs.Profiles.{count_line, count_lines, profile_of, times}
 use Rattle.bpf_session.specs.Plain.{plain_end}
 use Rattle.bpf_trace.proofs.Stepping.{Steps-none, Steps-more, none_ended, none_left, one_more_step, whole_end}
@@ -126,19 +127,19 @@ ended_if_err (Ok w) b fault iff e = absurd cc
 ended_if_err (Err x) b fault iff e = iff.0 refl
 
 -- the line of a slot
-pub count_there : (p : Checked) (slot count : ℕ) (i : Insn) → Some i ≡ insn_at p slot
-    → decimal count ++ codes " " ++ text_at p slot ++ codes "\n" ≡ count_line p slot count
+pub count_there : (texts : SlotTexts) (p : Checked) (slot count : ℕ) (i : Insn) → Some i ≡ insn_at p slot
+    → decimal count ++ codes " " ++ text_at p slot ++ text_of_slot texts slot ++ codes "\n" ≡ count_line texts p slot count
 unfolding count_line
-count_there p slot count i e = ap (λ (o : Option Insn). option_map_or (λ i. decimal count ++ codes " " ++ text_at p slot ++ codes "\n") o []) e
+count_there texts p slot count i e = ap (λ (o : Option Insn). option_map_or (λ i. decimal count ++ codes " " ++ text_at p slot ++ text_of_slot texts slot ++ codes "\n") o []) e
 
-pub count_nowhere : (p : Checked) (slot count : ℕ) → None ≡ insn_at p slot → [] ≡ count_line p slot count
+pub count_nowhere : (texts : SlotTexts) (p : Checked) (slot count : ℕ) → None ≡ insn_at p slot → [] ≡ count_line texts p slot count
 unfolding count_line
-count_nowhere p slot count e = ap (λ (o : Option Insn). option_map_or (λ i. decimal count ++ codes " " ++ text_at p slot ++ codes "\n") o []) e
+count_nowhere texts p slot count e = ap (λ (o : Option Insn). option_map_or (λ i. decimal count ++ codes " " ++ text_at p slot ++ text_of_slot texts slot ++ codes "\n") o []) e
 
 -- the lines from a slot on
-pub lines_next : (p : Checked) (counts : List ℕ) (slot : ℕ) → slot < length counts
-    → count_lines p slot (drop slot counts) ≡ count_line p slot (get_or counts slot 0) ++ count_lines p (slot + 1) (drop (slot + 1) counts)
-lines_next p counts slot within = ap (count_lines p slot) (drop_more counts slot 0 within)
+pub lines_next : (texts : SlotTexts) (p : Checked) (counts : List ℕ) (slot : ℕ) → slot < length counts
+    → count_lines texts p slot (drop slot counts) ≡ count_line texts p slot (get_or counts slot 0) ++ count_lines texts p (slot + 1) (drop (slot + 1) counts)
+lines_next texts p counts slot within = ap (count_lines texts p slot) (drop_more counts slot 0 within)
 
-pub lines_end : (p : Checked) (counts : List ℕ) (slot : ℕ) → length counts ≤ slot → count_lines p slot (drop slot counts) ≡ []
-lines_end p counts slot all = ap (count_lines p slot) (drop_all slot counts all)
+pub lines_end : (texts : SlotTexts) (p : Checked) (counts : List ℕ) (slot : ℕ) → length counts ≤ slot → count_lines texts p slot (drop slot counts) ≡ []
+lines_end texts p counts slot all = ap (count_lines texts p slot) (drop_all slot counts all)

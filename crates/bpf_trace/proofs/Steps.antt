@@ -68,29 +68,34 @@ text_is p texts slot e start = ap (λ (ts : List (List ℕ)). slice_index_or ts 
     ∙ get_or-map-range_with_len (slot_text p) 0 (length p.insns) slot slot [] (start-within p slot start) (omega arith)
     ∙ text_found p slot (insn_at p slot) refl start
 
-joined : (n text rest more : List ℕ) → rest ≡ more → (n ++ (codes " " ++ text)) ++ (rest ++ codes "\n") ≡ n ++ codes " " ++ text ++ more ++ codes "\n"
-joined n text rest more e = simp append_assoc (ap (λ (r : List ℕ). n ++ (codes " " ++ (text ++ (r ++ codes "\n")))) e)
+joined : (n text rest more place : List ℕ) → rest ≡ more
+    → (n ++ (codes " " ++ text)) ++ ((rest ++ place) ++ codes "\n") ≡ n ++ codes " " ++ text ++ more ++ place ++ codes "\n"
+joined n text rest more place e = simp append_assoc (ap (λ (r : List ℕ). n ++ (codes " " ++ (text ++ (r ++ (place ++ codes "\n"))))) e)
+
+moved : (told line rest place : List ℕ) → told ++ ((line ++ rest) ++ place ++ codes "\n") ≡ (told ++ line) ++ ((rest ++ place) ++ codes "\n")
+moved told line rest place = simp append_assoc refl
 
 -- the whole line, of which some is told
-pub whole_line : (k : ℕ) (x y : State) (told line text more all : List ℕ) → IsState x → y ≡ next x → text ≡ text_at x.program x.pc
-    → told ++ line ≡ decimal k ++ codes " " ++ text → more ≡ line ++ flat_map (written_text y) (parts_by y (change x)) → all ≡ more ++ codes "\n"
-    → told ++ all ≡ step_line k x
+pub whole_line : (k : ℕ) (x y : State) (told line text more place all : List ℕ) → IsState x → y ≡ next x → text ≡ text_at x.program x.pc
+    → told ++ line ≡ decimal k ++ codes " " ++ text → more ≡ line ++ flat_map (written_text y) (parts_by y (change x)) → all ≡ more ++ place ++ codes "\n"
+    → told ++ all ≡ step_line place k x
 unfolding step_line
-whole_line k x y told line text more all is e named parts wrote ends =
+whole_line k x y told line text more place all is e named parts wrote ends =
     let lead : told ++ line ≡ decimal k ++ (codes " " ++ text_at x.program x.pc) =
     parts ∙ ap (λ (t : List ℕ). decimal k ++ codes " " ++ t) named ∙ append_assoc (decimal k) (codes " ") (text_at x.program x.pc) in
     let rest = flat_map (written_text y) (parts_by y (change x)) in
     let same : flat_map (written_text y) (parts_by y (change x)) ≡ flat_map (written_text (next x)) (written (next x) (step_entry x)) =
     ap (flat_map (written_text y)) (sym (step_wrote x y is)) ∙ ap (λ (z : State). flat_map (written_text z) (written z (step_entry x))) e in
-    ap (λ (t : List ℕ). told ++ t) (ends ∙ ap (λ (t : List ℕ). t ++ codes "\n") wrote ∙ append_assoc line rest (codes "\n"))
-    ∙ sym (append_assoc told line (rest ++ codes "\n"))
-    ∙ ap (λ (t : List ℕ). t ++ (rest ++ codes "\n")) lead
-    ∙ joined (decimal k) (text_at x.program x.pc) _ _ same
+    ap (λ (t : List ℕ). told ++ t) (ends ∙ ap (λ (t : List ℕ). t ++ place ++ codes "\n") wrote)
+    ∙ moved told line rest place
+    ∙ ap (λ (t : List ℕ). t ++ ((rest ++ place) ++ codes "\n")) lead
+    ∙ joined (decimal k) (text_at x.program x.pc) _ _ place same
 
 -- the line of a step that was taken
-pub taken_line : (k : ℕ) (x y : State) (taken : Taken) → Took x y taken
-    → (((decimal k ++ codes " ") ++ text_at y.program taken.slot) ++ flat_map (written_text y) (parts_by y taken.change)) ++ codes "\n" ≡ step_line k x
-taken_line k x y taken t =
+pub taken_line : (k : ℕ) (x y : State) (taken : Taken) (place : List ℕ) → Took x y taken
+    → ((((decimal k ++ codes " ") ++ text_at y.program taken.slot) ++ flat_map (written_text y) (parts_by y taken.change)) ++ place) ++ codes "\n"
+    ≡ step_line place k x
+taken_line k x y taken place t =
     let text = text_at y.program taken.slot in
     let line = decimal k ++ codes " " ++ text in
     let wrote = flat_map (written_text y) (parts_by y taken.change) in
@@ -98,4 +103,4 @@ taken_line k x y taken t =
     ap (λ (p : Checked). text_at p taken.slot) (ap (λ (z : State). z.program) t.next ∙ next-program x) ∙ ap (text_at x.program) t.slot in
     let parts : line ++ wrote ≡ line ++ flat_map (written_text y) (parts_by y (change x)) =
     ap (λ (c : Change). line ++ flat_map (written_text y) (parts_by y c)) t.change in
-    whole_line k x y [] line text (line ++ wrote) ((line ++ wrote) ++ codes "\n") t.is t.next named refl parts refl
+    whole_line k x y [] line text (line ++ wrote) place (((line ++ wrote) ++ place) ++ codes "\n") t.is t.next named refl parts refl

@@ -7,6 +7,7 @@ mod ending;
 mod head;
 pub mod laws;
 mod line;
+mod line_end;
 mod marks;
 mod parts;
 mod profile;

@@ -7,7 +7,7 @@ ghost use Rattle.counted_io.specs.Writing.{WritesAfter};
 use crate::ending::put_end;
 use bpf_isa::Program;
 use bpf_machine::{Cpu, Ended};
-use bpfdb_script::put_at;
+use bpfdb_script::{SlotTexts, put_at, text_of_slot};
 use counted_io::{Counted, WriteFault, put, put_decimal};
 use std::alloc::{AllocError, Global};
 use std::io::Write;
@@ -41,38 +41,41 @@ impl Profile {
         Ok(Profile { counts })
     }
 
-    /// Writes the line of each instruction: how often it ran, its slot and its text.
+    /// Writes the line of each instruction: how often it ran, its slot and its text, and what is told
+    /// of its slot.
     fn put<W: Write>(
         &self,
         writer: &mut Counted<W>,
         so_far: Result<(), WriteFault>,
+        texts: SlotTexts<'_>,
         program: &Program,
     ) -> Result<(), WriteFault>
         ensures { WritesAfter W.contents writer.old so_far writer.new result
-            (count_lines program.now 0 self.now) }
+            (count_lines texts.entry program.now 0 self.now) }
     {
         let counts = self.counts.as_slice();
         let mut told = so_far;
         for slot in 0..counts.len() {
-            told = put_count(writer, told, program, slot, counts[slot]);
+            told = put_count(writer, told, texts, program, slot, counts[slot]);
         }
         told
     }
 }
 
-/// Writes the profile of a run, from the machine that it left: the line of each instruction, and
-/// where the machine stands.
+/// Writes the profile of a run, from the machine that it left: the line of each instruction, with what
+/// is told of its slot, and where the machine stands.
 pub fn put_profile<W: Write>(
     writer: &mut Counted<W>,
     so_far: Result<(), WriteFault>,
+    texts: SlotTexts<'_>,
     profile: &Profile,
     limit: u64,
     cpu: &Cpu,
 ) -> Result<(), WriteFault>
     ensures { WritesAfter W.contents writer.old so_far writer.new result
-        (counts_text profile.now limit cpu.now) }
+        (counts_text texts.entry profile.now limit cpu.now) }
 {
-    let told = profile.put(writer, so_far, cpu.program());
+    let told = profile.put(writer, so_far, texts, cpu.program());
     put_end(writer, told, limit, cpu)
 }
 
@@ -97,19 +100,21 @@ fn count_steps(cpu: &mut Cpu, limit: u64, counts: &mut [u64])
 fn put_count<W: Write>(
     writer: &mut Counted<W>,
     so_far: Result<(), WriteFault>,
+    texts: SlotTexts<'_>,
     program: &Program,
     slot: usize,
     count: u64,
 ) -> Result<(), WriteFault>
     ensures { WritesAfter W.contents writer.old so_far writer.new result
-        (count_line program.now slot count) }
+        (count_line texts.entry program.now slot count) }
 {
     match program.insn_at(slot) {
         Some(_) => {
             let counted = put_decimal(writer, so_far, count);
             let parted = put(writer, counted, b" ");
             let named = put_at(writer, parted, program, slot);
-            put(writer, named, b"\n")
+            let told = put(writer, named, text_of_slot(texts, slot));
+            put(writer, told, b"\n")
         }
         None => so_far,
     }

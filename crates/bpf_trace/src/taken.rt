@@ -20,23 +20,26 @@ pub struct Taken {
     pub change: Change,
 }
 
-/// Writes the line of a step that led to where a machine stands, as a trace has it.
+/// Writes the line of a step that led to where a machine stands, as a trace has it, with what is told
+/// of its slot.
 pub fn put_taken<W: Write>(
     writer: &mut Counted<W>,
     so_far: Result<(), WriteFault>,
     number: u64,
     taken: &Taken,
     cpu: &Cpu,
+    place: &[u8],
 ) -> Result<(), WriteFault>
     requires { IsStart cpu.now.program taken.now.slot }
     ensures { (x : State) → Took x cpu.now taken.now →
-        WritesAfter W.contents writer.old so_far writer.new result (step_line number x) }
+        WritesAfter W.contents writer.old so_far writer.new result (step_line place.now number x) }
 {
     let counted = put_decimal(writer, so_far, number);
     let parted = put(writer, counted, b" ");
     let named = put_at(writer, parted, cpu.program(), usize::from(taken.slot));
     let told = put_parts(writer, named, cpu, &taken.change);
-    put(writer, told, b"\n")
+    let placed = put(writer, told, place);
+    put(writer, placed, b"\n")
 }
 
 /// Writes each part that the step with this change wrote, in the machine after it.

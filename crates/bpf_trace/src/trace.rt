@@ -1,12 +1,12 @@
 //! The trace of a run.
-ghost use Rattle.std.specs.Prelude.{◌≡◌, ◌<◌, ◌+◌, ◌-◌, ◌^◌, OnOk, false};
+ghost use Rattle.std.specs.Prelude.{◌≡◌, ◌<◌, ◌+◌, ◌-◌, ◌^◌, OnOk, [], false};
 ghost use Rattle.bpf_entries.specs.Status.{has_ended};
 ghost use Rattle.bpf_steps.specs.Next.{next};
 ghost use Rattle.bpf_session.specs.Plain.{plain_end};
 ghost use Rattle.bpf_trace.specs.Runs.{IsOnTheWay, Takes, steps_of};
 ghost use Rattle.bpf_trace.specs.Tellings.{Tells};
 ghost use Rattle.bpf_trace.specs.Texts.{texts_of};
-ghost use Rattle.bpf_trace.specs.Traces.{line_of, lines_from, lines_text, trace_text};
+ghost use Rattle.bpf_trace.specs.Traces.{line_of, lines_from, lines_text, told_since, trace_text};
 ghost use Rattle.counted_io.specs.Writing.{WritesAfter};
 
 use crate::branch::put_branch;
@@ -15,7 +15,7 @@ use crate::line::Line;
 use crate::step::put_step;
 use crate::texts::Texts;
 use bpf_machine::Cpu;
-use bpfdb_script::SlotTexts;
+use bpfdb_script::{SlotTexts, text_of_slot};
 use counted_io::{Counted, WriteFault};
 use std::alloc::Global;
 use std::io::Write;
@@ -29,7 +29,8 @@ pub struct Shown<'a> {
     pub count: u64,
     /// Of these, conditional jumps alone.
     pub only_branches: bool,
-    /// What is told of slots: it ends the line of a conditional jump.
+    /// What is told of slots: it ends the line of each conditional jump, and of those steps of whose
+    /// slot another is told than of that before.
     pub places: SlotTexts<'a>,
 }
 
@@ -61,10 +62,10 @@ pub enum TraceFault {
 }
 
 /// Runs a machine to its end, or to a limit of steps, and writes a line of each step that is shown:
-/// its number, its instruction, and each place that it wrote, with the value there after it; or of the
-/// conditional jumps among them, each with the registers that it compared, which way it went, and
-/// what is told of its slot. The last line says where the machine stands: how it ended, or that the
-/// limit is reached.
+/// its number, its instruction, each place that it wrote, with the value there after it, and what is
+/// told of its slot, unless the same is told of the step's before; or of the conditional jumps among
+/// them, each with the registers that it compared, which way it went, and what is told of its slot. The
+/// last line says where the machine stands: how it ended, or that the limit is reached.
 ///
 /// All memory, for the texts of the program's instructions, is taken before the first step. Steps
 /// before the first that is shown, and those behind the last, cost no more than in a run without
@@ -157,11 +158,12 @@ fn put_steps<W: Write>(
     requires counted { passed + most < 2 ^ 64 }
     requires texts { texts.now ≡ texts_of cpu.old.program }
     ensures text { WritesAfter W.contents writer.old so_far writer.new result.written
-        (lines_from shown.now (passed + 1) (steps_of most cpu.old)) }
+        (lines_from shown.now [] (passed + 1) (steps_of most cpu.old)) }
     ensures taken { Takes most cpu.old cpu.new result.steps }
 {
     let mut line = Line::new();
     let mut told = so_far;
+    let mut before: &[u8] = &[];
     for k in 0..most {
         if cpu.status().has_ended() {
             return Taken {
@@ -169,7 +171,18 @@ fn put_steps<W: Write>(
                 steps: k,
             };
         }
-        told = put_line(cpu, texts, shown, &mut line, passed + k + 1, writer, told);
+        let place = text_of_slot(shown.places, usize::from(cpu.pc()));
+        told = put_line(
+            cpu,
+            texts,
+            shown,
+            told_since(before, place),
+            &mut line,
+            passed + k + 1,
+            writer,
+            told,
+        );
+        before = place;
         match told {
             Ok(()) => {}
             Err(fault) => {
@@ -186,11 +199,24 @@ fn put_steps<W: Write>(
     }
 }
 
-/// Takes a step, and writes its line, if it is shown.
+/// What is told of a slot behind what was told of the one before: nothing where that is the same.
+#[inline(always)]
+fn told_since<'a>(before: &[u8], told: &'a [u8]) -> &'a [u8]
+    ensures { result.now ≡ told_since before.now told.now }
+{
+    if told.is_empty() || *before == *told {
+        &[]
+    } else {
+        told
+    }
+}
+
+/// Takes a step, and writes its line, if it is shown, with what is told of its slot.
 fn put_line<W: Write>(
     cpu: &mut Cpu,
     texts: &Texts,
     shown: &Shown<'_>,
+    place: &[u8],
     line: &mut Line,
     number: u64,
     writer: &mut Counted<W>,
@@ -200,11 +226,11 @@ fn put_line<W: Write>(
     requires texts { texts.now ≡ texts_of cpu.old.program }
     ensures next { cpu.new ≡ next cpu.old }
     ensures text { WritesAfter W.contents writer.old so_far writer.new result
-        (line_of shown.now number cpu.old) }
+        (line_of shown.now place.now number cpu.old) }
 {
     if shown.only_branches {
         put_branch(cpu, texts, shown.places, line, number, writer, so_far)
     } else {
-        put_step(cpu, texts, line, number, writer, so_far)
+        put_step(cpu, texts, place, line, number, writer, so_far)
     }
 }

@@ -1,4 +1,4 @@
-use Rattle.std.proofs.Common.{◌∙◌}
+use Rattle.std.proofs.Common.{◌∙◌, refl}
 use Rattle.counted_io.proofs.Appending.{WritesAfter-WritesAfter}
 use Rattle.bpf_trace.proofs.Steps.{slot_within, text_is, whole_line}
 use Rattle.bpf_trace.proofs.step.put_step.Goals as goal
@@ -17,5 +17,5 @@ returns-clause-text g c =
     let text = rw slot at c.at.ensures in
     let named = text ∙ text_is x.program c.args.texts.now x.pc c.requires.texts c.invariant.ensures.start in
     let wrote = rw change at c.add_parts.ensures.text in
-    WritesAfter-WritesAfter g.W.Write.contents _ _ _ _ _ _ _ _ _ held.written c.put.ensures
-    (whole_line c.args.number x c.commit.new.self held.told _ _ _ _ c.invariant.ensures c.commit.ensures named held.parts wrote (c.as_slice.ensures ∙ c.add.ensures))
+    WritesAfter-WritesAfter g.W.Write.contents _ _ _ _ _ _ _ _ _ held.written c.put_told.ensures
+    (whole_line c.args.number x c.commit.new.self held.told _ _ _ _ _ c.invariant.ensures c.commit.ensures named held.parts wrote refl)

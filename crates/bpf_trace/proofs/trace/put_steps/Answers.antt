@@ -18,8 +18,8 @@ put_line-told-requires-clause-texts g c = rw c.loop-k.invariant.program c.requir
 pub loop-k-preserved : goal.loop-k-preserved
 loop-k-preserved g c =
     let on : has_ended c.loop-k.cpu.status ≡ false = ap has_ended (sym c.status.ensures) ∙ sym c.has_ended.ensures ∙ c.if-has_ended.false in
-    rw c.put_line-told.ensures.next (record {
-      told = lines_step g.W.Write.contents c.args.writer.now c.args.so_far c.args.shown.now c.args.passed c.args.most c.args.cpu.now c.loop-k.k _ _ _ _ _ c.loop-k-test.true on c.loop-k.invariant.told c.put_line-told.ensures.text;
+    rw (c.put_line-told.ensures.next, c.text_of_slot-place.ensures, c.from.ensures, c.pc.ensures) (record {
+      told = lines_step g.W.Write.contents c.args.writer.now c.args.so_far c.args.shown.now c.args.passed c.args.most c.args.cpu.now c.loop-k.k _ _ _ _ _ _ c.loop-k-test.true on c.loop-k.invariant.told (rw (c.told_since.ensures, c.text_of_slot-place.ensures, c.from.ensures, c.pc.ensures) at c.put_line-told.ensures.text);
       steps = Steps-more _ _ _ c.loop-k.invariant.steps on;
       program = next-program c.loop-k.cpu ∙ c.loop-k.invariant.program;
     })
@@ -27,12 +27,12 @@ loop-k-preserved g c =
 pub returns-then-has_ended-clause-text : goal.returns-then-has_ended-clause-text
 returns-then-has_ended-clause-text g c =
     let over : has_ended c.loop-k.cpu.status ≡ true = ap has_ended (sym c.status.ensures) ∙ sym c.has_ended.ensures ∙ c.if-has_ended.true in
-    lines_ended g.W.Write.contents c.args.writer.now c.args.so_far c.args.shown.now c.args.passed c.args.most c.args.cpu.now c.loop-k.k _ _ _ over c.loop-k.invariant.told
+    lines_ended g.W.Write.contents c.args.writer.now c.args.so_far c.args.shown.now c.args.passed c.args.most c.args.cpu.now c.loop-k.k _ _ _ _ over c.loop-k.invariant.told
 
 pub returns-in-Err-clause-text : goal.returns-in-Err-clause-text
 returns-in-Err-clause-text g c =
     let on : has_ended c.loop-k.cpu.status ≡ false = ap has_ended (sym c.status.ensures) ∙ sym c.has_ended.ensures ∙ c.if-has_ended.false in
-    let more = lines_step g.W.Write.contents c.args.writer.now c.args.so_far c.args.shown.now c.args.passed c.args.most c.args.cpu.now c.loop-k.k _ _ _ _ _ c.loop-k-test.true on c.loop-k.invariant.told c.put_line-told.ensures.text in
+    let more = lines_step g.W.Write.contents c.args.writer.now c.args.so_far c.args.shown.now c.args.passed c.args.most c.args.cpu.now c.loop-k.k _ _ _ _ _ _ c.loop-k-test.true on c.loop-k.invariant.told (rw (c.told_since.ensures, c.text_of_slot-place.ensures, c.from.ensures, c.pc.ensures) at c.put_line-told.ensures.text) in
     Telling-broken g.W.Write.contents c.args.writer.now c.args.so_far _ _ _ _ (rw c.in-Err.is at more)
 
 pub returns-then-has_ended-clause-taken : goal.returns-then-has_ended-clause-taken
@@ -48,7 +48,7 @@ pub returns-clause-text : goal.returns-clause-text
 returns-clause-text g c =
     let fin = c.loop-k-test.false in
     let within = c.loop-k.auto.k-end in
-    lines_all g.W.Write.contents c.args.writer.now c.args.so_far c.args.shown.now c.args.passed c.args.most c.args.cpu.now c.loop-k.k _ _ _ (omega arith) c.loop-k.invariant.told
+    lines_all g.W.Write.contents c.args.writer.now c.args.so_far c.args.shown.now c.args.passed c.args.most c.args.cpu.now c.loop-k.k _ _ _ _ (omega arith) c.loop-k.invariant.told
 
 pub returns-clause-taken : goal.returns-clause-taken
 returns-clause-taken g c =

@@ -1,6 +1,6 @@
 use Rattle.std.proofs.Common.{refl}
 use Rattle.counted_io.proofs.Appending.{WritesAfter-WritesAfter}
-use Rattle.bpf_trace.proofs.branch.put_parts.Goals as goal
+use Rattle.bpf_trace.proofs.line_end.put_parts.Goals as goal
 
 pub returns : goal.returns
 returns g c =
