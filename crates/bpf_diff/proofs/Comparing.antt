@@ -9,6 +9,7 @@ use Rattle.bpf_trace.specs.Traces.{end_line}
 use Rattle.bpf_trace.proofs.Stepping.{Steps-none, Steps-Steps, whole_end, whole_run}
 use Rattle.bpf_diff.specs.Alike.{same_slot}
 use Rattle.bpf_diff.specs.Differences.{alike_for, are_same, ends_of, ends_text, first_parting, parting, together_for}
+use Rattle.bpf_diff.specs.declared.texts.BothTexts.{BothTexts}
 use Rattle.bpf_diff.specs.Ends.{same_end}
 use Rattle.bpf_diff.specs.Following.{Along, Goes, GoesAlike, Parting, are_together}
 use Rattle.bpf_diff.specs.declared.follow.Parted.{Parted}
@@ -52,9 +53,9 @@ module _ (limit n m c d : ℕ) (x y a b p q v w : State) (begun : Along same_slo
   pub together-whole : together_for (steps_of limit x) (steps_of limit y) ≡ n + m
   together-whole = let one = begun.rest in let two = more.agreed in omega (arith, one, two)
 
-  pub parting-whole : first_parting (steps_of limit x) (steps_of limit y)
-      ≡ parting (n + m + 1) (steps_of (limit - (n + m)) p) (steps_of (limit - (n + m)) q)
-  parting-whole = parting-behind limit (n + m) x y p q ones twos low together-whole
+  pub parting-whole : (texts : BothTexts) → first_parting texts (steps_of limit x) (steps_of limit y)
+      ≡ parting texts (n + m + 1) (steps_of (limit - (n + m)) p) (steps_of (limit - (n + m)) q)
+  parting-whole texts = parting-behind texts limit (n + m) x y p q ones twos low together-whole
 
   pub end-first : v ≡ plain_end limit x
   end-first =

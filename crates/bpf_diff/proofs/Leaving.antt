@@ -23,6 +23,7 @@ use Rattle.bpf_trace.specs.Runs.{steps_of}
 use Rattle.bpf_trace.proofs.Stepping.{Steps-none, drop_steps, next-program, none_ended, none_left, one_more_step, whole_run}
 use Rattle.bpf_diff.specs.Differences.{side}
 use Rattle.bpf_diff.specs.Outputs.{last_write, later, writer_line}
+use Rattle.bpfdb_script.specs.SlotTexts.{SlotTexts}
 use Rattle.bpf_diff.specs.Seen.{ends_otherwise, longer, longest, map_places, word_places, words_from}
 use Rattle.bpf_diff.specs.declared.seen.Sides.{Sides}
 
@@ -255,13 +256,13 @@ not_zero n h = grind arith
 is_zero : (n : ℕ) → n ≡ 0 → (n == 0) ≡ true
 is_zero n e = grind (arith, nat_tests, e)
 
-pub line-of : (mark : List ℕ) (n : ℕ) (xs : List State) → n ≢ 0 → side mark n (drop (n - 1) xs) ≡ writer_line mark n xs
+pub line-of : (mark : List ℕ) (texts : SlotTexts) (n : ℕ) (xs : List State) → n ≢ 0 → side mark texts n (drop (n - 1) xs) ≡ writer_line mark texts n xs
 unfolding writer_line
-line-of mark n xs some = rw (not_zero n some) refl
+line-of mark texts n xs some = rw (not_zero n some) refl
 
-pub line-none : (mark : List ℕ) (n : ℕ) (xs : List State) → n ≡ 0 → mark ++ codes "not written\n" ≡ writer_line mark n xs
+pub line-none : (mark : List ℕ) (texts : SlotTexts) (n : ℕ) (xs : List State) → n ≡ 0 → mark ++ codes "not written\n" ≡ writer_line mark texts n xs
 unfolding writer_line
-line-none mark n xs none = rw (is_zero n none) refl
+line-none mark texts n xs none = rw (is_zero n none) refl
 
 -- a run that is taken up
 pub taken-up : (limit s passed c : ℕ) (x y z : State) → s ≤ limit → Advances s x y passed → Advances (limit - passed) y z c

@@ -15,6 +15,7 @@ use Rattle.bpf_diff.specs.Differences.{ends_text}
 use Rattle.bpf_diff.specs.Ends.{same_status}
 use Rattle.bpf_diff.specs.Outputs.{difference_text, last_write, place_line, place_text, value_text, write_alike, writer_line, writes_text}
 use Rattle.bpf_diff.specs.Seen.{first_place, seen}
+use Rattle.bpf_diff.specs.declared.texts.BothTexts.{BothTexts}
 
 -- six texts, one behind the other
 six : (p a v b w n : List ℕ) → ((((p ++ a) ++ v) ++ b) ++ w) ++ n ≡ p ++ (a ++ (v ++ (b ++ (w ++ n))))
@@ -39,11 +40,11 @@ module _ (limit n m : ℕ) (x y z w : State) (first : Advances limit x z n) (sec
       ap₂ (λ (a b : State). ends_text false 0 (end_line limit a) (end_line limit b)) (whole_end limit n x z first) (whole_end limit m y w second)
 
   module _ (c d : List ℕ) where
-    all-text : difference_text (first_place c d z w) (steps_of limit x) (steps_of limit y) z w
+    all-text : (texts : BothTexts) → difference_text texts (first_place c d z w) (steps_of limit x) (steps_of limit y) z w
         ++ ends_text false 0 (end_line limit z) (end_line limit w)
-        ≡ writes_text limit c d x y
-    all-text =
-        ap₂ (λ (a b : State). difference_text (first_place c d a b) (steps_of limit x) (steps_of limit y) a b
+        ≡ writes_text texts limit c d x y
+    all-text texts =
+        ap₂ (λ (a b : State). difference_text texts (first_place c d a b) (steps_of limit x) (steps_of limit y) a b
         ++ ends_text false 0 (end_line limit a) (end_line limit b)) (whole_end limit n x z first) (whole_end limit m y w second)
 
     all-alike : (is_none (first_place c d z w) && (same_status z.status w.status && has_ended z.status)) ≡ write_alike limit c d x y
@@ -52,11 +53,11 @@ module _ (limit n m : ℕ) (x y z w : State) (first : Advances limit x z n) (sec
         (whole_end limit n x z first) (whole_end limit m y w second)
 
     -- the same
-    pub same-text : None ≡ first_place c d z w
-        → codes "same writes\n" ++ ends_text false 0 (end_line limit z) (end_line limit w) ≡ writes_text limit c d x y
-    same-text none =
-        ap (λ (o : Option Place). difference_text o (steps_of limit x) (steps_of limit y) z w ++ ends_text false 0 (end_line limit z) (end_line limit w)) none
-        ∙ all-text
+    pub same-text : (texts : BothTexts) → None ≡ first_place c d z w
+        → codes "same writes\n" ++ ends_text false 0 (end_line limit z) (end_line limit w) ≡ writes_text texts limit c d x y
+    same-text texts none =
+        ap (λ (o : Option Place). difference_text texts o (steps_of limit x) (steps_of limit y) z w ++ ends_text false 0 (end_line limit z) (end_line limit w)) none
+        ∙ all-text texts
 
     pub same-alike : None ≡ first_place c d z w → (same_status z.status w.status && has_ended z.status) ≡ write_alike limit c d x y
     same-alike none =
@@ -68,28 +69,28 @@ module _ (limit n m : ℕ) (x y z w : State) (first : Advances limit x z n) (sec
       differ-alike =
           ap (λ (o : Option Place). is_none o && (same_status z.status w.status && has_ended z.status)) some ∙ all-alike
 
-      differ-text : (place_line p (seen z p) (seen w p)
-          ++ (writer_line (codes "< ") (last_write p (steps_of limit x)) (steps_of limit x)
-          ++ writer_line (codes "> ") (last_write p (steps_of limit y)) (steps_of limit y)))
+      differ-text : (texts : BothTexts) → (place_line p (seen z p) (seen w p)
+          ++ (writer_line (codes "< ") texts.first (last_write p (steps_of limit x)) (steps_of limit x)
+          ++ writer_line (codes "> ") texts.second (last_write p (steps_of limit y)) (steps_of limit y)))
           ++ ends_text false 0 (end_line limit (plain_end limit x)) (end_line limit (plain_end limit y))
-          ≡ writes_text limit c d x y
-      differ-text =
-          ap (λ (t : List ℕ). difference_text (Some p) (steps_of limit x) (steps_of limit y) z w ++ t) (sym ends-there)
-          ∙ ap (λ (o : Option Place). difference_text o (steps_of limit x) (steps_of limit y) z w ++ ends_text false 0 (end_line limit z) (end_line limit w)) some
-          ∙ all-text
+          ≡ writes_text texts limit c d x y
+      differ-text texts =
+          ap (λ (t : List ℕ). difference_text texts (Some p) (steps_of limit x) (steps_of limit y) z w ++ t) (sym ends-there)
+          ∙ ap (λ (o : Option Place). difference_text texts o (steps_of limit x) (steps_of limit y) z w ++ ends_text false 0 (end_line limit z) (end_line limit w)) some
+          ∙ all-text texts
 
-      pub differ-told : (v u : Option ℕ) (k l : ℕ) (a b : State) → v ≡ seen z p → u ≡ seen w p → a ≡ x → b ≡ y
+      pub differ-told : (texts : BothTexts) (v u : Option ℕ) (k l : ℕ) (a b : State) → v ≡ seen z p → u ≡ seen w p → a ≡ x → b ≡ y
           → k ≡ last_write p (steps_of limit x) → l ≡ last_write p (steps_of limit y)
-          → (place_line p v u ++ (writer_line (codes "< ") k (steps_of limit a) ++ writer_line (codes "> ") l (steps_of limit b)))
+          → (place_line p v u ++ (writer_line (codes "< ") texts.first k (steps_of limit a) ++ writer_line (codes "> ") texts.second l (steps_of limit b)))
           ++ ends_text false 0 (end_line limit (plain_end limit a)) (end_line limit (plain_end limit b))
-          ≡ writes_text limit c d x y
-      differ-told v u k l a b ev eu ea eb ek el =
-          ap₂ (λ (s t : State). (place_line p v u ++ (writer_line (codes "< ") k (steps_of limit s) ++ writer_line (codes "> ") l (steps_of limit t)))
+          ≡ writes_text texts limit c d x y
+      differ-told texts v u k l a b ev eu ea eb ek el =
+          ap₂ (λ (s t : State). (place_line p v u ++ (writer_line (codes "< ") texts.first k (steps_of limit s) ++ writer_line (codes "> ") texts.second l (steps_of limit t)))
           ++ ends_text false 0 (end_line limit (plain_end limit s)) (end_line limit (plain_end limit t))) ea eb
           ∙ ap₂ (λ (s t : Option ℕ). (place_line p s t
-          ++ (writer_line (codes "< ") k (steps_of limit x) ++ writer_line (codes "> ") l (steps_of limit y)))
+          ++ (writer_line (codes "< ") texts.first k (steps_of limit x) ++ writer_line (codes "> ") texts.second l (steps_of limit y)))
           ++ ends_text false 0 (end_line limit (plain_end limit x)) (end_line limit (plain_end limit y))) ev eu
           ∙ ap₂ (λ (s t : ℕ). (place_line p (seen z p) (seen w p)
-          ++ (writer_line (codes "< ") s (steps_of limit x) ++ writer_line (codes "> ") t (steps_of limit y)))
+          ++ (writer_line (codes "< ") texts.first s (steps_of limit x) ++ writer_line (codes "> ") texts.second t (steps_of limit y)))
           ++ ends_text false 0 (end_line limit (plain_end limit x)) (end_line limit (plain_end limit y))) ek el
-          ∙ differ-text
+          ∙ differ-text texts

@@ -1,11 +1,11 @@
 -- The names of entries, and lines without their line feed.
-use Rattle.std.proofs.Common.{◌≡◌, ◌≢◌, ◌-◌, ℕ, Bool, true, false, List, [], ◌∷◌, ◌++◌, codes, decimal, get_or, length, reverse, ap, refl, sym, ◌∙◌, arith}
+use Rattle.std.proofs.Common.{◌≡◌, ◌≢◌, ◌+◌, ◌-◌, ◌<◌, ℕ, Bool, true, false, List, [], ◌∷◌, ◌++◌, append_assoc, codes, decimal, drop, get_or, length, reverse, take, ap, refl, sym, ◌∙◌, arith}
 use Rattle.std.specs.Prelude.{◌==◌, if◌then◌else◌}
 use Rattle.std.specs.Str.{bytes_eq}
-use Rattle.std.proofs.lemmas.List.{append_cancel_right, reverse-append}
+use Rattle.std.proofs.lemmas.List.{append-nil, append_cancel_right, drop_more, reverse-append, take_more, take_rest}
 use Rattle.std.proofs.lemmas.Slice.Eq.{bytes_eq-Decides}
 use Rattle.counted_io.specs.Writing.{hexadecimal}
-use Rattle.bpf_diff.specs.Against.{entry_text, is_line}
+use Rattle.bpf_diff.specs.Against.{begins_place, entry_text, is_line, unplaced}
 
 pub not_zero : (n : ℕ) → n ≢ 0 → (n == 0) ≡ false
 not_zero n h = grind arith
@@ -59,3 +59,28 @@ line-none (t ∷ text) line none = absurd (omega (arith, none))
 
 pub not-ten : (n : ℕ) → n ≢ 10 → (n == 10) ≡ false
 not-ten n h = grind arith
+
+-- a turn of the loop that looks for a place, where one begins and where none does
+begins-by : (b : ℕ) (line : List ℕ) (here : Bool) → begins_place (b ∷ line) ≡ here → unplaced (b ∷ line) ≡ (if here then [] else b ∷ unplaced line)
+begins-by b line here e = ap (λ (h : Bool). if h then [] else b ∷ unplaced line) e
+
+from-here : (line : List ℕ) (k : ℕ) (here : Bool) → k < length line → here ≡ begins_place (take (length line - k) (drop k line))
+    → begins_place (get_or line k 0 ∷ drop (k + 1) line) ≡ here
+from-here line k here inside e = ap begins_place (sym (drop_more line k 0 inside) ∙ sym (take_rest line k)) ∙ sym e
+
+pub unplaced-here : (line : List ℕ) (k : ℕ) → k < length line → true ≡ begins_place (take (length line - k) (drop k line))
+    → unplaced line ≡ take k line ++ unplaced (drop k line) → take k line ≡ unplaced line
+unplaced-here line k inside e h =
+    sym (h
+    ∙ ap (λ (s : List ℕ). take k line ++ unplaced s) (drop_more line k 0 inside)
+    ∙ ap (λ (s : List ℕ). take k line ++ s) (begins-by (get_or line k 0) (drop (k + 1) line) true (from-here line k true inside e))
+    ∙ append-nil (take k line))
+
+pub unplaced-later : (line : List ℕ) (k : ℕ) → k < length line → false ≡ begins_place (take (length line - k) (drop k line))
+    → unplaced line ≡ take k line ++ unplaced (drop k line) → unplaced line ≡ take (k + 1) line ++ unplaced (drop (k + 1) line)
+unplaced-later line k inside e h =
+    h
+    ∙ ap (λ (s : List ℕ). take k line ++ unplaced s) (drop_more line k 0 inside)
+    ∙ ap (λ (s : List ℕ). take k line ++ s) (begins-by (get_or line k 0) (drop (k + 1) line) false (from-here line k false inside e))
+    ∙ sym (append_assoc (take k line) (get_or line k 0 ∷ []) (unplaced (drop (k + 1) line)))
+    ∙ ap (λ (s : List ℕ). s ++ unplaced (drop (k + 1) line)) (sym (take_more line k 0 inside))

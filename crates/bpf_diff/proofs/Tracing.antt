@@ -17,7 +17,7 @@ use Rattle.bpf_trace.specs.Taken.{Took}
 use Rattle.bpf_trace.specs.Traces.{end_line, step_line}
 use Rattle.bpf_trace.specs.declared.taken.Taken.{Taken}
 use Rattle.bpf_trace.proofs.Stepping.{Steps-none, Steps-more, drop_steps, next-program, none_ended, none_left, one_more_step, shift, whole_end}
-use Rattle.bpf_diff.specs.Against.{against_text, agreed, answer, are_told, at_end, behind_end, end_here, entries_of, is_end_told, is_line, is_whole, says, tells_run, there}
+use Rattle.bpf_diff.specs.Against.{against_text, agreed, answer, are_told, at_end, behind_end, end_here, entries_of, is_end_told, is_line, is_whole, says, unplaced, tells_run, there}
 use Rattle.bpf_diff.specs.Noted.{Along, Halts, IsOtherwise, IsOver, Leaves, Stops, next_lines, otherwise_text}
 use Rattle.bpf_diff.specs.Writers.{last_step}
 use Rattle.input_texts.specs.declared.trace_form.Form.{Form}
@@ -265,13 +265,13 @@ took-start x y taken t = rw (t.next, next-program x, t.slot) t.is.start
 
 -- steps as `trace` tells them
 abbrev pub is_step : ℕ → State → Option (Bor (List ℕ)) → Bool
-is_step number x line = option_map_or (λ text. is_line (step_line number x) text.now) line false
+is_step number x line = option_map_or (λ text. is_line (step_line [] number x) (unplaced text.now)) line false
 
 pub steps-otherwise : (k : ℕ) (a : State) (line : Option (Bor (List ℕ))) → is_step (k + 1) a line ≡ false → IsOtherwise form.Steps (suc k) a line
 steps-otherwise k a None isnt = tt
 steps-otherwise k a (Some text) isnt =
     let f : suc k ≡ k + 1 = omega arith in
-    ap (λ (n : ℕ). is_line (step_line n a) text.now) f ∙ isnt
+    ap (λ (n : ℕ). is_line (step_line [] n a) (unplaced text.now)) f ∙ isnt
 
 pub steps-next : (limit : ℕ) (x : State) (told : List (List ℕ)) (a : State) (left rest : List (List ℕ)) (k : ℕ) (line : Option (Bor (List ℕ)))
     → Along form.Steps limit x told a left k → Leaves left line rest → k < limit → has_ended a.status ≡ false → is_step (k + 1) a line ≡ true
@@ -279,7 +279,7 @@ pub steps-next : (limit : ℕ) (x : State) (told : List (List ℕ)) (a : State) 
 steps-next limit x told a left rest k None g is low on does = absurd cc
 steps-next limit x told a left rest k (Some text) g is low on does =
     let f : suc k ≡ k + 1 = omega arith in
-    Along-step form.Steps limit x told a left k g text.now rest is low on (ap (λ (n : ℕ). is_line (step_line n a) text.now) f ∙ does)
+    Along-step form.Steps limit x told a left k g text.now rest is low on (ap (λ (n : ℕ). is_line (step_line [] n a) (unplaced text.now)) f ∙ does)
 
 -- at the end of a run, as `trace` tells it
 pub none-text : (limit n : ℕ) (a : State) (left rest : List (List ℕ)) → Leaves left None rest

@@ -27,12 +27,21 @@ abbrev pub are_told : State → ℕ → List (List ℕ) → Bool
 are_told x i [] = true
 are_told x i (word ∷ rest) = is_told (entry x i) word && are_told x (suc i) rest
 
+-- A place in C begins there.
+unfoldable pub begins_place : List ℕ → Bool
+begins_place text = bytes_eq (take 5 text) (codes "; in ")
+
 -- Whether a line of a trace tells the step numbered k from a state as it was: as `trace` does, or the slot and the registers before it.
 unfoldable pub is_line : List ℕ → List ℕ → Bool
 is_line text line = bytes_eq (line ++ codes "\n") text
 
+-- What a line tells besides where the step stands in C, which ends it.
+abbrev pub unplaced : List ℕ → List ℕ
+unplaced [] = []
+unplaced (b ∷ line) = if begins_place (b ∷ line) then [] else b ∷ unplaced line
+
 abbrev pub says : Form → ℕ → State → List ℕ → Bool
-says Steps k x line = is_line (step_line k x) line
+says Steps k x line = is_line (step_line [] k x) (unplaced line)
 says Registers k x line = are_told x 0 (entries_of line)
 
 -- How many first steps of a run, numbered from k on, the first lines of a trace tell so.
@@ -47,7 +56,7 @@ registers_from x r zero = codes "\n"
 registers_from x r (suc n) = codes " " ++ hexadecimal (register x r) ++ registers_from x (suc r) n
 
 abbrev pub here : Form → ℕ → State → List ℕ
-here Steps k x = codes "< " ++ step_line k x
+here Steps k x = codes "< " ++ step_line [] k x
 here Registers k x = codes "< " ++ decimal x.pc ++ registers_from x 0 11
 
 unfoldable pub there : List ℕ → List ℕ

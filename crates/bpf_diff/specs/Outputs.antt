@@ -10,11 +10,13 @@ use Rattle.bpf_steps.specs.State.{State}
 use Rattle.bpf_origin.specs.Writes.{writes}
 use Rattle.bpf_origin.specs.declared.place.Place.{Place}
 use Rattle.bpf_origin.specs.declared.place.Place.TheVariants.{Register, Word, Byte}
+use Rattle.bpfdb_script.specs.SlotTexts.{SlotTexts}
 use Rattle.bpf_session.specs.Plain.{plain_end}
 use Rattle.bpf_trace.specs.Runs.{steps_of}
 use Rattle.bpf_trace.specs.Traces.{end_line}
 use Rattle.bpf_diff.specs.Differences.{ends_text, side}
 use Rattle.bpf_diff.specs.Ends.{same_status}
+use Rattle.bpf_diff.specs.declared.texts.BothTexts.{BothTexts}
 use Rattle.bpf_diff.specs.Seen.{first_place, seen}
 
 -- The number of the last of some steps that wrote a place, 0 where none did.
@@ -27,8 +29,8 @@ last_write p [] = 0
 last_write p (x ∷ xs) = later (last_write p xs) (writes (next x) (step_entry x) p)
 
 -- The line of that step behind a mark, or that there is none.
-unfoldable pub writer_line : List ℕ → ℕ → List State → List ℕ
-writer_line mark n xs = if n == 0 then mark ++ codes "not written\n" else side mark n (drop (n - 1) xs)
+unfoldable pub writer_line : List ℕ → SlotTexts → ℕ → List State → List ℕ
+writer_line mark texts n xs = if n == 0 then mark ++ codes "not written\n" else side mark texts n (drop (n - 1) xs)
 
 -- A place, and what stands there in each run.
 abbrev pub place_text : Place → List ℕ
@@ -45,16 +47,16 @@ place_line p v w =
     place_text p ++ (codes " ends otherwise: " ++ (value_text v ++ (codes ", " ++ (value_text w ++ codes "\n"))))
 
 -- What is told of it, of runs with these steps that ended so.
-abbrev pub difference_text : Option Place → List State → List State → State → State → List ℕ
-difference_text None xs ys x y = codes "same writes\n"
-difference_text (Some p) xs ys x y = place_line p (seen x p) (seen y p)
-    ++ (writer_line (codes "< ") (last_write p xs) xs ++ writer_line (codes "> ") (last_write p ys) ys)
+abbrev pub difference_text : BothTexts → Option Place → List State → List State → State → State → List ℕ
+difference_text texts None xs ys x y = codes "same writes\n"
+difference_text texts (Some p) xs ys x y = place_line p (seen x p) (seen y p)
+    ++ (writer_line (codes "< ") texts.first (last_write p xs) xs ++ writer_line (codes "> ") texts.second (last_write p ys) ys)
 
-abbrev pub writes_text : ℕ → List ℕ → List ℕ → State → State → List ℕ
-writes_text limit c d x y =
+abbrev pub writes_text : BothTexts → ℕ → List ℕ → List ℕ → State → State → List ℕ
+writes_text texts limit c d x y =
     let end = plain_end limit x in
     let other = plain_end limit y in
-    difference_text (first_place c d end other) (steps_of limit x) (steps_of limit y) end other
+    difference_text texts (first_place c d end other) (steps_of limit x) (steps_of limit y) end other
     ++ ends_text false 0 (end_line limit end) (end_line limit other)
 
 -- They leave the same, and both ended, by one reason.

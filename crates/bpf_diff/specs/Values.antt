@@ -14,6 +14,7 @@ use Rattle.bpf_diff.specs.Differences.{alike_for, diff_text, end_alike}
 use Rattle.bpf_diff.specs.Outputs.{last_write, write_alike, writes_text}
 use Rattle.bpf_diff.specs.Seen.{first_place, seen}
 use Rattle.bpf_diff.specs.declared.diff.Compared.{Compared}
+use Rattle.bpf_diff.specs.declared.texts.BothTexts.{BothTexts}
 use Rattle.bpf_diff.specs.declared.values.Values.{Values}
 
 -- Values of a run: what stands in these parts behind so many of its steps.
@@ -57,10 +58,10 @@ pub record Comparison : Type 0 where
   pub same : Bool
   pub values : Option Pair
 
--- By their steps, and by what they leave.
-abbrev pub by_steps : ℕ → State → State → Comparison
-by_steps limit x y = record {
-  text = diff_text limit x y;
+-- By their steps, and by what they leave. Lines of steps end with what is told of their slots.
+abbrev pub by_steps : BothTexts → ℕ → State → State → Comparison
+by_steps texts limit x y = record {
+  text = diff_text texts limit x y;
   same = end_alike limit x y;
   values = values_of_steps (steps_of limit x) (steps_of limit y);
 }
@@ -68,9 +69,9 @@ by_steps limit x y = record {
 abbrev pub values_between : List ℕ → List ℕ → List State → List State → State → State → Option Pair
 values_between c d xs ys x y = option_map (values_left xs ys x y) (first_place c d x y)
 
-abbrev pub by_writes : ℕ → List ℕ → List ℕ → State → State → Comparison
-by_writes limit c d x y = record {
-  text = writes_text limit c d x y;
+abbrev pub by_writes : BothTexts → ℕ → List ℕ → List ℕ → State → State → Comparison
+by_writes texts limit c d x y = record {
+  text = writes_text texts limit c d x y;
   same = write_alike limit c d x y;
   values = values_between c d (steps_of limit x) (steps_of limit y) (plain_end limit x) (plain_end limit y);
 }

@@ -48,7 +48,7 @@ pub fn put_step_here<W: Write>(
         WritesAfter W.contents writer.old so_far writer.new result (here Steps number x) }
 {
     let marked = put(writer, so_far, b"< ");
-    put_taken(writer, marked, number, taken, cpu)
+    put_taken(writer, marked, number, taken, cpu, &[])
 }
 
 /// Writes the slot and the registers here.

@@ -7,7 +7,7 @@ ghost use Rattle.bpf_steps.specs.State.{State};
 ghost use Rattle.bpf_trace.specs.Runs.{steps_of};
 ghost use Rattle.bpf_trace.specs.Taken.{Took};
 ghost use Rattle.bpf_trace.specs.Traces.{step_line};
-ghost use Rattle.bpf_diff.specs.Against.{are_told, entries_of, entry as entry_of, is_line};
+ghost use Rattle.bpf_diff.specs.Against.{are_told, begins_place, entries_of, entry as entry_of, is_line, unplaced};
 ghost use Rattle.bpf_diff.specs.Noted.{AreNotes, Halts, HaltsBehind, Stops};
 ghost use Rattle.input_texts.specs.declared.trace_form.Form.TheVariants.{Registers};
 
@@ -156,7 +156,8 @@ fn take_step(cpu: &mut Cpu) -> Taken
     Taken { slot, change }
 }
 
-/// Whether a line tells a step that led to where a machine stands, as `trace` does.
+/// Whether a line tells a step that led to where a machine stands, as `trace` does, whatever it tells
+/// of where it stands in C.
 fn is_step_told(
     alloc: Global,
     cpu: &Cpu,
@@ -166,12 +167,13 @@ fn is_step_told(
 ) -> Result<bool, AllocError>
     requires { IsStart cpu.now.program taken.now.slot }
     ensures { IfOk result (λ told. (x : State) → Took x cpu.now taken.now →
-        told ≡ option_map_or (λ text. is_line (step_line number x) text.now) line.entry false) }
+        told ≡ option_map_or (λ text. is_line (step_line [] number x) (unplaced text.now))
+        line.entry false) }
 {
     match line {
         None => Ok(false),
         Some(line) => match step_text(alloc, cpu, number, taken) {
-            Ok(text) => Ok(is_line(text.as_slice(), line)),
+            Ok(text) => Ok(is_line(text.as_slice(), unplaced(line))),
             Err(fault) => Err(fault),
         },
     }
@@ -181,13 +183,33 @@ fn is_step_told(
 fn step_text(alloc: Global, cpu: &Cpu, number: u64, taken: &Taken) -> Result<Vec<u8>, AllocError>
     requires { IsStart cpu.now.program taken.now.slot }
     ensures { IfOk result (λ text. (x : State) → Took x cpu.now taken.now →
-        text.items ≡ step_line number x) }
+        text.items ≡ step_line [] number x) }
 {
     let mut writer = Counted::new(Vec::new(alloc));
-    match put_taken(&mut writer, Ok(()), number, taken, cpu) {
+    match put_taken(&mut writer, Ok(()), number, taken, cpu, &[]) {
         Ok(()) => Ok(writer.into_inner()),
         Err(WriteFault) => Err(AllocError),
     }
+}
+
+/// What a line tells besides where the step stands in C, which ends it.
+fn unplaced(line: &[u8]) -> &[u8]
+    ensures { result.now ≡ unplaced line.now }
+{
+    for at in 0..line.len() {
+        if begins_place(&line[at..]) {
+            return &line[..at];
+        }
+    }
+    line
+}
+
+/// Whether a place in C begins there.
+#[tactic(auto, unfolding(crate::specs::Against::begins_place))]
+fn begins_place(text: &[u8]) -> bool
+    ensures { result ≡ begins_place text.now }
+{
+    text.strip_prefix(b"; in ").is_some()
 }
 
 /// Whether a text with its line feed is this line.

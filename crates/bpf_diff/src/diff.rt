@@ -13,6 +13,7 @@ use crate::end::same_end;
 use crate::follow::{go_alike, go_together};
 use crate::lines::{put_ends, put_otherwise};
 use crate::parting::put_parting;
+use crate::texts::BothTexts;
 use crate::values::{Values, values_written};
 use bpf_machine::Cpu;
 use counted_io::{Counted, WriteFault};
@@ -44,25 +45,27 @@ struct Begun {
 
 /// Runs two machines in step, each to its end or to a limit of steps, and writes the first step that
 /// wrote otherwise in one than in the other, where they part, and how they end; or that they are the
-/// same.
+/// same. The lines of steps end with what is told of their slots.
 ///
 /// Nothing is kept of the steps, and none is taken twice. A write that fails doesn't end the runs.
 pub fn put_diff<W: Write>(
     writer: &mut Counted<W>,
     so_far: Result<(), WriteFault>,
+    texts: BothTexts<'_>,
     first: &mut Cpu,
     second: &mut Cpu,
     limit: u64,
 ) -> Compared
     ensures text { WritesAfter W.contents writer.old so_far writer.new result.written
-        (by_steps limit first.old second.old).text }
-    ensures finds { Finds result (by_steps limit first.old second.old) }
+        (by_steps texts.entry limit first.old second.old).text }
+    ensures finds { Finds result (by_steps texts.entry limit first.old second.old) }
     ensures programs { (first.new.program ≡ first.old.program) × (second.new.program ≡ second.old.program) }
 {
-    let begun = put_begun(writer, so_far, first, second, limit);
+    let begun = put_begun(writer, so_far, texts, first, second, limit);
     let more = go_together(first, second, limit - begun.steps);
     let steps = begun.steps + more;
-    let parting = put_parting(writer, begun.written, first, second, steps, limit - steps);
+    let left = limit - steps;
+    let parting = put_parting(writer, begun.written, texts, first, second, steps, left);
     let same = is_same(begun.is_alike, parting.is_none, first, second);
     let written = put_ends(writer, parting.written, same, steps, limit, first, second);
     Compared {
@@ -91,12 +94,13 @@ fn is_over(same: bool, cpu: &Cpu) -> bool
 fn put_begun<W: Write>(
     writer: &mut Counted<W>,
     so_far: Result<(), WriteFault>,
+    texts: BothTexts<'_>,
     first: &mut Cpu,
     second: &mut Cpu,
     limit: u64,
 ) -> Begun
     ensures text { WritesAfter W.contents writer.old so_far writer.new result.written
-        (first_otherwise (steps_of limit first.old) (steps_of limit second.old)) }
+        (first_otherwise texts.entry (steps_of limit first.old) (steps_of limit second.old)) }
     ensures along { Along same_slot limit first.old second.old first.new second.new result.steps }
     ensures alike { result.is_alike ≡ (alike_for (steps_of limit first.old) (steps_of limit second.old)
         == together_for (steps_of limit first.old) (steps_of limit second.old)) }
@@ -114,7 +118,7 @@ fn put_begun<W: Write>(
         },
         Some(parted) => {
             let number = steps + 1;
-            let written = put_otherwise(writer, so_far, number, &parted, first, second);
+            let written = put_otherwise(writer, so_far, texts, number, &parted, first, second);
             let one = values_written(first, &parted.first, number);
             let another = values_written(second, &parted.second, number);
             Begun {

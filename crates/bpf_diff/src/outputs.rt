@@ -17,6 +17,7 @@ use crate::end::same_status;
 use crate::lines::put_ends;
 use crate::seen::{first_place, seen};
 use crate::start::Start;
+use crate::texts::BothTexts;
 use crate::values::value_left;
 use crate::writer::{find_writer, put_writer};
 use bpf_machine::Cpu;
@@ -36,13 +37,15 @@ struct Difference {
 
 /// Runs two machines, which stand where they were opened so, each to its end or to a limit of steps, and
 /// writes the first place that is seen from outside at which they ended otherwise, which step of each
-/// wrote it last, and how they ended. If memory runs out, nothing is written.
+/// wrote it last, with what is told of its slot, and how they ended. If memory runs out, nothing is
+/// written.
 ///
 /// Nothing is kept of the steps: where they end otherwise, each machine is opened and run twice more.
 pub fn put_writes<W: Write>(
     alloc: Global,
     writer: &mut Counted<W>,
     so_far: Result<(), WriteFault>,
+    texts: BothTexts<'_>,
     first: &mut Cpu,
     second: &mut Cpu,
     start: &Start<'_>,
@@ -53,9 +56,9 @@ pub fn put_writes<W: Write>(
     requires second { Starts other.now second.old }
     ensures text { IfOk result (λ compared. WritesAfter W.contents writer.old so_far writer.new
         compared.written
-        (by_writes limit start.now.context.now other.now.context.now first.old second.old).text) }
+        (by_writes texts.entry limit start.now.context.now other.now.context.now first.old second.old).text) }
     ensures finds { IfOk result (λ compared. Finds compared
-        (by_writes limit start.now.context.now other.now.context.now first.old second.old)) }
+        (by_writes texts.entry limit start.now.context.now other.now.context.now first.old second.old)) }
     ensures programs { IfOk result (λ compared. (first.new.program ≡ first.old.program)
         × (second.new.program ≡ second.old.program)) }
     ensures err { IfErr result (λ fault. writer.new ≡ writer.old) }
@@ -84,7 +87,7 @@ pub fn put_writes<W: Write>(
     let left = value_left(place, value, one);
     let other_left = value_left(place, other_value, another);
     Ok(Compared {
-        written: put_difference(writer, so_far, first, second, &difference, limit),
+        written: put_difference(writer, so_far, texts, first, second, &difference, limit),
         is_same: false,
         values: Some((left, other_left)),
     })
@@ -126,6 +129,7 @@ fn end_alike(first: &Cpu, second: &Cpu) -> bool
 fn put_difference<W: Write>(
     writer: &mut Counted<W>,
     so_far: Result<(), WriteFault>,
+    texts: BothTexts<'_>,
     first: &mut Cpu,
     second: &mut Cpu,
     difference: &Difference,
@@ -136,14 +140,15 @@ fn put_difference<W: Write>(
     ensures programs { (first.new.program ≡ first.old.program) × (second.new.program ≡ second.old.program) }
     ensures text { WritesAfter W.contents writer.old so_far writer.new result
         ((spec.place_line difference.now.place difference.now.values.0 difference.now.values.1
-        ++ (writer_line (codes "< ") difference.now.writers.0 (steps_of limit first.old)
-        ++ writer_line (codes "> ") difference.now.writers.1 (steps_of limit second.old)))
+        ++ (writer_line (codes "< ") texts.entry.first difference.now.writers.0 (steps_of limit first.old)
+        ++ writer_line (codes "> ") texts.entry.second difference.now.writers.1 (steps_of limit second.old)))
         ++ ends_text false 0 (end_line limit (plain_end limit first.old))
         (end_line limit (plain_end limit second.old))) }
 {
     let headed = put_place(writer, so_far, difference.place, difference.values);
-    let one = put_writer(writer, headed, b"< ", difference.writers.0, first, limit);
-    let both = put_writer(writer, one, b"> ", difference.writers.1, second, limit);
+    let (number, other) = difference.writers;
+    let one = put_writer(writer, headed, b"< ", texts.first, number, first, limit);
+    let both = put_writer(writer, one, b"> ", texts.second, other, second, limit);
     put_ends(writer, both, false, 0, limit, first, second)
 }
 

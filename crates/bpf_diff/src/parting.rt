@@ -8,7 +8,9 @@ ghost use Rattle.counted_io.specs.Writing.{WritesAfter};
 
 use crate::follow::take_step;
 use crate::lines::{put_heading, put_side};
+use crate::texts::BothTexts;
 use bpf_machine::Cpu;
+use bpfdb_script::SlotTexts;
 use counted_io::{Counted, WriteFault};
 use std::io::Write;
 
@@ -25,6 +27,7 @@ pub struct Parting {
 pub fn put_parting<W: Write>(
     writer: &mut Counted<W>,
     so_far: Result<(), WriteFault>,
+    texts: BothTexts<'_>,
     first: &mut Cpu,
     second: &mut Cpu,
     steps: u64,
@@ -32,7 +35,7 @@ pub fn put_parting<W: Write>(
 ) -> Parting
     requires { steps + left < 2 ^ 64 }
     ensures text { WritesAfter W.contents writer.old so_far writer.new result.written
-        (parting (steps + 1) (steps_of left first.old) (steps_of left second.old)) }
+        (parting texts.entry (steps + 1) (steps_of left first.old) (steps_of left second.old)) }
     ensures ends { (c : ℕ) × (d : ℕ) × Advances left first.old first.new c × Advances left second.old second.new d }
     ensures none { result.is_none ≡ (length (steps_of left first.old) == 0)
         && (length (steps_of left second.old) == 0) }
@@ -47,9 +50,9 @@ pub fn put_parting<W: Write>(
     }
     let number = steps + 1;
     let headed = put_parting_heading(writer, so_far, number, one, other);
-    let half = put_rest(writer, headed, b"< ", number, first, left);
+    let half = put_rest(writer, headed, b"< ", texts.first, number, first, left);
     Parting {
-        written: put_rest(writer, half, b"> ", number, second, left),
+        written: put_rest(writer, half, b"> ", texts.second, number, second, left),
         is_none: !one && !other,
     }
 }
@@ -84,19 +87,20 @@ pub fn put_rest<W: Write>(
     writer: &mut Counted<W>,
     so_far: Result<(), WriteFault>,
     mark: &[u8],
+    texts: SlotTexts<'_>,
     number: u64,
     cpu: &mut Cpu,
     left: u64,
 ) -> Result<(), WriteFault>
     ensures text { WritesAfter W.contents writer.old so_far writer.new result
-        (side mark.now number (steps_of left cpu.old)) }
+        (side mark.now texts.entry number (steps_of left cpu.old)) }
     ensures end { (c : ℕ) × Advances left cpu.old cpu.new c }
 {
     if !goes_on(cpu, left) {
         return so_far;
     }
     let taken = take_step(cpu);
-    let told = put_side(writer, so_far, mark, number, &taken, cpu);
+    let told = put_side(writer, so_far, mark, texts, number, &taken, cpu);
     let _rest = cpu.run(left - 1);
     told
 }

@@ -22,6 +22,7 @@ use bpf_machine::Cpu;
 use bpf_opening::reopen;
 use bpf_origin::Place;
 use bpf_trace::Taken;
+use bpfdb_script::SlotTexts;
 use counted_io::{Counted, WriteFault, put};
 use std::alloc::{AllocError, Global};
 use std::io::Write;
@@ -132,13 +133,14 @@ pub fn put_writer<W: Write>(
     writer: &mut Counted<W>,
     so_far: Result<(), WriteFault>,
     mark: &[u8],
+    texts: SlotTexts<'_>,
     number: u64,
     cpu: &mut Cpu,
     limit: u64,
 ) -> Result<(), WriteFault>
     requires { number ≤ limit }
     ensures text { WritesAfter W.contents writer.old so_far writer.new result
-        (writer_line mark.now number (steps_of limit cpu.old)) }
+        (writer_line mark.now texts.entry number (steps_of limit cpu.old)) }
     ensures end { (n : ℕ) × Advances limit cpu.old cpu.new n }
 {
     if number == 0 {
@@ -147,5 +149,5 @@ pub fn put_writer<W: Write>(
         return put(writer, marked, b"not written\n");
     }
     let passed = cpu.run(number - 1);
-    put_rest(writer, so_far, mark, number, cpu, limit - passed)
+    put_rest(writer, so_far, mark, texts, number, cpu, limit - passed)
 }

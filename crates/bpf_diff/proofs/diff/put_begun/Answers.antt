@@ -21,7 +21,7 @@ pub returns-in-None-clause-text : goal.returns-in-None-clause-text
 returns-in-None-clause-text g c =
     let p = rw c.in-None.is at c.go_alike-agreed.ensures in
     nothing-more g.W.Write.contents c.args.writer.now c.args.so_far _
-    (begun-none c.args.limit c.go_alike-agreed.result.steps c.args.first.now c.args.second.now c.go_alike-agreed.new.first c.go_alike-agreed.new.second p.0 p.1)
+    (begun-none c.args.texts c.args.limit c.go_alike-agreed.result.steps c.args.first.now c.args.second.now c.go_alike-agreed.new.first c.go_alike-agreed.new.second p.0 p.1)
 
 pub returns-in-None-clause-alike : goal.returns-in-None-clause-alike
 returns-in-None-clause-alike g c =
@@ -32,7 +32,7 @@ pub returns-in-Some-clause-text : goal.returns-in-Some-clause-text
 returns-in-Some-clause-text g c =
     let p = rw c.in-Some.is at c.go_alike-agreed.ensures in
     WritesAfter-text g.W.Write.contents _ _ _ _ _ _ (c.put_otherwise-written.ensures p.p p.q p.first p.second)
-    (begun-some c.args.limit c.go_alike-agreed.result.steps c.args.first.now c.args.second.now c.go_alike-agreed.new.first c.go_alike-agreed.new.second c.in-Some.parted p)
+    (begun-some c.args.texts c.args.limit c.go_alike-agreed.result.steps c.args.first.now c.args.second.now c.go_alike-agreed.new.first c.go_alike-agreed.new.second c.in-Some.parted p)
 
 pub returns-in-Some-clause-along : goal.returns-in-Some-clause-along
 returns-in-Some-clause-along g c =

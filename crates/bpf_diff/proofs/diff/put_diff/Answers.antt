@@ -29,7 +29,7 @@ returns-clause-text g c =
     let same : c.is_same-same.result ≡ are_same limit x y =
     c.is_same-same.ensures
     ∙ same-whole limit n m ends.0 ends.1 x y a b p q v w begun.along more ends.2 ends.3 _ _ (same_end v w) begun.alike parted.none refl in
-    let told = WritesAfter-text g.W.Write.contents _ _ _ _ _ _ parted.text (sym (parting-whole limit n m ends.0 ends.1 x y a b p q v w begun.along more ends.2 ends.3)) in
+    let told = WritesAfter-text g.W.Write.contents _ _ _ _ _ _ parted.text (sym (parting-whole limit n m ends.0 ends.1 x y a b p q v w begun.along more ends.2 ends.3 c.args.texts)) in
     let ended = WritesAfter-text g.W.Write.contents _ _ _ _ _ _ c.put_ends-written.ensures
     (ends-whole limit n m ends.0 ends.1 x y a b p q v w begun.along more ends.2 ends.3 c.is_same-same.result same) in
     let two = WritesAfter-WritesAfter g.W.Write.contents _ _ _ _ _ _ _ _ _ begun.text told refl in

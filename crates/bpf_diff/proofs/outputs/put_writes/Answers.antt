@@ -12,7 +12,7 @@ use Rattle.bpf_diff.proofs.outputs.put_writes.Goals as goal
 pub returns-in-None-clause-text : goal.returns-in-None-clause-text
 returns-in-None-clause-text g c =
     WritesAfter-text g.W.Write.contents _ _ _ _ _ _ c.put_same.ensures.text
-    (same-text c.args.limit _ _ c.args.first.now c.args.second.now _ _ c.run-one.ensures c.run-another.ensures _ _
+    (same-text c.args.limit _ _ c.args.first.now c.args.second.now _ _ c.run-one.ensures c.run-another.ensures _ _ c.args.texts
     (sym c.in-None.is ∙ c.first_place.ensures))
 
 pub returns-in-None-clause-finds : goal.returns-in-None-clause-finds
@@ -38,7 +38,7 @@ returns-clause-text g c =
     let m = c.in-Ok-find_writer.ensures in
     WritesAfter-text g.W.Write.contents _ _ _ _ _ _ c.put_difference.ensures.text
     (differ-told limit _ _ c.args.first.now c.args.second.now _ _ c.run-one.ensures c.run-another.ensures _ _ p
-    (sym c.in-Some.is ∙ c.first_place.ensures) _ _ _ _ _ _ c.seen-value.ensures c.seen-other_value.ensures (n.start ∙ one) (m.start ∙ other)
+    (sym c.in-Some.is ∙ c.first_place.ensures) c.args.texts _ _ _ _ _ _ c.seen-value.ensures c.seen-other_value.ensures (n.start ∙ one) (m.start ∙ other)
     (n.value ∙ ap (λ x. last_write p (steps_of limit x)) one) (m.value ∙ ap (λ x. last_write p (steps_of limit x)) other))
 
 pub returns-clause-finds : goal.returns-clause-finds

@@ -12,7 +12,7 @@ returns-then-not-one-clause-text g c =
     let headed = c.put_parting_heading-headed.ensures xs ys c.goes_on-one.ensures c.goes_on-other.ensures in
     let half = WritesAfter-WritesAfter g.W.Write.contents _ _ _ _ _ _ _ _ _ headed c.put_rest-half.ensures.text refl in
     WritesAfter-WritesAfter g.W.Write.contents _ _ _ _ _ _ _ _ _ half c.put_rest.ensures.text
-    (append_assoc (parting_heading k xs ys) (side (codes "< ") k xs) (side (codes "> ") k ys))
+    (append_assoc (parting_heading k xs ys) (side (codes "< ") c.args.texts.first k xs) (side (codes "> ") c.args.texts.second k ys))
 
 pub returns-else-not-one-clause-text : goal.returns-else-not-one-clause-text
 returns-else-not-one-clause-text g c =
@@ -22,4 +22,4 @@ returns-else-not-one-clause-text g c =
     let headed = c.put_parting_heading-headed.ensures xs ys c.goes_on-one.ensures c.goes_on-other.ensures in
     let half = WritesAfter-WritesAfter g.W.Write.contents _ _ _ _ _ _ _ _ _ headed c.put_rest-half.ensures.text refl in
     WritesAfter-WritesAfter g.W.Write.contents _ _ _ _ _ _ _ _ _ half c.put_rest.ensures.text
-    (append_assoc (parting_heading k xs ys) (side (codes "< ") k xs) (side (codes "> ") k ys))
+    (append_assoc (parting_heading k xs ys) (side (codes "< ") c.args.texts.first k xs) (side (codes "> ") c.args.texts.second k ys))

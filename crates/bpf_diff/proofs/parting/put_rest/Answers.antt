@@ -13,7 +13,7 @@ pub returns-clause-text : goal.returns-clause-text
 returns-clause-text g c =
     let goes : not (length (steps_of c.args.left c.args.cpu.now) == 0) ≡ true = sym c.goes_on.ensures ∙ c.if-not-goes_on.false in
     WritesAfter-text g.W.Write.contents _ _ _ _ _ _ (c.put_side-told.ensures c.args.cpu.now c.take_step-taken.ensures)
-    (side-there c.args.mark.now c.args.number c.args.left c.args.cpu.now goes)
+    (side-there c.args.mark.now c.args.texts c.args.number c.args.left c.args.cpu.now goes)
 
 pub returns-clause-end : goal.returns-clause-end
 returns-clause-end g c =
