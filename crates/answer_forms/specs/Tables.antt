@@ -23,6 +23,7 @@ step_shapes =
     (count (codes "step") (codes " ") ∷ count (codes "slot") (codes ": ") ∷ text (codes "insn") (codes "; ") ∷ []) Moves
     ∷ shape (codes "step") [] (count (codes "step") (codes " ") ∷ count (codes "slot") (codes ": ") ∷ text (codes "insn") [] ∷ []) Moves
     ∷ shape (codes "move") (codes "-") (count (codes "moves") (codes " ") ∷ []) Moves
+    ∷ shape (codes "kept") (codes "kept: -") (count (codes "moves") (codes " ") ∷ []) Moves
     ∷ shape (codes "left") (codes "left ") [] Moves
     ∷ []
 
@@ -73,16 +74,18 @@ piece_shapes =
     ∷ shape [] (codes "not written since the ") (text (codes "since") [] ∷ []) Nothing
     ∷ []
 
--- The result of `run`.
+-- The result of `run`, with the name of a verdict, or without.
 abbrev pub value_shapes : List Pattern
 value_shapes =
-    shape (codes "result") [] (text (codes "r0") [] ∷ []) Nothing
+    shape (codes "result") [] (text (codes "r0") (codes " ") ∷ text (codes "verdict") [] ∷ []) Nothing
+    ∷ shape (codes "result") [] (text (codes "r0") [] ∷ []) Nothing
     ∷ []
 
--- How often each instruction ran.
+-- How often each instruction ran, with its place in C or without.
 abbrev pub profile_shapes : List Pattern
 profile_shapes =
-    shape (codes "ran") [] (count (codes "count") (codes " ") ∷ count (codes "slot") (codes ": ") ∷ text (codes "insn") [] ∷ []) Nothing
+    shape (codes "ran") [] (count (codes "count") (codes " ") ∷ count (codes "slot") (codes ": ") ∷ text (codes "insn") (codes "; ") ∷ []) Moves
+    ∷ shape (codes "ran") [] (count (codes "count") (codes " ") ∷ count (codes "slot") (codes ": ") ∷ text (codes "insn") [] ∷ []) Nothing
     ∷ []
 
 -- What the checker accepted.
@@ -121,6 +124,12 @@ map_shapes =
     ∷ text (codes "address") [] ∷ []) Nothing
     ∷ []
 
+-- What of a program is other than Linux's: a function, and how.
+abbrev pub difference_shapes : List Pattern
+difference_shapes =
+    shape (codes "differs") (codes "other than Linux: ") (text (codes "name") (codes " ") ∷ text (codes "how") [] ∷ []) Nothing
+    ∷ []
+
 -- A report on tests, and what follows those that failed, and on what ran.
 abbrev pub report_shapes : List Pattern
 report_shapes =
@@ -157,5 +166,5 @@ patterns_of Profile = profile_shapes ++ place_shapes
 patterns_of Check = check_shapes
 patterns_of Listing = listing_shapes
 patterns_of Lines = line_shapes
-patterns_of Program = check_shapes ++ map_shapes ++ line_shapes
+patterns_of Program = check_shapes ++ map_shapes ++ difference_shapes ++ line_shapes
 patterns_of Report = report_shapes

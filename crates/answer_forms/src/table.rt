@@ -74,16 +74,24 @@ const PIECES: [Shape; 10] = [
     },
 ];
 
-/// What `run` prints.
-const VALUE: [Shape; 1] = [Shape {
-    kind: b"result",
-    begin: b"",
-    fields: &[Field::Text(b"r0", b"")],
-    rest: Rest::Nothing,
-}];
+/// What `run` prints, with the name of a verdict, or without.
+const VALUE: [Shape; 2] = [
+    Shape {
+        kind: b"result",
+        begin: b"",
+        fields: &[Field::Text(b"r0", b" "), Field::Text(b"verdict", b"")],
+        rest: Rest::Nothing,
+    },
+    Shape {
+        kind: b"result",
+        begin: b"",
+        fields: &[Field::Text(b"r0", b"")],
+        rest: Rest::Nothing,
+    },
+];
 
 /// What `trace`, `origin`, `whynot` and `diff` print.
-const RUN: [Shape; 18] = [
+const RUN: [Shape; 19] = [
     Shape {
         kind: b"step",
         begin: b"",
@@ -107,6 +115,12 @@ const RUN: [Shape; 18] = [
     Shape {
         kind: b"move",
         begin: b"-",
+        fields: &[Field::Count(b"moves", b" ")],
+        rest: Rest::Moves,
+    },
+    Shape {
+        kind: b"kept",
+        begin: b"kept: -",
         fields: &[Field::Count(b"moves", b" ")],
         rest: Rest::Moves,
     },
@@ -228,7 +242,17 @@ const RUN: [Shape; 18] = [
 ];
 
 /// What `trace --profile` prints.
-const PROFILE: [Shape; 6] = [
+const PROFILE: [Shape; 7] = [
+    Shape {
+        kind: b"ran",
+        begin: b"",
+        fields: &[
+            Field::Count(b"count", b" "),
+            Field::Count(b"slot", b": "),
+            Field::Text(b"insn", b"; "),
+        ],
+        rest: Rest::Moves,
+    },
     Shape {
         kind: b"ran",
         begin: b"",
@@ -371,8 +395,18 @@ const MAP: Shape = Shape {
     rest: Rest::Nothing,
 };
 
+/// What of a program is other than Linux's: a function, and how.
+const DIFFERENCE: Shape = Shape {
+    kind: b"differs",
+    begin: b"other than Linux: ",
+    fields: &[Field::Text(b"name", b" "), Field::Text(b"how", b"")],
+    rest: Rest::Nothing,
+};
+
 /// What `load` prints.
-const PROGRAM: [Shape; 7] = [SIZE, NAMED_MAP, MAP, FUNCTION, SOURCE, LABELLED, LINE];
+const PROGRAM: [Shape; 8] = [
+    SIZE, NAMED_MAP, MAP, DIFFERENCE, FUNCTION, SOURCE, LABELLED, LINE,
+];
 
 /// What `test` prints.
 const REPORT: [Shape; 17] = [
