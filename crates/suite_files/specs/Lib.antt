@@ -1,6 +1,7 @@
 pub mod Asks
 pub mod Faults
 pub mod Links
+pub mod Joining
 pub mod Maps
 pub mod Replaced
 pub mod Refused

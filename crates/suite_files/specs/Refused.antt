@@ -9,8 +9,9 @@ use Rattle.bpf_load.specs.declared.fault.ObjectFault.{ObjectFault}
 use Rattle.bpf_load.specs.declared.loading.LinkedObject.{LinkedObject}
 use Rattle.bpf_load.specs.declared.target.Target.{Target}
 use Rattle.suite_files.specs.Asks.{Asks, AsksNothing}
+use Rattle.suite_files.specs.Joining.{Completes}
 use Rattle.suite_files.specs.Links.{IsTargetOf, names_told}
-use Rattle.suite_files.specs.Replaced.{IsPut, ReadFirst, ReplacesFirst, capture_name, no_piece, packet_number, paths_first}
+use Rattle.suite_files.specs.Replaced.{IsPut, ReadFirst, ReplacesFirst, capture_name, linux_of, no_piece, packet_number, paths_first}
 use Rattle.suite_files.specs.Shelves.{IsFile, IsNameFault, with_names}
 use Rattle.suite_files.specs.declared.asked.Asked.{Asked}
 use Rattle.suite_files.specs.declared.fault.FilesFault.{FilesFault}
@@ -103,8 +104,10 @@ pub record HasNoProgram (bytes_at : List ℕ → Option (List ℕ)) (place : Pla
   pub file : IsFile bytes_at place asked.object object
   pub with : List (List ℕ)
   pub others : ReadFirst bytes_at place asked.with.items (length asked.with.items) with
+  pub all : List (List ℕ)
+  pub completes : Completes (linux_of place) asked object with all
   pub target : Target
-  pub is_target : IsTargetOf asked object with target
+  pub is_target : IsTargetOf asked object all target
   pub why : IsUnmade place.lines target object fault
 
 abbrev pub IsOthersFault : (List ℕ → Option (List ℕ)) → Place → List (List ℕ) → Asked → PutFault → Type 0

@@ -1,12 +1,13 @@
 -- A file of tests in which sections that name files are replaced by sections of what these hold.
 use Rattle.std.specs.Prelude.{ℕ, zero, suc, ◌≡◌, ◌≤◌, true, List, [], ◌∷◌, ◌++◌, Option, Some, drop, get_or, length, take}
 use Rattle.std.specs.List.{position_or_len}
-use Rattle.std.specs.Option.{option_and_then}
+use Rattle.std.specs.Option.{option_and_then, option_map}
 use Rattle.counted_io.specs.Lines.{is_blank, trim_start}
 use Rattle.counted_io.specs.Numerals.{as_u64, natural}
 use Rattle.bpf_load.specs.Targets.{LinksTo}
 use Rattle.bpf_load.specs.declared.target.Target.{Target}
 use Rattle.suite_files.specs.Asks.{Asks}
+use Rattle.suite_files.specs.Joining.{Completes}
 use Rattle.suite_files.specs.Links.{IsTableOf, IsTargetOf}
 use Rattle.suite_files.specs.Maps.{maps_text}
 use Rattle.suite_files.specs.Shelves.{IsFile, most_files, path_of, with_names, with_path}
@@ -58,13 +59,19 @@ abbrev pub program_text : Made → List ℕ
 program_text made =
     let program = made.loaded.program in with_lines (words_text program.words.items (maps_text program.shapes.items)) made.table.items
 
+-- Linux's library, where it may be joined by itself.
+abbrev pub linux_of : Place → Option (List ℕ)
+linux_of place = option_map (λ library. library.now) place.linux
+
 pub record IsAskedProgram (bytes_at : List ℕ → Option (List ℕ)) (place : Place) (asked : Asked) (made : Made) : Type 0 where
   pub object : List ℕ
   pub file : IsFile bytes_at place asked.object object
   pub with : List (List ℕ)
   pub others : ReadFirst bytes_at place asked.with.items (length asked.with.items) with
+  pub all : List (List ℕ)
+  pub completes : Completes (linux_of place) asked object with all
   pub target : Target
-  pub is_target : IsTargetOf asked object with target
+  pub is_target : IsTargetOf asked object all target
   pub loads : LinksTo target object made.loaded
   pub is_table : IsTableOf place.lines target made.loaded made.table.items
 

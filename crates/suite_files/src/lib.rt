@@ -5,6 +5,7 @@
 mod asked;
 mod fault;
 mod file;
+mod joining;
 mod made;
 mod maps;
 mod place;

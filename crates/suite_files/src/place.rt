@@ -12,6 +12,8 @@ pub struct Place<'a> {
     pub folder: &'a [u8],
     /// Files may lie anywhere, and not only there or below.
     pub anywhere: bool,
+    /// Linux's library of helpers, where it may be joined to objects by itself.
+    pub linux: Option<&'a [u8]>,
     /// Behind the words of an object's program stands a table of their places in its source.
     pub lines: bool,
 }

@@ -12,6 +12,7 @@ ghost use Rattle.input_texts.specs.declared.word.Word.TheVariants as word;
 
 use crate::asked::{Asked, asked_of};
 use crate::fault::{NamedFault, PutFault};
+use crate::joining::completed;
 use crate::made::{Made, made_of, target_of};
 use crate::maps::maps_text;
 use crate::place::Place;
@@ -242,7 +243,11 @@ fn asked_program<F: Opener>(
         Err(fault) => return Err(fault_of(fault)),
     };
     let object = shelf[at].bytes.as_slice();
-    let target = target_of(alloc, asked, object, others.as_slice());
+    let all = match completed(alloc, place.linux, asked, object, others) {
+        Ok(all) => all,
+        Err(_) => return Err(PutFault::Memory),
+    };
+    let target = target_of(alloc, asked, object, all.as_slice());
     match made_of(alloc, place.lines, &target, object) {
         Ok(made) => Ok(made),
         Err(fault) => Err(fault),
