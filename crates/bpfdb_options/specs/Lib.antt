@@ -1,3 +1,4 @@
+pub mod Asks
 pub mod Lines
 pub mod Registers
 pub mod Subcommands
