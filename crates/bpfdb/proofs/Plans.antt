@@ -5,8 +5,8 @@ use Rattle.bpfdb_cli.specs.declared.plans.Plan.{Plan}
 use Rattle.bpfdb_jobs.specs.Statuses.{EndsWith}
 use Rattle.bpfdb_jobs.proofs.Statuses.{ends_with}
 use Rattle.bpfdb_jobs.specs.declared.job.Job.{Job}
-use Rattle.bpfdb_options.specs.declared.subcommand.Subcommand.{Subcommand}
-use Rattle.bpfdb_options.specs.declared.subcommand.Subcommand.TheVariants.{Debug}
+use Rattle.bpfdb_options.specs.declared.ask.Ask.{Ask}
+use Rattle.bpfdb_options.specs.declared.ask.Ask.TheVariants.{Debug}
 use Rattle.bpfdb_jobs.specs.Done.{DoesJob}
 use Rattle.bpfdb.specs.declared.telling.Telling.{Telling}
 use Rattle.bpfdb.specs.Telling.{DoesTold, Retells, telling_of}
@@ -19,26 +19,26 @@ use Rattle.bpfdb.specs.Done.{DoesFitting, DoesOr, DoesPlan, DoesRead, DoesReplac
 
 -- It is that of the plan's job, unless it is 2, told as JSON or not.
 ends_retold_with : {R W E : Type 0} (reader : Stream R) (writer : Stream W) (errors : Stream E) (telling : Telling) (job : Job) (status : ℕ)
-    → Retells telling job reader writer errors status → status ≢ 2 → EndsWith job.subcommand job status
+    → Retells telling job reader writer errors status → status ≢ 2 → EndsWith job.ask job status
 ends_retold_with reader writer errors telling job status (retold.Exhausted out told done does kept said two) other = absurd (other two)
 ends_retold_with reader writer errors telling job status (retold.Tells text err done tells (retold.OutLost lost said two)) other = absurd (other two)
 ends_retold_with reader writer errors telling job status (retold.Tells text err done tells (retold.ErrLost gets lost two)) other = absurd (other two)
 ends_retold_with reader writer errors telling job status (retold.Tells text err done tells (retold.Written gets said same)) other =
-    ends_with reader tells.out tells.told job.subcommand job status (subst (λ (s : ℕ). DoesJob job.subcommand job reader tells.out tells.told s) (sym same) tells.does) other
+    ends_with reader tells.out tells.told job.ask job status (subst (λ (s : ℕ). DoesJob job.ask job reader tells.out tells.told s) (sym same) tells.does) other
 
 ends_told_with : {R W E : Type 0} (reader : Stream R) (writer : Stream W) (errors : Stream E) (telling : Option Telling) (job : Job) (status : ℕ)
-    → DoesTold telling job reader writer errors status → status ≢ 2 → EndsWith job.subcommand job status
-ends_told_with reader writer errors None job status does other = ends_with reader writer errors job.subcommand job status does other
+    → DoesTold telling job reader writer errors status → status ≢ 2 → EndsWith job.ask job status
+ends_told_with reader writer errors None job status does other = ends_with reader writer errors job.ask job status does other
 ends_told_with reader writer errors (Some telling) job status does other = ends_retold_with reader writer errors telling job status does other
 
 ends_or_with : {R W E : Type 0} (reader : Stream R) (writer : Stream W) (errors : Stream E) (refuses at_terminal : Bool) (plan : Plan) (job : Job) (status : ℕ)
-    → DoesOr refuses at_terminal plan job reader writer errors status → status ≢ 2 → EndsWith job.subcommand job status
+    → DoesOr refuses at_terminal plan job reader writer errors status → status ≢ 2 → EndsWith job.ask job status
 ends_or_with reader writer errors refuses at_terminal plan job status (Unlike is same kept told two) other = absurd (other two)
 ends_or_with reader writer errors refuses at_terminal plan job status (Like is does) other =
     ends_told_with reader writer (record errors { new = does.told }) (telling_of plan) job status does.does other
 
 ends_fitting_with : {R W E : Type 0} (reader : Stream R) (writer : Stream W) (errors : Stream E) (at_terminal : Bool) (plan : Plan) (of : Contents) (job : Job)
-    (status : ℕ) → DoesFitting at_terminal plan of job reader writer errors status → status ≢ 2 → EndsWith job.subcommand job status
+    (status : ℕ) → DoesFitting at_terminal plan of job reader writer errors status → status ≢ 2 → EndsWith job.ask job status
 ends_fitting_with reader writer errors at_terminal plan of job status (Misfits why is same kept told two) other = absurd (other two)
 ends_fitting_with reader writer errors at_terminal plan of job status (Fits none does) other =
     ends_or_with reader writer (record errors { old = does.noted }) (refuses_unlike plan does.unlike) at_terminal plan job status does.does other
@@ -86,7 +86,7 @@ ends_file_with reader file errors world plan path status (Does text err done pri
     ends_for_file_with reader file errors world plan path text err done status prints ends other
 
 -- Of a plan to debug it is 0 then.
-pub debug_ends_with : (plan : Plan) (status : ℕ) → plan.subcommand ≡ Debug → EndsPlanWith plan status → status ≡ 0
+pub debug_ends_with : (plan : Plan) (status : ℕ) → plan.ask ≡ Debug → EndsPlanWith plan status → status ≡ 0
 debug_ends_with plan status debugs ends =
-    let at : EndsWith Debug ends.job status = subst (λ (s : Subcommand). EndsWith s ends.job status) (ends.is.subcommand ∙ debugs) ends.ends in
+    let at : EndsWith Debug ends.job status = subst (λ (s : Ask). EndsWith s ends.job status) (ends.is.ask ∙ debugs) ends.ends in
     at.2

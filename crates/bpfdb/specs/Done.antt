@@ -47,7 +47,7 @@ pub record DoesNoted {R W E : Type 0} (at_terminal : Bool) (plan : Plan) (of : C
     (errors : Stream E) (status : ℕ) : Type 0 where
   pub noted : Tally E
   pub unlike : Bool
-  pub says : SaysNotes job of (record errors { new = noted }) unlike
+  pub says : SaysNotes plan job of (record errors { new = noted }) unlike
   pub does : DoesOr (refuses_unlike plan unlike) at_terminal plan job reader writer (record errors { old = noted }) status
 
 -- A job is done unless what its files are doesn't go together with what it asks: that is told, and nothing else happens.
@@ -62,10 +62,10 @@ pub data DoesFitting {R W E : Type 0} (at_terminal : Bool) (plan : Plan) (of : C
 -- nothing else happens.
 pub data DoesReplaced {R W E : Type 0} (world : World) (plan : Plan) (of : Contents) (reader : Stream R) (writer : Stream W) (errors : Stream E) (status : ℕ)
     : Type 0 where
-  Replaced : (bytes : List ℕ) → IsTestsFor world.bytes_at plan of.file bytes → (job : Job) → IsJobOf plan (record of { file = bytes }) job
+  Replaced : (bytes : List ℕ) → IsTestsFor world plan of.file bytes → (job : Job) → IsJobOf plan (record of { file = bytes }) job
       → DoesFitting world.at_terminal plan (record of { file = bytes }) job reader writer errors status
       → DoesReplaced world plan of reader writer errors status
-  Unreplaced : (fault : FilesFault) → IsUnreplaced world.bytes_at plan of.file fault → reader.new ≡ reader.old → writer.new ≡ writer.old
+  Unreplaced : (fault : FilesFault) → IsUnreplaced world plan of.file fault → reader.new ≡ reader.old → writer.new ≡ writer.old
       → Told errors (files_line fault) → status ≡ 2
       → DoesReplaced world plan of reader writer errors status
 
@@ -90,7 +90,7 @@ pub record EndsPlanWith (plan : Plan) (status : ℕ) : Type 0 where
   pub of : Contents
   pub job : Job
   pub is : IsJobOf plan of job
-  pub ends : EndsWith job.subcommand job status
+  pub ends : EndsWith job.ask job status
 
 -- A text was written as help; or a beginning of it; or memory ran out, and nothing was written.
 pub data Helps {W E : Type 0} (writer : Stream W) (errors : Stream E) (status : ℕ) : Type 0 where

@@ -18,20 +18,20 @@ use Rattle.bpfdb_files.specs.declared.kinds.FileKind.{FileKind}
 use Rattle.bpfdb_files.specs.declared.kinds.FileKind.TheVariants.{Program, Any, Context, Source}
 use Rattle.bpfdb_faults.specs.declared.fault.JobFault.{JobFault}
 use Rattle.bpfdb_faults.specs.declared.fault.JobFault.TheVariants.{Unreadable, Memory}
-use Rattle.bpfdb_options.specs.declared.subcommand.Subcommand.{Subcommand}
-use Rattle.bpfdb_options.specs.declared.subcommand.Subcommand.TheVariants.{Asm, Batch, Lines, Link, Test}
+use Rattle.bpfdb_options.specs.declared.ask.Ask.{Ask}
+use Rattle.bpfdb_options.specs.declared.ask.Ask.TheVariants.{Asm, Batch, Lines, Link, Test}
 
--- What FILE is read as, by the subcommand and by what it is said to be.
-abbrev pub kind_in : Subcommand → TargetWords → FileKind
+-- What FILE is read as, by what is asked of it and by what it is said to be.
+abbrev pub kind_in : Ask → TargetWords → FileKind
 kind_in Asm words = Source
 kind_in Lines words = Source
-kind_in Link words = Source
-kind_in Test words = Source
+kind_in (Link joined) words = Source
+kind_in (Test ask) words = Source
 kind_in Batch words = Program
-kind_in subcommand words = if words.is_listing || words.is_object then Source else if words.is_words then Program else Any
+kind_in ask words = if words.is_listing || words.is_object then Source else if words.is_words then Program else Any
 
 abbrev pub kind_of : Plan → FileKind
-kind_of plan = kind_in plan.subcommand plan.target
+kind_of plan = kind_in plan.ask plan.target
 
 -- What PATH is read as: a capture, where a packet is asked for.
 abbrev pub context_kind_by : Option ℕ → FileKind

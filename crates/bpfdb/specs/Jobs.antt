@@ -12,9 +12,9 @@ use Rattle.bpfdb_cli.specs.declared.plans.Plan.{Plan}
 use Rattle.bpfdb_cli.specs.declared.plans.TargetWords.{TargetWords}
 use Rattle.bpfdb_jobs.specs.declared.job.Job.{Job}
 use Rattle.bpfdb_jobs.specs.Jobs.{links_first, name_or_empty as text_or_empty}
-use Rattle.bpfdb_options.specs.declared.subcommand.Subcommand.{Subcommand}
-use Rattle.bpfdb_options.specs.declared.subcommand.Subcommand.TheVariants.{Link}
-use Rattle.bpfdb.specs.Contents.{Contents}
+use Rattle.bpfdb_options.specs.declared.ask.Ask.{Ask}
+use Rattle.bpfdb_options.specs.declared.ask.Ask.TheVariants.{Link}
+use Rattle.bpfdb.specs.Contents.{Contents, library_in}
 use Rattle.bpfdb.specs.Kinds.{source_kind}
 
 -- The bytes of a file, where one is named.
@@ -39,10 +39,10 @@ section_from (Some name) home = name.now
 abbrev pub section_of : TargetWords → List ℕ → List ℕ
 section_of words file = section_from words.section (home_of file (entry_of words))
 
--- A subcommand links FILE.
-abbrev pub links_by : Subcommand → SourceKind → Bool
-links_by Link kind = true
-links_by subcommand kind = links_first kind
+-- FILE is linked for what is asked of it.
+abbrev pub links_by : Ask → SourceKind → Bool
+links_by (Link joined) kind = true
+links_by ask kind = links_first kind
 
 -- The kernel's struct that the entry takes: the one that is said; or, where nothing is said, the one that an object's types tell of its entry.
 abbrev pub IsPacketOf : EntryTakes → Bool → List ℕ → List ℕ → List ℕ → Option Packet → Type 0
@@ -53,7 +53,7 @@ IsPacketOf Context tells file section entry packet = packet ≡ None
 
 -- Of programs in turn the types tell nothing.
 abbrev pub tells_packet : Plan → SourceKind → Bool
-tells_packet plan kind = links_by plan.subcommand kind && length plan.target.turns.items == 0
+tells_packet plan kind = links_by plan.ask kind && length plan.target.turns.items == 0
 
 -- What FILE is, and which program runs: what the plan says of that.
 pub record IsTargetOf (plan : Plan) (of : Contents) (target : Target) : Type 0 where
@@ -68,14 +68,15 @@ pub record IsTargetOf (plan : Plan) (of : Contents) (target : Target) : Type 0 w
   pub as_compiled : target.as_compiled ≡ not plan.target.strict_fields
   pub packet : IsPacketOf plan.target.takes (tells_packet plan target.kind) of.file target.section.now target.entry.now target.packet
 
--- It has the plan's subcommand and options, the name of FILE and its bytes, those of PATH, those of the other file, if there is one, and what says which
--- program of an object runs.
+-- It asks what the plan asks, with its options, and has the name of FILE and its bytes, those of PATH, those of the other file, if there is one, what says
+-- which program of an object runs, and Linux's library, where it was joined by itself.
 pub record IsJobOf (plan : Plan) (of : Contents) (job : Job) : Type 0 where
-  pub subcommand : job.subcommand ≡ plan.subcommand
+  pub ask : job.ask ≡ plan.ask
   pub name : job.name.now ≡ plan.file.now
   pub file : job.file.now ≡ of.file
   pub context : job.context.now ≡ of.context
   pub other : IsNamed plan.other of.other job.other
   pub other_kind : job.other_kind ≡ source_kind plan (name_or_empty plan.other) of.other
   pub target : IsTargetOf plan of job.target
+  pub library : job.library.now ≡ library_in of
   pub options : job.options ≡ plan.options

@@ -8,15 +8,20 @@ use Rattle.bpf_load.specs.declared.target.Target.{Target}
 use Rattle.bpfdb_cli.specs.declared.plans.Plan.{Plan}
 use Rattle.bpfdb_jobs.specs.Jobs.{links_first}
 use Rattle.bpfdb_jobs.specs.declared.job.Job.{Job}
-use Rattle.bpfdb_options.specs.declared.subcommand.Subcommand.{Subcommand}
-use Rattle.bpfdb_options.specs.declared.subcommand.Subcommand.TheVariants.{Link}
+use Rattle.bpfdb_options.specs.declared.ask.Ask.{Ask}
+use Rattle.bpfdb_options.specs.declared.ask.Ask.TheVariants.{Link}
 use Rattle.bpfdb.specs.Contents.{Contents}
 use Rattle.bpfdb.specs.Jobs.{IsJobOf, links_by}
 use Rattle.bpfdb.specs.Kinds.{runs_two}
 
+-- The object that would be linked is asked for.
+abbrev pub is_joined : Ask → Bool
+is_joined (Link joined) = joined
+is_joined ask = false
+
 -- It may be: that isn't forbidden, and FILE is linked to a program.
 abbrev pub may_join : Plan → Job → Bool
-may_join plan job = not plan.target.no_linux && (not job.options.is_joined && links_by job.subcommand job.target.kind)
+may_join plan job = not plan.target.no_linux && (not (is_joined job.ask) && links_by job.ask job.target.kind)
 
 -- The other program lacks functions, if there is one.
 abbrev pub OtherLacks : Bool → Option (Bor (List ℕ)) → Target → Bool → Type 0

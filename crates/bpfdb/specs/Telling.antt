@@ -1,14 +1,16 @@
 -- What becomes of a job whose answer is told in another form: as objects of JSON, or as a graph.
 use Rattle.std.specs.Prelude.{ℕ, ◌≡◌, List, [], Vec, Option, Some, None, if◌then◌else◌}
 use Rattle.std.specs.declared.alloc.Global.{Global}
+use Rattle.bpfdb_cli.specs.declared.plans.Form.{Form}
+use Rattle.bpfdb_cli.specs.declared.plans.Form.TheVariants as form
 use Rattle.bpfdb_cli.specs.declared.plans.Plan.{Plan}
 use Rattle.bpfdb_faults.specs.Faults.{line_of}
 use Rattle.bpfdb_faults.specs.Streams.{Gets, Loses, Spared, Stream, Told}
 use Rattle.bpfdb_faults.specs.declared.fault.JobFault.TheVariants.{Memory, Output}
 use Rattle.bpfdb_jobs.specs.Done.{DoesJob}
 use Rattle.bpfdb_jobs.specs.declared.job.Job.{Job}
-use Rattle.bpfdb_options.specs.declared.subcommand.Subcommand.{Subcommand}
-use Rattle.bpfdb_options.specs.declared.subcommand.Subcommand.TheVariants as ask
+use Rattle.bpfdb_options.specs.declared.ask.Ask.{Ask}
+use Rattle.bpfdb_options.specs.declared.ask.Ask.TheVariants as ask
 use Rattle.bpfdb.specs.declared.telling.Telling.{Telling}
 use Rattle.bpfdb.specs.declared.telling.Telling.TheVariants.{Json, Graph}
 use Rattle.answer_forms.specs.Graphs.{dot_of}
@@ -17,22 +19,24 @@ use Rattle.answer_forms.specs.declared.answer.Answer.{Answer}
 use Rattle.answer_forms.specs.declared.answer.Answer.TheVariants as answer
 
 -- What is printed, by what is asked.
-abbrev pub answer_by : Subcommand → Plan → Answer
-answer_by ask.Run plan = answer.Value
-answer_by ask.Trace plan = if plan.options.is_profile then answer.Profile else answer.Run
-answer_by ask.Lines plan = answer.Lines
-answer_by ask.Load plan = answer.Program
-answer_by ask.Disasm plan = answer.Listing
-answer_by ask.Check plan = answer.Check
-answer_by ask.Test plan = answer.Report
-answer_by _ plan = answer.Run
-
-abbrev pub answer_for : Plan → Answer
-answer_for plan = answer_by plan.subcommand plan
+abbrev pub answer_for : Ask → Answer
+answer_for (ask.Run strict) = answer.Value
+answer_for (ask.Trace trace) = if trace.is_profile then answer.Profile else answer.Run
+answer_for ask.Lines = answer.Lines
+answer_for ask.Load = answer.Program
+answer_for ask.Disasm = answer.Listing
+answer_for ask.Check = answer.Check
+answer_for (ask.Test tests) = answer.Report
+answer_for _ = answer.Run
 
 -- The form in which it is told, and its text in that.
+abbrev pub telling_in : Form → Ask → Option Telling
+telling_in form.Lines asked = None
+telling_in form.Json asked = Some (Json (answer_for asked))
+telling_in form.Dot asked = Some Graph
+
 abbrev pub telling_of : Plan → Option Telling
-telling_of plan = if plan.dot then Some Graph else if plan.json then Some (Json (answer_for plan)) else None
+telling_of plan = telling_in plan.form plan.ask
 
 abbrev pub told_in : Telling → List ℕ → List ℕ
 told_in (Json answer) text = json_of answer text
@@ -42,7 +46,7 @@ told_in Graph text = dot_of text
 pub record TellsInMemory {R : Type 0} (job : Job) (reader : Stream R) (text err : List ℕ) (status : ℕ) : Type 0 where
   pub out : Stream (Vec ℕ Global)
   pub told : Stream (Vec ℕ Global)
-  pub does : DoesJob job.subcommand job reader out told status
+  pub does : DoesJob job.ask job reader out told status
   pub empty : out.bytes out.old.inner ≡ Some []
   pub printed : out.bytes out.new.inner ≡ Some text
   pub quiet : told.bytes told.old.inner ≡ Some []
@@ -60,10 +64,10 @@ pub data Retells {R W E : Type 0} (telling : Telling) (job : Job) (reader : Stre
     : Type 0 where
   Tells : (text err : List ℕ) → (done : ℕ) → TellsInMemory job reader text err done
       → EndsRetold (told_in telling text) err done writer errors status → Retells telling job reader writer errors status
-  Exhausted : (out told : Stream (Vec ℕ Global)) → (done : ℕ) → DoesJob job.subcommand job reader out told done
+  Exhausted : (out told : Stream (Vec ℕ Global)) → (done : ℕ) → DoesJob job.ask job reader out told done
       → writer.new ≡ writer.old → Told errors (line_of Memory) → status ≡ 2 → Retells telling job reader writer errors status
 
 -- A job is done as it is, or its answer told in another form.
 abbrev pub DoesTold : {R W E : Type 0} → Option Telling → Job → Stream R → Stream W → Stream E → ℕ → Type 0
-DoesTold None job reader writer errors status = DoesJob job.subcommand job reader writer errors status
+DoesTold None job reader writer errors status = DoesJob job.ask job reader writer errors status
 DoesTold (Some telling) job reader writer errors status = Retells telling job reader writer errors status

@@ -1,15 +1,15 @@
 //! What is done of a command line, over any files, reader and writers.
-ghost use Rattle.std.specs.Prelude.{◌≡◌, ◌≤◌, true};
+ghost use Rattle.std.specs.Prelude.{◌≡◌, ◌≤◌, Some};
 ghost use Rattle.bpfdb.specs.Contents.{contents_in};
 ghost use Rattle.bpfdb.specs.Done.{DoesFitting, DoesHinted, DoesNoted, DoesPlan, DoesRead, DoesReplaced, Helps};
 ghost use Rattle.bpfdb.specs.Files.{world_of};
 ghost use Rattle.bpfdb.specs.Jobs.{IsJobOf};
 ghost use Rattle.bpfdb.specs.Telling.{DoesTold};
-ghost use Rattle.bpfdb.specs.Tests.{is_test};
 ghost use Rattle.bpfdb_jobs.specs.declared.job.Job.{Job};
 ghost use Rattle.bpfdb_limits.specs.Limits.{IsLimit};
 ghost use Rattle.counted_io.specs.Writing.{Writes};
 ghost use Rattle.bpfdb_faults.specs.Streams.{stream};
+ghost use Rattle.bpfdb.specs.Tests.{asks_tests};
 
 use crate::contexts::{contexts_of, refuse_context, say_contexts, with_contexts};
 use crate::files::read_all;
@@ -18,11 +18,12 @@ use crate::job::{Bytes, job_of};
 use crate::kind::misfit_of;
 use crate::notes::say_notes;
 use crate::telling::{Telling, retold_tool, telling_of};
-use crate::tests::{is_test, place_of, refuse_tests};
+use crate::tests::{asks_tests, lent, library_of, place_of, refuse_tests};
 use bpfdb_cli::Plan;
 use bpfdb_faults::{JobFault, JobRefusal, KindFault, give_up};
 use bpfdb_files::Opener;
 use bpfdb_jobs::{Job, add_hint, tool};
+use bpfdb_options::TestAsk;
 use clap::Error;
 use counted_io::{Counted, WriteFault, write_text};
 use std::alloc::Global;
@@ -95,10 +96,9 @@ fn do_replaced<F: Opener, R: Read, W: Write, E: Write>(
         (stream E.contents errors.old errors.new) result }
     ensures status { result ≤ 2 }
 {
-    if is_test(plan.subcommand) {
-        do_tests(alloc, host, plan, bytes, reader, writer, errors)
-    } else {
-        do_job(alloc, plan, bytes, host.at_terminal, reader, writer, errors)
+    match asks_tests(&plan.ask) {
+        Some(ask) => do_tests(alloc, host, plan, &ask, bytes, reader, writer, errors),
+        None => do_job(alloc, plan, bytes, host.at_terminal, reader, writer, errors),
     }
 }
 
@@ -109,19 +109,22 @@ fn do_tests<F: Opener, R: Read, W: Write, E: Write>(
     alloc: Global,
     host: &Host<'_, F>,
     plan: &Plan<'_>,
+    ask: &TestAsk<'_>,
     bytes: &Bytes<'_>,
     reader: &mut Counted<R>,
     writer: &mut Counted<W>,
     errors: &mut Counted<E>,
 ) -> u8
     requires limit { IsLimit plan.now.options.limit }
-    requires tests { is_test plan.now.subcommand ≡ true }
+    requires tests { asks_tests plan.now.ask ≡ Some ask.now }
     ensures does { DoesReplaced (world_of F.bytes_at host.now) plan.now (contents_in bytes.now)
         (stream R.remaining reader.old reader.new) (stream W.contents writer.old writer.new)
         (stream E.contents errors.old errors.new) result }
     ensures status { result ≤ 2 }
 {
-    let tests = match replaced(alloc, host.files, &place_of(plan), bytes.file) {
+    let library = library_of(alloc, host);
+    let place = place_of(plan.file, ask, lent(&library));
+    let tests = match replaced(alloc, host.files, &place, bytes.file) {
         Ok(tests) => tests,
         Err(fault) => return refuse_tests(&fault, errors),
     };
@@ -191,7 +194,7 @@ fn noted_tool<R: Read, W: Write, E: Write>(
         (stream E.contents errors.old errors.new) result }
     ensures status { result ≤ 2 }
 {
-    let unlike = say_notes(alloc, job, bytes, errors);
+    let unlike = say_notes(alloc, plan, job, bytes, errors);
     if plan.target.is_faithful && unlike {
         let why = JobRefusal::Kind(KindFault::Unfaithful);
         give_up(errors, &JobFault::Refused(why))

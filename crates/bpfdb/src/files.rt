@@ -15,7 +15,7 @@ use bpf_load::SourceKind;
 use bpfdb_cli::Plan;
 use bpfdb_faults::JobFault;
 use bpfdb_files::{FileKind, FirstFault, Opener, SOURCE_BYTES, read_kind};
-use bpfdb_options::Subcommand;
+use bpfdb_options::Ask;
 use counted_io::Counted;
 use std::alloc::Global;
 
@@ -142,12 +142,12 @@ fn with_library<'a>(given: FileContents, library: Vec<u8>) -> Result<FileContent
 pub fn kind_of(plan: &Plan<'_>) -> FileKind
     ensures { result ≡ kind_of plan.now }
 {
-    match plan.subcommand {
-        Subcommand::Asm => FileKind::Source,
-        Subcommand::Lines => FileKind::Source,
-        Subcommand::Link => FileKind::Source,
-        Subcommand::Test => FileKind::Source,
-        Subcommand::Batch => FileKind::Program,
+    match &plan.ask {
+        Ask::Asm => FileKind::Source,
+        Ask::Lines => FileKind::Source,
+        Ask::Link { .. } => FileKind::Source,
+        Ask::Test(_) => FileKind::Source,
+        Ask::Batch => FileKind::Program,
         _ => {
             if plan.target.is_listing || plan.target.is_object {
                 FileKind::Source

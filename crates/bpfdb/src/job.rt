@@ -1,6 +1,7 @@
 //! The job of a plan.
 ghost use Rattle.std.specs.Prelude.{◌≡◌};
-ghost use Rattle.bpfdb.specs.Contents.{contents_in};
+ghost use Rattle.bpf_load.specs.Targets.{contents};
+ghost use Rattle.bpfdb.specs.Contents.{contents_in, last_of, library_in};
 ghost use Rattle.bpfdb.specs.Jobs.{IsJobOf, IsPacketOf, IsTargetOf, entry_of, name_or_empty, section_of, tells_packet};
 
 use crate::kind::source_kind;
@@ -32,7 +33,7 @@ pub fn job_of<'a>(alloc: Global, plan: &'a Plan<'a>, bytes: &Bytes<'a>) -> Job<'
     ensures { IsJobOf plan.now (contents_in bytes.now) result }
 {
     Job {
-        subcommand: plan.subcommand,
+        ask: plan.ask,
         name: plan.file,
         file: bytes.file,
         context: bytes.context,
@@ -42,8 +43,30 @@ pub fn job_of<'a>(alloc: Global, plan: &'a Plan<'a>, bytes: &Bytes<'a>) -> Job<'
         },
         other_kind: source_kind(plan, name_or_empty(plan.other), bytes.other),
         target: target_of(alloc, plan, bytes),
+        library: library_in(bytes),
         options: plan.options,
     }
+}
+
+/// Linux's library where it was joined by itself; else nothing.
+fn library_in<'a>(bytes: &Bytes<'a>) -> &'a [u8]
+    ensures { result.now ≡ library_in (contents_in bytes.now) }
+{
+    match bytes.linux {
+        Linux::Joined => last_of(bytes.with),
+        Linux::Missing => b"",
+        Linux::Unneeded => b"",
+    }
+}
+
+/// The last of some objects; nothing where there is none.
+fn last_of<'a>(with: &'a [Vec<u8>]) -> &'a [u8]
+    ensures { result.now ≡ last_of (contents with.now) }
+{
+    if with.is_empty() {
+        return b"";
+    }
+    with[with.len() - 1].as_slice()
 }
 
 /// What FILE is, and which program runs.
@@ -73,7 +96,7 @@ fn target_of<'a>(alloc: Global, plan: &'a Plan<'a>, bytes: &Bytes<'a>) -> Target
 fn tells_packet(plan: &Plan<'_>, kind: SourceKind) -> bool
     ensures { result ≡ tells_packet plan.now kind }
 {
-    links(plan.subcommand, kind) && plan.target.turns.is_empty()
+    links(&plan.ask, kind) && plan.target.turns.is_empty()
 }
 
 /// The kernel's struct that the entry takes, if it takes one.

@@ -7,7 +7,7 @@ use bpf_load::{SourceKind, kind_of};
 use bpfdb_cli::Plan;
 use bpfdb_faults::KindFault;
 use bpfdb_jobs::Job;
-use bpfdb_options::Subcommand;
+use bpfdb_options::Ask;
 
 /// What a file of this name is, FILE or the other program: what is said, and else what its bytes show.
 pub fn source_kind(plan: &Plan<'_>, name: &[u8], file: &[u8]) -> SourceKind
@@ -18,22 +18,22 @@ pub fn source_kind(plan: &Plan<'_>, name: &[u8], file: &[u8]) -> SourceKind
         SourceKind::Object
     } else if words.is_listing {
         SourceKind::Listing
-    } else if words.is_words || !finds_kind(plan.subcommand) {
+    } else if words.is_words || !finds_kind(&plan.ask) {
         SourceKind::Words
     } else {
         kind_of(name, file)
     }
 }
 
-/// Whether a subcommand finds out what FILE is.
-fn finds_kind(subcommand: Subcommand) -> bool
-    ensures { result ≡ finds_kind subcommand }
+/// Whether it is found out what FILE is, for what is asked of it.
+fn finds_kind(ask: &Ask<'_>) -> bool
+    ensures { result ≡ finds_kind ask.now }
 {
-    match subcommand {
-        Subcommand::Asm => false,
-        Subcommand::Link => false,
-        Subcommand::Test => false,
-        Subcommand::Batch => false,
+    match ask {
+        Ask::Asm => false,
+        Ask::Link { .. } => false,
+        Ask::Test(_) => false,
+        Ask::Batch => false,
         _ => true,
     }
 }
@@ -56,8 +56,8 @@ pub fn misfit_of(job: &Job<'_>) -> Option<KindFault>
 pub fn runs_two(job: &Job<'_>) -> bool
     ensures { result ≡ runs_two job.now }
 {
-    match job.subcommand {
-        Subcommand::Diff => !job.options.other_is_context && !job.options.other_is_trace,
+    match &job.ask {
+        Ask::Diff(diff) => !diff.other.is_context() && !diff.other.is_trace(),
         _ => false,
     }
 }

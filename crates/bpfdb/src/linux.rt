@@ -3,14 +3,14 @@ ghost use Rattle.std.specs.Prelude.{◌≡◌};
 ghost use Rattle.bpfdb.specs.Contents.{contents_in};
 ghost use Rattle.bpfdb.specs.Jobs.{links_by};
 ghost use Rattle.bpfdb.specs.Kinds.{runs_two};
-ghost use Rattle.bpfdb.specs.Linux.{DoesLack, Lacks, LacksIf, OtherLacks, may_join};
+ghost use Rattle.bpfdb.specs.Linux.{DoesLack, Lacks, LacksIf, OtherLacks, is_joined, may_join};
 
 use crate::job::{Bytes, job_of};
 use crate::kind::{is_object, runs_two};
 use bpf_load::{SourceKind, lacks_functions};
 use bpfdb_cli::Plan;
 use bpfdb_jobs::Job;
-use bpfdb_options::Subcommand;
+use bpfdb_options::Ask;
 use std::alloc::Global;
 
 /// What became of Linux's library.
@@ -46,15 +46,25 @@ fn lacks_if(alloc: Global, may_join: bool, job: &Job<'_>) -> bool
 fn may_join(plan: &Plan<'_>, job: &Job<'_>) -> bool
     ensures { result ≡ may_join plan.now job.now }
 {
-    !plan.target.no_linux && !job.options.is_joined && links(job.subcommand, job.target.kind)
+    !plan.target.no_linux && !is_joined(&job.ask) && links(&job.ask, job.target.kind)
 }
 
-/// Whether a subcommand links FILE, which is of this kind.
-pub fn links(subcommand: Subcommand, kind: SourceKind) -> bool
-    ensures { result ≡ links_by subcommand kind }
+/// Whether the object that would be linked is asked for.
+fn is_joined(ask: &Ask<'_>) -> bool
+    ensures { result ≡ is_joined ask.now }
 {
-    match subcommand {
-        Subcommand::Link => true,
+    match ask {
+        Ask::Link { is_joined } => *is_joined,
+        _ => false,
+    }
+}
+
+/// Whether FILE, which is of this kind, is linked for what is asked of it.
+pub fn links(ask: &Ask<'_>, kind: SourceKind) -> bool
+    ensures { result ≡ links_by ask.now kind }
+{
+    match ask {
+        Ask::Link { .. } => true,
         _ => is_object(kind),
     }
 }

@@ -6,7 +6,7 @@ ghost use Rattle.bpfdb.specs.Done.{EndsPlanWith};
 ghost use Rattle.bpfdb.specs.Words.{IsStatusOf};
 ghost use Rattle.bpfdb_cli.specs.Plans.{status_of};
 ghost use Rattle.bpfdb_limits.specs.Limits.{IsLimit};
-ghost use Rattle.bpfdb_options.specs.declared.subcommand.Subcommand.TheVariants.{Debug};
+ghost use Rattle.bpfdb_options.specs.declared.ask.Ask.TheVariants.{Debug};
 
 mod contexts;
 mod doing;
@@ -28,7 +28,7 @@ mod words;
 use bpfdb_cli::{Plan, PlanFault, plan};
 use bpfdb_faults::{JobFault, give_up, tell_usage};
 use bpfdb_files::{Opener, Retrying};
-use bpfdb_options::Subcommand;
+use bpfdb_options::Ask;
 use clap::Error;
 use counted_io::Counted;
 use doing::{do_plan, show_help};
@@ -222,10 +222,10 @@ fn do_over<'a, F: Opener, R: Read, W: Write>(
 
 /// Whether commands are typed: the plan reads them, and standard input is a terminal.
 fn is_typed(rt: &HostRuntime, plan: &Plan<'_>) -> bool
-    ensures { IsTrue result → plan.now.subcommand ≡ Debug }
+    ensures { IsTrue result → plan.now.ask ≡ Debug }
 {
-    match plan.subcommand {
-        Subcommand::Debug => rt.stdin().is_terminal(),
+    match &plan.ask {
+        Ask::Debug => rt.stdin().is_terminal(),
         _ => false,
     }
 }

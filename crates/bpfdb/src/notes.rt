@@ -1,18 +1,17 @@
 //! What is said of an object's program before its job: where the kernel would do otherwise.
-ghost use Rattle.std.specs.Prelude.{◌≡◌, option_map};
-ghost use Rattle.bpf_load.specs.Targets.{contents};
+ghost use Rattle.std.specs.Prelude.{◌≡◌};
 ghost use Rattle.bpfdb.specs.Contents.{contents_in};
-ghost use Rattle.bpfdb.specs.Notes.{SaysNotes, count_line, difference_line, differences, fields_line, last_of, library_in, missing_line, notes_text};
+ghost use Rattle.bpfdb.specs.Notes.{SaysNotes, answers_unlike, count_line, fields_line, missing_line, notes_text, unlike_lines};
 ghost use Rattle.bpfdb_faults.specs.Streams.{Told, stream};
 ghost use Rattle.counted_io.specs.Writing.{Writes, WritesAfter};
 
 use crate::job::Bytes;
 use crate::linux::{Linux, links};
 use bpf_load::{Notes, notes_of};
+use bpfdb_cli::Plan;
 use bpfdb_faults::flush_after;
-use bpfdb_jobs::Job;
-use bpfdb_options::Subcommand;
-use bpfdb_script::put_shown;
+use bpfdb_jobs::{Job, put_differences};
+use bpfdb_options::Ask;
 use counted_io::{Counted, Piece, WriteFault, put, put_all};
 use std::alloc::Global;
 use std::io::Write;
@@ -21,51 +20,34 @@ use std::io::Write;
 /// written. Answers whether a helper that it calls answers otherwise than Linux's.
 pub fn say_notes<E: Write>(
     alloc: Global,
+    plan: &Plan<'_>,
     job: &Job<'_>,
     bytes: &Bytes<'_>,
     errors: &mut Counted<E>,
 ) -> bool
-    ensures { SaysNotes job.now (contents_in bytes.now) (stream E.contents errors.old errors.new) result }
+    ensures { SaysNotes plan.now job.now (contents_in bytes.now)
+        (stream E.contents errors.old errors.new) result }
 {
-    if !links(job.subcommand, job.target.kind) {
+    if !links(&job.ask, job.target.kind) {
         return false;
     }
-    let notes = notes_of(alloc, job.file, &job.target, library_in(bytes));
-    try_notes(errors, job.subcommand, bytes.linux, &notes);
+    let notes = notes_of(alloc, job.file, &job.target, job.library);
+    let answered = answers_unlike(plan);
+    try_notes(errors, answered, &job.ask, bytes.linux, &notes);
     notes.differs()
-}
-
-/// Linux's library where it was joined by itself; else nothing.
-fn library_in<'a>(bytes: &Bytes<'a>) -> &'a [u8]
-    ensures { result.now ≡ library_in (contents_in bytes.now) }
-{
-    match bytes.linux {
-        Linux::Joined => last_of(bytes.with),
-        Linux::Missing => b"",
-        Linux::Unneeded => b"",
-    }
-}
-
-/// The last of some objects; nothing where there is none.
-fn last_of<'a>(with: &'a [Vec<u8>]) -> &'a [u8]
-    ensures { result.now ≡ last_of (contents with.now) }
-{
-    if with.is_empty() {
-        return b"";
-    }
-    with[with.len() - 1].as_slice()
 }
 
 /// Writes notes, as far as they can be written.
 fn try_notes<E: Write>(
     errors: &mut Counted<E>,
-    subcommand: Subcommand,
+    answered: bool,
+    ask: &Ask<'_>,
     linux: Linux,
     notes: &Notes<'_>,
 )
-    ensures { Told (stream E.contents errors.old errors.new) (notes_text subcommand linux notes.now) }
+    ensures { Told (stream E.contents errors.old errors.new) (notes_text answered ask.now linux notes.now) }
 {
-    match write_notes(errors, subcommand, linux, notes) {
+    match write_notes(errors, answered, ask, linux, notes) {
         Ok(()) => {}
         Err(WriteFault) => {}
     }
@@ -74,15 +56,16 @@ fn try_notes<E: Write>(
 /// Writes notes, and flushes.
 fn write_notes<E: Write>(
     errors: &mut Counted<E>,
-    subcommand: Subcommand,
+    answered: bool,
+    ask: &Ask<'_>,
     linux: Linux,
     notes: &Notes<'_>,
 ) -> Result<(), WriteFault>
-    ensures { Writes E.contents errors.old errors.new result (notes_text subcommand linux notes.now) }
+    ensures { Writes E.contents errors.old errors.new result (notes_text answered ask.now linux notes.now) }
 {
     let missed = put_missing(errors, Ok(()), linux);
-    let counted = put_fields(errors, missed, subcommand, notes.fields);
-    let told = put_differences(errors, counted, notes);
+    let counted = put_fields(errors, missed, ask, notes.fields);
+    let told = put_unlike(errors, counted, answered, notes);
     flush_after(errors, told)
 }
 
@@ -109,13 +92,13 @@ fn put_missing<E: Write>(
 fn put_fields<E: Write>(
     errors: &mut Counted<E>,
     so_far: Result<(), WriteFault>,
-    subcommand: Subcommand,
+    ask: &Ask<'_>,
     fields: u32,
 ) -> Result<(), WriteFault>
-    ensures { WritesAfter E.contents errors.old so_far errors.new result (fields_line subcommand fields) }
+    ensures { WritesAfter E.contents errors.old so_far errors.new result (fields_line ask.now fields) }
 {
-    match subcommand {
-        Subcommand::Link => put(errors, so_far, b""),
+    match ask {
+        Ask::Link { .. } => put(errors, so_far, b""),
         _ => put_count(errors, so_far, fields),
     }
 }
@@ -139,36 +122,28 @@ fn put_count<E: Write>(
     put_all(errors, so_far, &pieces)
 }
 
-/// Writes what is said of one helper, if something is.
-fn put_difference<E: Write>(
-    errors: &mut Counted<E>,
-    so_far: Result<(), WriteFault>,
-    text: Option<&[u8]>,
-) -> Result<(), WriteFault>
-    ensures { WritesAfter E.contents errors.old so_far errors.new result
-        (difference_line (option_map (λ t. t.now) text.entry)) }
+/// Whether an answer tells what is other than Linux's, which is then not said before it.
+fn answers_unlike(plan: &Plan<'_>) -> bool
+    ensures { result ≡ answers_unlike plan.now }
 {
-    match text {
-        Some(text) => {
-            let begun = put(errors, so_far, b"other than Linux: ");
-            let shown = put_shown(errors, begun, text);
-            put(errors, shown, b"\n")
-        }
-        None => put(errors, so_far, b""),
+    match &plan.ask {
+        Ask::Load => !plan.target.is_faithful,
+        _ => false,
     }
 }
 
-/// Writes what is said of the helpers that the program calls.
-fn put_differences<E: Write>(
+/// Writes what is other than Linux's, unless an answer tells it.
+fn put_unlike<E: Write>(
     errors: &mut Counted<E>,
     so_far: Result<(), WriteFault>,
+    answered: bool,
     notes: &Notes<'_>,
 ) -> Result<(), WriteFault>
-    ensures { WritesAfter E.contents errors.old so_far errors.new result (differences notes.now) }
+    ensures { WritesAfter E.contents errors.old so_far errors.new result (unlike_lines answered notes.now) }
 {
-    let mut told = so_far;
-    for k in 0..notes.len() {
-        told = put_difference(errors, told, notes.difference(k));
+    if answered {
+        put(errors, so_far, b"")
+    } else {
+        put_differences(errors, so_far, notes)
     }
-    told
 }

@@ -3,12 +3,12 @@
 ghost use Rattle.std.specs.Prelude.{◌≡◌, Some, None};
 ghost use Rattle.bpfdb.specs.Files.{first_program};
 ghost use Rattle.bpfdb_limits.specs.Limits.{IsLimit};
-ghost use Rattle.bpfdb_options.specs.declared.subcommand.Subcommand.TheVariants.{Debug};
+ghost use Rattle.bpfdb_options.specs.declared.ask.Ask.TheVariants.{Debug};
 
 use arrayvec::ArrayVec;
-use bpfdb_cli::{EntryTakes, Plan, TargetWords};
+use bpfdb_cli::{EntryTakes, Form, Plan, TargetWords};
 use bpfdb_files::{Opener, Retrying};
-use bpfdb_options::{NO_OPTIONS, Subcommand};
+use bpfdb_options::{Ask, NO_OPTIONS};
 use std::fs;
 use std::fs::File;
 
@@ -46,11 +46,11 @@ const FIRST_PROGRAM: &[u8] = &[
 
 /// The plan of that, with every option absent.
 pub fn first_plan() -> Plan<'static>
-    ensures subcommand { result.subcommand ≡ Debug }
+    ensures ask { result.ask ≡ Debug }
     ensures limit { IsLimit result.options.limit }
 {
     Plan {
-        subcommand: Subcommand::Debug,
+        ask: Ask::Debug,
         file: "",
         memory: None,
         packet: None,
@@ -74,8 +74,7 @@ pub fn first_plan() -> Plan<'static>
             is_faithful: false,
         },
         options: NO_OPTIONS,
-        json: false,
-        dot: false,
+        form: Form::Lines,
     }
 }
 

@@ -5,10 +5,10 @@ ghost use Rattle.bpfdb_faults.specs.Streams.{stream};
 ghost use Rattle.bpfdb_limits.specs.Limits.{IsLimit};
 
 use answer_forms::{Answer, dot_of, json_of};
-use bpfdb_cli::Plan;
+use bpfdb_cli::{Form, Plan};
 use bpfdb_faults::{JobFault, give_up, told_as, write_out};
 use bpfdb_jobs::{Job, tool};
-use bpfdb_options::Subcommand;
+use bpfdb_options::Ask;
 use counted_io::{Counted, WriteFault};
 use std::alloc::{AllocError, Global};
 use std::io::{Read, Write};
@@ -26,13 +26,10 @@ pub enum Telling {
 pub fn telling_of(plan: &Plan<'_>) -> Option<Telling>
     ensures { result ≡ telling_of plan.now }
 {
-    if plan.dot {
-        return Some(Telling::Graph);
-    }
-    if plan.json {
-        Some(Telling::Json(answer_for(plan)))
-    } else {
-        None
+    match plan.form {
+        Form::Lines => None,
+        Form::Json => Some(Telling::Json(answer_for(&plan.ask))),
+        Form::Dot => Some(Telling::Graph),
     }
 }
 
@@ -47,23 +44,23 @@ fn told_in(alloc: Global, telling: Telling, text: &[u8]) -> Result<Vec<u8>, Allo
 }
 
 /// What is printed, by what is asked.
-fn answer_for(plan: &Plan<'_>) -> Answer
-    ensures { result ≡ answer_for plan.now }
+fn answer_for(ask: &Ask<'_>) -> Answer
+    ensures { result ≡ answer_for ask.now }
 {
-    match plan.subcommand {
-        Subcommand::Run => Answer::Value,
-        Subcommand::Trace => {
-            if plan.options.is_profile {
+    match ask {
+        Ask::Run { .. } => Answer::Value,
+        Ask::Trace(trace) => {
+            if trace.is_profile {
                 Answer::Profile
             } else {
                 Answer::Run
             }
         }
-        Subcommand::Lines => Answer::Lines,
-        Subcommand::Load => Answer::Program,
-        Subcommand::Disasm => Answer::Listing,
-        Subcommand::Check => Answer::Check,
-        Subcommand::Test => Answer::Report,
+        Ask::Lines => Answer::Lines,
+        Ask::Load => Answer::Program,
+        Ask::Disasm => Answer::Listing,
+        Ask::Check => Answer::Check,
+        Ask::Test(_) => Answer::Report,
         _ => Answer::Run,
     }
 }

@@ -1,36 +1,69 @@
 //! The file of tests of a plan, whose sections may name files.
-ghost use Rattle.std.specs.Prelude.{◌≡◌};
-ghost use Rattle.bpfdb.specs.Tests.{IsPlaceOf, files_line, is_test, link_line, object_end};
+ghost use Rattle.std.specs.Prelude.{◌≡◌, option_map};
+ghost use Rattle.bpfdb.specs.Files.{world_of};
+ghost use Rattle.bpfdb.specs.Tests.{IsLibrary, IsPlaceOf, asks_tests, files_line, library_path, link_line, object_end};
 ghost use Rattle.bpfdb_faults.specs.Streams.{Told, stream};
 ghost use Rattle.counted_io.specs.Writing.{Writes, WritesAfter};
 
+use crate::files::read_named;
+use crate::host::Host;
 use bpf_suite::put_numbered;
-use bpfdb_cli::Plan;
 use bpfdb_faults::{JobFault, flush_after, put_object, tell};
-use bpfdb_options::Subcommand;
+use bpfdb_files::{FileKind, Opener};
+use bpfdb_options::{Ask, TestAsk};
 use counted_io::{Counted, Piece, WriteFault, put, put_all};
 use input_texts::folder_of;
+use std::alloc::Global;
 use std::io::Write;
 use suite_files::{FilesFault, KeptFault, NamedFault, Place};
 
-/// Whether a subcommand runs tests.
-pub fn is_test(subcommand: Subcommand) -> bool
-    ensures { result ≡ is_test subcommand }
+/// What is asked of tests, if that is asked.
+pub fn asks_tests<'a>(ask: &Ask<'a>) -> Option<TestAsk<'a>>
+    ensures { result ≡ asks_tests ask.now }
 {
-    match subcommand {
-        Subcommand::Test => true,
-        _ => false,
+    match ask {
+        Ask::Test(ask) => Some(*ask),
+        _ => None,
     }
 }
 
-/// Where names of files begin.
-pub fn place_of<'a>(plan: &Plan<'a>) -> Place<'a>
-    ensures { IsPlaceOf plan.now result }
+/// Where names of files begin, and what is wanted of objects, with this library of Linux's.
+pub fn place_of<'a>(file: &'a str, ask: &TestAsk<'_>, linux: Option<&'a [u8]>) -> Place<'a>
+    ensures { IsPlaceOf file.now ask.now (option_map (λ library. library.now) linux.entry) result }
 {
     Place {
-        folder: folder_of(plan.file.as_bytes()),
-        anywhere: plan.options.anywhere,
-        lines: plan.options.is_tracefile,
+        folder: folder_of(file.as_bytes()),
+        anywhere: ask.anywhere,
+        linux,
+        lines: ask.is_tracefile,
+    }
+}
+
+/// The path of Linux's library, where it may be joined by itself and one is known.
+fn library_path<'a, F: Opener>(host: &Host<'a, F>) -> Option<&'a str>
+    ensures { option_map (λ path. path.now) result ≡ library_path (world_of F.bytes_at host.now) }
+{
+    if host.wants_linux { host.linux } else { None }
+}
+
+/// Linux's library, where it may be joined by itself; none where it can't be read.
+pub fn library_of<F: Opener>(alloc: Global, host: &Host<'_, F>) -> Option<Vec<u8>>
+    ensures { IsLibrary (world_of F.bytes_at host.now) (option_map (λ library. library.items) result) }
+{
+    let path = library_path(host)?;
+    match read_named(alloc, host.files, path, FileKind::Source) {
+        Ok(library) => Some(library),
+        Err(_) => None,
+    }
+}
+
+/// A library, lent.
+pub fn lent(library: &Option<Vec<u8>>) -> Option<&[u8]>
+    ensures { option_map (λ bytes. bytes.now) result ≡ option_map (λ bytes. bytes.items) library.now }
+{
+    match library {
+        Some(bytes) => Some(bytes.as_slice()),
+        None => None,
     }
 }
 

@@ -11,6 +11,8 @@ use Rattle.clap.specs.declared.error.kind.ErrorKind.TheVariants as kind
 use Rattle.bpfdb_cli.specs.CommandLine.{command_app}
 use Rattle.bpfdb_cli.specs.declared.plans.EntryTakes.{EntryTakes}
 use Rattle.bpfdb_cli.specs.declared.plans.EntryTakes.TheVariants.{Unsaid, Struct, Context}
+use Rattle.bpfdb_cli.specs.declared.plans.Form.{Form}
+use Rattle.bpfdb_cli.specs.declared.plans.Form.TheVariants as form
 use Rattle.bpfdb_cli.specs.declared.plans.Plan.{Plan}
 use Rattle.bpfdb_cli.specs.declared.plans.PlanFault.{PlanFault}
 use Rattle.bpfdb_cli.specs.declared.plans.PlanFault.TheVariants.{Usage, Memory}
@@ -20,10 +22,21 @@ use Rattle.bpf_packet.specs.declared.packet.Packet.{Packet}
 use Rattle.input_texts.specs.Counts.{are_counts}
 use Rattle.input_texts.specs.Turns.{has_place, offset_in}
 use Rattle.bpfdb_limits.specs.Limits.{IsLimit, default_journal, default_limit, greatest_count}
+use Rattle.bpfdb_options.specs.Asks.{subcommand_for}
 use Rattle.bpfdb_options.specs.Lines.{default_lines}
 use Rattle.bpfdb_options.specs.Registers.{registers_name}
 use Rattle.bpfdb_options.specs.Subcommands.{subcommand_name}
 use Rattle.bpfdb_options.specs.TestParts.{test_part_name}
+use Rattle.bpfdb_options.specs.declared.ask.Ask.{Ask}
+use Rattle.bpfdb_options.specs.declared.ask.Ask.TheVariants as ask
+use Rattle.bpfdb_options.specs.declared.ask.DiffAsk.{DiffAsk}
+use Rattle.bpfdb_options.specs.declared.ask.OriginAsk.{OriginAsk}
+use Rattle.bpfdb_options.specs.declared.ask.OtherSide.{OtherSide}
+use Rattle.bpfdb_options.specs.declared.ask.OtherSide.TheVariants as side
+use Rattle.bpfdb_options.specs.declared.ask.Scope.{Scope}
+use Rattle.bpfdb_options.specs.declared.ask.TestAsk.{TestAsk}
+use Rattle.bpfdb_options.specs.declared.ask.TraceAsk.{TraceAsk}
+use Rattle.bpfdb_options.specs.declared.ask.WhynotAsk.{WhynotAsk}
 use Rattle.bpfdb_options.specs.declared.options.Options.{Options}
 use Rattle.bpfdb_options.specs.declared.registers.Registers.{Registers}
 use Rattle.bpfdb_options.specs.declared.registers.Registers.TheVariants.{X86}
@@ -73,25 +86,61 @@ pub record Chooses (rows : List Row) (options : Options) : Type 0 where
   pub journal : options.journal ≡ number_or default_journal (first_of (codes "journal") rows)
   pub regs : option_map (λ s. s.now) options.regs ≡ first_of (codes "regs") rows
   pub limit : options.limit ≡ number_or default_limit (first_of (codes "steps") rows)
-  pub from : options.from ≡ number_or 1 (first_of (codes "from") rows)
-  pub count : options.count ≡ number_or greatest_count (first_of (codes "count") rows)
-  pub branches : options.only_branches ≡ is_given (first_of (codes "branches") rows)
-  pub profile : options.is_profile ≡ is_given (first_of (codes "profile") rows)
-  pub strict : options.is_strict ≡ is_given (first_of (codes "strict") rows)
-  pub joined : options.is_joined ≡ is_given (first_of (codes "relocatable") rows)
-  pub registers : NamesRegisters (first_of (codes "registers") rows) options.registers
-  pub what : option_map (λ s. s.now) options.what ≡ first_of (codes "what") rows
-  pub lines : options.lines ≡ number_or default_lines (first_of (codes "lines") rows)
-  pub addresses : options.addresses ≡ is_given (first_of (codes "addresses") rows)
-  pub alone : options.alone ≡ is_given (first_of (codes "alone") rows)
-  pub context : options.other_is_context ≡ is_some (first_of (codes "other-mem") rows)
-  pub trace : options.other_is_trace ≡ is_some (first_of (codes "trace") rows)
-  pub writes : options.compares_writes ≡ is_given (first_of (codes "writes") rows)
-  pub only : option_map (λ s. s.now) options.only ≡ first_of (codes "only") rows
-  pub show : NamesPart (first_of (codes "show") rows) options.show
-  pub covers : options.covers ≡ is_given (first_of (codes "cover") rows)
-  pub tracefile : options.is_tracefile ≡ is_given (first_of (codes "cover-info") rows)
-  pub anywhere : options.anywhere ≡ is_given (first_of (codes "anywhere") rows)
+
+-- So does what is asked, by the subcommand: how far an answer goes, and which steps, values, slots, runs and tests it is about.
+pub record Scopes (rows : List Row) (scope : Scope) : Type 0 where
+  pub lines : scope.lines ≡ number_or default_lines (first_of (codes "lines") rows)
+  pub addresses : scope.addresses ≡ is_given (first_of (codes "addresses") rows)
+
+pub record Traces (rows : List Row) (a : TraceAsk) : Type 0 where
+  pub from : a.from ≡ number_or 1 (first_of (codes "from") rows)
+  pub count : a.count ≡ number_or greatest_count (first_of (codes "count") rows)
+  pub branches : a.only_branches ≡ is_given (first_of (codes "branches") rows)
+  pub profile : a.is_profile ≡ is_given (first_of (codes "profile") rows)
+  pub strict : a.is_strict ≡ is_given (first_of (codes "strict") rows)
+
+pub record AsksOrigin (rows : List Row) (a : OriginAsk) : Type 0 where
+  pub what : option_map (λ s. s.now) a.what ≡ first_of (codes "what") rows
+  pub scope : Scopes rows a.scope
+  pub branches : a.tells_branches ≡ is_given (first_of (codes "branches") rows)
+
+pub record AsksWhynot (rows : List Row) (a : WhynotAsk) : Type 0 where
+  pub what : option_map (λ s. s.now) a.what ≡ first_of (codes "what") rows
+  pub scope : Scopes rows a.scope
+  pub alone : a.alone ≡ is_given (first_of (codes "alone") rows)
+
+abbrev pub side_in : List Row → OtherSide
+side_in rows = if is_some (first_of (codes "trace") rows) then side.Trace
+    else if is_some (first_of (codes "other-mem") rows) then side.Context else side.Program
+
+pub record AsksDiff (rows : List Row) (a : DiffAsk) : Type 0 where
+  pub other : a.other ≡ side_in rows
+  pub writes : a.compares_writes ≡ is_given (first_of (codes "writes") rows)
+  pub scope : Scopes rows a.scope
+  pub alone : a.alone ≡ is_given (first_of (codes "alone") rows)
+
+pub record AsksTests (rows : List Row) (a : TestAsk) : Type 0 where
+  pub only : option_map (λ s. s.now) a.only ≡ first_of (codes "only") rows
+  pub show : NamesPart (first_of (codes "show") rows) a.show
+  pub covers : a.covers ≡ is_given (first_of (codes "cover") rows)
+  pub tracefile : a.is_tracefile ≡ is_given (first_of (codes "cover-info") rows)
+  pub anywhere : a.anywhere ≡ is_given (first_of (codes "anywhere") rows)
+
+abbrev pub AreAsked : List Row → Ask → Type 0
+AreAsked rows (ask.Run strict) = strict ≡ is_given (first_of (codes "strict") rows)
+AreAsked rows (ask.Trace a) = Traces rows a
+AreAsked rows (ask.Origin a) = AsksOrigin rows a
+AreAsked rows (ask.Whynot a) = AsksWhynot rows a
+AreAsked rows (ask.Diff a) = AsksDiff rows a
+AreAsked rows (ask.Gdb registers) = NamesRegisters (first_of (codes "registers") rows) registers
+AreAsked rows (ask.Link joined) = joined ≡ is_given (first_of (codes "relocatable") rows)
+AreAsked rows (ask.Test a) = AsksTests rows a
+AreAsked rows a = Unit {0}
+
+-- How what is printed is told.
+abbrev pub form_in : List Row → Form
+form_in rows = if is_given (first_of (codes "json") rows) then form.Json
+    else if is_given (first_of (codes "dot") rows) then form.Dot else form.Lines
 
 -- The other file: a script, a trace, a second context or a second program. No subcommand takes two of them but `diff`, and none is given both.
 abbrev pub given_or : Option Text → Option Text → Option Text
@@ -155,7 +204,8 @@ pub record Aims (rows : List Row) (target : TargetWords) : Type 0 where
 
 -- A plan says what they say.
 pub record Says (name : Text) (rows : List Row) (plan : Plan) : Type 0 where
-  pub subcommand : subcommand_name plan.subcommand ≡ name
+  pub subcommand : subcommand_name (subcommand_for plan.ask) ≡ name
+  pub ask : AreAsked rows plan.ask
   pub file : first_of (codes "file") rows ≡ Some plan.file.now
   pub memory : option_map (λ s. s.now) plan.memory ≡ first_of (codes "mem") rows
   pub packet : plan.packet ≡ number_in (first_of (codes "packet") rows)
@@ -164,16 +214,15 @@ pub record Says (name : Text) (rows : List Row) (plan : Plan) : Type 0 where
   pub output : option_map (λ s. s.now) plan.output ≡ first_of (codes "output") rows
   pub target : Aims rows plan.target
   pub options : Chooses rows plan.options
-  pub json : plan.json ≡ is_given (first_of (codes "json") rows)
-  pub dot : plan.dot ≡ is_given (first_of (codes "dot") rows)
+  pub form : plan.form ≡ form_in rows
 
 -- A number that is given is one below 2^64.
 abbrev pub IsNumber : Option Text → Type 0
 IsNumber None = Unit {0}
 IsNumber (Some text) = IsNumeral 10 (without_leading_plus text) × (digits_value 10 (without_leading_plus text) < 2 ^ 64)
 
--- The numbers that the matches give are in their ranges.
-pub record AreInRange (rows : List Row) (options : Options) : Type 0 where
+-- The numbers that the matches give are in their ranges, and the names are such.
+pub record AreInRange (rows : List Row) : Type 0 where
   pub journal : IsNumber (first_of (codes "journal") rows)
   pub steps : IsNumber (first_of (codes "steps") rows)
   pub lines : IsNumber (first_of (codes "lines") rows)
@@ -181,8 +230,12 @@ pub record AreInRange (rows : List Row) (options : Options) : Type 0 where
   pub count : IsNumber (first_of (codes "count") rows)
   pub packet : IsNumber (first_of (codes "packet") rows)
   pub other_packet : IsNumber (first_of (codes "other-packet") rows)
-  pub limit : IsLimit options.limit
-  pub most : IsLimit options.lines
+  pub limit : IsLimit (number_or default_limit (first_of (codes "steps") rows))
+  pub most : IsLimit (number_or default_lines (first_of (codes "lines") rows))
+  pub registers : Registers
+  pub machine : NamesRegisters (first_of (codes "registers") rows) registers
+  pub show : Option TestPart
+  pub part : NamesPart (first_of (codes "show") rows) show
 
 -- One other side is named: by a second context, or by a trace; or by a second program.
 abbrev pub names_side : List Row → Bool
@@ -263,7 +316,7 @@ go_together name rows = entries_fit rows && (are_counts (texts_in (codes "entrie
 -- A plan says what a subcommand's matches say, with numbers in their ranges and options that go together.
 pub record IsPlanOf (name : Text) (rows : List Row) (plan : Plan) : Type 0 where
   pub says : Says name rows plan
-  pub numbers : AreInRange rows plan.options
+  pub numbers : AreInRange rows
   pub together : go_together name rows ≡ true
 
 -- A plan says what the words say, the program's name first; their options go together, and `clap` finds no fault in these words.

@@ -4,7 +4,7 @@ ghost use Rattle.bpfdb_cli.specs.Plans.{status_of};
 
 use arrayvec::ArrayVec;
 use bpf_packet::Packet;
-use bpfdb_options::{Options, Subcommand};
+use bpfdb_options::{Ask, Options};
 use clap::Error;
 use clap::error::ErrorKind;
 
@@ -58,10 +58,22 @@ pub struct TargetWords<'a> {
     pub is_faithful: bool,
 }
 
+/// How what is printed is told.
+#[derive(Clone, Copy)]
+pub enum Form {
+    /// As lines.
+    Lines,
+    /// As objects of JSON, one a line.
+    Json,
+    /// As a graph.
+    Dot,
+}
+
 /// What a command line asks for.
 #[derive(Drop)]
 pub struct Plan<'a> {
-    pub subcommand: Subcommand,
+    /// What is asked of FILE.
+    pub ask: Ask<'a>,
     /// FILE, the path of the program, of the listing or of the object.
     pub file: &'a str,
     /// The path of the file whose bytes are the context; without one the context is empty.
@@ -78,10 +90,7 @@ pub struct Plan<'a> {
     pub output: Option<&'a str>,
     pub target: TargetWords<'a>,
     pub options: Options<'a>,
-    /// What is printed is told as objects of JSON, one a line.
-    pub json: bool,
-    /// What is printed is told as a graph.
-    pub dot: bool,
+    pub form: Form,
 }
 
 /// Why a command line is no plan.

@@ -36,7 +36,9 @@ use Rattle.bpfdb_jobs.specs.Refusals.{RefusesArrival, RefusesAs}
 use Rattle.bpfdb_jobs.specs.declared.job.Job.{Job}
 use Rattle.bpfdb_jobs.specs.declared.known.Known.{Known}
 use Rattle.bpfdb_faults.specs.declared.refusal.JobRefusal.TheVariants as jobs
-use Rattle.bpfdb_options.specs.declared.subcommand.Subcommand.TheVariants.{Origin}
+use Rattle.bpfdb_options.specs.declared.ask.Ask.TheVariants.{Origin}
+use Rattle.bpfdb_options.specs.declared.ask.OriginAsk.{OriginAsk}
+use Rattle.bpfdb_options.specs.declared.ask.Scope.{Scope}
 use Rattle.counted_io.specs.Lines.{lines}
 
 -- a machine that has run, from the opening of the job
@@ -107,48 +109,48 @@ module _ (job : Job) (loaded : Loaded) (loads : Loads job.target job.file.now lo
   script-refuses refusal obeys = (loaded, opens, sym same ∙ obeys (track_at begins) past)
 
 -- how a question is asked over a history behind so many moves
-abbrev question : SlotTexts → Job → List Record → ℕ → Question
-question places job h n = record { addresses = job.options.addresses; lines = job.options.lines; opening = length h == n; places = places }
+abbrev question : SlotTexts → Scope → List Record → ℕ → Question
+question places scope h n = record { addresses = scope.addresses; lines = scope.lines; opening = length h == n; places = places }
 
 -- a machine where it is asked
-module _ (job : Job) (object : Option LinkedObject) (moment : Moment RingKeeper) (n : ℕ) (a : HasArrived job object moment n) where
+module _ (origin : OriginAsk) (job : Job) (object : Option LinkedObject) (moment : Moment RingKeeper) (n : ℕ) (a : HasArrived job object moment n) where
   -- and so is what it refuses
-  pub origin-refuses : (fault : WhatFault) → RefusesWhat job.options.what moment.state fault → RefusesAs Origin job (jobs.What fault)
+  pub origin-refuses : (fault : WhatFault) → RefusesWhat origin.what moment.state fault → RefusesAs (Origin origin) job (jobs.What fault)
   origin-refuses fault refuses =
-      (a.loaded, a.at, a.opens, a.arrives, subst (λ (x : State). RefusesWhat job.options.what x fault) a.state refuses)
+      (a.loaded, a.at, a.opens, a.arrives, subst (λ (x : State). RefusesWhat origin.what x fault) a.state refuses)
 
   -- it is asked about these parts
-  pub is-asked : (known : Known) → IsKnown job object known → (q : Question) (parts : List Part) → AreAskedParts job moment.state parts
-      → q ≡ question known.places job a.at.point.history n → IsAsked job object moment n parts q
+  pub is-asked : (known : Known) → IsKnown job object known → (q : Question) (parts : List Part) → AreAskedParts origin moment.state parts
+      → q ≡ question known.places origin.scope a.at.point.history n → IsAsked origin job object moment n parts q
   is-asked known is_known q parts asked asks-as = record {
     arrived = a;
     about = asked;
     known = known;
     is_known = is_known;
-    way = asks-as ∙ ap (question known.places job a.at.point.history) a.counted;
+    way = asks-as ∙ ap (question known.places origin.scope a.at.point.history) a.counted;
   }
 
   -- nothing stands behind the answer
-  pub nothing-behind : (q : Question) (parts : List Part) → IsAsked job object moment n parts q → job.options.only_branches ≡ false
-      → HasTail job object moment n parts q (record { text = []; extent = Whole })
+  pub nothing-behind : (q : Question) (parts : List Part) → IsAsked origin job object moment n parts q → origin.tells_branches ≡ false
+      → HasTail origin job object moment n parts q (record { text = []; extent = Whole })
   nothing-behind q parts asked without = record {
     asked = asked;
     is = subst (λ (b : Bool). IsTail b q parts asked.arrived.at.point (record { text = []; extent = Whole })) (sym without) refl;
   }
 
 -- a machine that is asked
-module _ (job : Job) (object : Option LinkedObject) (moment : Moment RingKeeper) (n : ℕ) (parts : List Part) (q : Question) (s : IsAsked job object moment n parts q) where
+module _ (origin : OriginAsk) (job : Job) (object : Option LinkedObject) (moment : Moment RingKeeper) (n : ℕ) (parts : List Part) (q : Question) (s : IsAsked origin job object moment n parts q) where
   abbrev h : List Record
   h = s.arrived.at.point.history
 
   -- the answer is printed
-  pub origin-prints : (tail : Answer) → IsTail job.options.only_branches q parts s.arrived.at.point tail
+  pub origin-prints : (tail : Answer) → IsTail origin.tells_branches q parts s.arrived.at.point tail
       → (names : Option Names) → AreNamesOf object (section_of job) job.target.packet names
-      → Prints Origin job (named_print names moment.state (followed_by (answer_about q parts h moment.state) tail))
+      → Prints (Origin origin) job (named_print names moment.state (followed_by (answer_about q parts h moment.state) tail))
   origin-prints tail behind names found =
       let a = s.arrived in
       let what = s.about.0 in
-      let ask : Question = question_by s.known.places job.options a.at in (
+      let ask : Question = question_by s.known.places origin.scope a.at in (
         a.loaded,
         s.known,
         a.at,
@@ -158,9 +160,9 @@ module _ (job : Job) (object : Option LinkedObject) (moment : Moment RingKeeper)
         a.opens,
         subst (λ (o : Option LinkedObject). IsKnown job o s.known) (sym a.of) s.is_known,
         a.arrives,
-        subst (λ (x : State). Asks job.options.what x what) a.state s.about.1,
-        subst (λ (z : Question). IsTail job.options.only_branches z (parts_asked a.at.point.state what) a.at.point tail) s.way
-            (subst (λ (ps : List Part). IsTail job.options.only_branches q ps a.at.point tail)
+        subst (λ (x : State). Asks origin.what x what) a.state s.about.1,
+        subst (λ (z : Question). IsTail origin.tells_branches z (parts_asked a.at.point.state what) a.at.point tail) s.way
+            (subst (λ (ps : List Part). IsTail origin.tells_branches q ps a.at.point tail)
             (s.about.2 ∙ ap (λ (x : State). parts_asked x what) a.state) behind),
         subst (λ (o : Option LinkedObject). AreNamesOf o (section_of job) job.target.packet names) (sym a.of) found,
         ap (λ (z : Question). named_print names moment.state (followed_by (answer_about z parts h moment.state) tail)) s.way
@@ -169,7 +171,7 @@ module _ (job : Job) (object : Option LinkedObject) (moment : Moment RingKeeper)
       )
 
   -- nothing is known of the names in maps
-  pub names-refuse : (fault : LinkFault) (name : Bor (List ℕ)) → RefusesNames object (section_of job) fault name.now → RefusesAs Origin job (jobs.Object fault name)
+  pub names-refuse : (fault : LinkFault) (name : Bor (List ℕ)) → RefusesNames object (section_of job) fault name.now → RefusesAs (Origin origin) job (jobs.Object fault name)
   names-refuse fault name lacks =
       let a = s.arrived in (
         a.loaded,
@@ -177,13 +179,13 @@ module _ (job : Job) (object : Option LinkedObject) (moment : Moment RingKeeper)
         s.about.0,
         a.opens,
         a.arrives,
-        subst (λ (x : State). Asks job.options.what x s.about.0) a.state s.about.1,
+        subst (λ (x : State). Asks origin.what x s.about.0) a.state s.about.1,
         subst (λ (o : Option LinkedObject). RefusesNames o (section_of job) fault name.now) (sym a.of) lacks,
       )
 
   -- behind it are the branches that were found
-  pub branches-behind : (found : Found) → job.options.only_branches ≡ true → IsFound q parts h moment.state found
-      → HasTail job object found.timeline n parts q (record { text = found.text.items; extent = found.extent })
+  pub branches-behind : (found : Found) → origin.tells_branches ≡ true → IsFound q parts h moment.state found
+      → HasTail origin job object found.timeline n parts q (record { text = found.text.items; extent = found.extent })
   branches-behind found given is = record {
     asked = record {
       arrived = record {
@@ -196,7 +198,7 @@ module _ (job : Job) (object : Option LinkedObject) (moment : Moment RingKeeper)
         held = is.stands;
         counted = s.arrived.counted;
       };
-      about = subst (λ (x : State). AreAskedParts job x parts) (sym is.state) s.about;
+      about = subst (λ (x : State). AreAskedParts origin x parts) (sym is.state) s.about;
       known = s.known;
       is_known = s.is_known;
       way = s.way;

@@ -1,14 +1,11 @@
 -- How jobs end that print.
-use Rattle.std.proofs.Common.{ℕ, ◌≡◌, ◌≢◌, List, Option, Some, None, Result, Ok, Err, refl, sym, ap, ◌∙◌}
+use Rattle.std.proofs.Common.{Bool, ℕ, ◌≡◌, List, Option, Some, None, Result, Ok, Err, refl, sym, ap, ◌∙◌}
 use Rattle.std.specs.Prelude.{OnOk, OnErr}
-use Rattle.bpf_entries.specs.declared.status.Status.{Status}
-use Rattle.bpf_entries.specs.declared.status.Status.TheVariants as status
 use Rattle.bpf_load.specs.Targets.{Loads}
 use Rattle.bpf_load.specs.declared.program.Loaded.{Loaded}
 use Rattle.bpf_steps.specs.State.{State}
 use Rattle.bpf_session.specs.Plain.{ending_of, plain_end}
 use Rattle.bpf_session.specs.declared.plain.Ending.{Ending}
-use Rattle.bpf_session.specs.declared.plain.Ending.TheVariants.{Exited}
 use Rattle.counted_io.specs.Writing.{Writes}
 use Rattle.bpf_trace.specs.UnwrittenTexts.{unwritten_line}
 use Rattle.bpf_trace.specs.declared.strict_run.Unwritten.{Unwritten}
@@ -18,21 +15,21 @@ use Rattle.bpfdb_faults.specs.Faults.{line_of}
 use Rattle.bpfdb_jobs.specs.Jobs.{Opens, OpensMachine, Print, Prints, initial_of, printed, run_end, run_or_stopped, run_print, stopped, unwritten_in}
 use Rattle.bpfdb_faults.specs.declared.fault.JobFault.TheVariants.{Output}
 use Rattle.bpfdb_jobs.specs.declared.job.Job.{Job}
-use Rattle.bpfdb_options.specs.declared.subcommand.Subcommand.{Subcommand}
-use Rattle.bpfdb_options.specs.declared.subcommand.Subcommand.TheVariants.{Run}
+use Rattle.bpfdb_options.specs.declared.ask.Ask.{Ask}
+use Rattle.bpfdb_options.specs.declared.ask.Ask.TheVariants.{Run}
 
-module _ {W E A F : Type 0} {writer : Stream W} {errors : Stream E} (subcommand : Subcommand) (job : Job) where
+module _ {W E A F : Type 0} {writer : Stream W} {errors : Stream E} (ask : Ask) (job : Job) where
   -- a result was written, or a beginning of it
-  pub out-printed : (out : List ℕ) (r : Result A F) (status : ℕ) → Prints subcommand job (printed out)
+  pub out-printed : (out : List ℕ) (r : Result A F) (status : ℕ) → Prints ask job (printed out)
       → Writes writer.bytes writer.old writer.new r out → OnOk r ((errors.new ≡ errors.old) × (status ≡ 0))
-      → OnErr r (Told errors (line_of Output) × (status ≡ 2)) → EndsPrinted subcommand job writer errors status
+      → OnErr r (Told errors (line_of Output) × (status ≡ 2)) → EndsPrinted ask job writer errors status
   out-printed out (Ok v) status prints w ok err = Printed (printed out) prints (w.ok, w.same) ok.0 ok.1
   out-printed out (Err e) status prints w ok err = OutLost (printed out) prints (w.err, w.fault) err.0 err.1
 
   -- what goes to standard error was told, or a beginning of it
-  pub err-printed : (a : Print) (r : Result A F) (status : ℕ) → Prints subcommand job a → Gets writer a.out
+  pub err-printed : (a : Print) (r : Result A F) (status : ℕ) → Prints ask job a → Gets writer a.out
       → OnOk r (Gets errors a.err) → OnErr r (Loses errors a.err) → OnOk r (status ≡ a.status) → OnErr r (status ≡ 2)
-      → EndsPrinted subcommand job writer errors status
+      → EndsPrinted ask job writer errors status
   err-printed a (Ok v) status prints out err lost ends two = Printed a prints out err ends
   err-printed a (Err e) status prints out err lost ends two = ErrLost a prints out lost two
 
@@ -47,44 +44,34 @@ pub line-lost : {E A F : Type 0} {errors : Stream E} (r : Result A F) (line : Li
 line-lost (Ok v) line w = tt
 line-lost (Err e) line w = (w.err, w.fault)
 
--- a run that stops hasn't exited
-pub not-exited : (ending : Ending) (s : Status) → ending ≡ ending_of s → ending ≢ Exited → s ≢ status.Exited
-not-exited ending s is stops p = stops (is ∙ ap ending_of p)
-
--- one of which that can't be has exited
-pub has-exited : (s : Status) → (s ≢ status.Exited → ⊥) → Exited ≡ ending_of s
-has-exited status.Running never = absurd (never (λ e. cc))
-has-exited status.Exited never = refl
-has-exited (status.Faulted fault) never = absurd (never (λ e. cc))
-
 -- a machine that was opened, and where its run stops
-abbrev pub OpensStrict : Job → State → Option Unwritten → Type 0
-OpensStrict job x read = (loaded : Loaded) × Opens job loaded × (x ≡ initial_of job loaded) × (read ≡ unwritten_in job x)
+abbrev pub OpensStrict : Bool → Job → State → Option Unwritten → Type 0
+OpensStrict strict job x read = (loaded : Loaded) × Opens job loaded × (x ≡ initial_of job loaded) × (read ≡ unwritten_in strict job x)
 
-abbrev pub opens-strict : (job : Job) (loaded : Loaded) (x : State) (read : Option Unwritten) → Loads job.target job.file.now loaded
-    → OpensMachine job loaded.program x × (read ≡ unwritten_in job x) → OpensStrict job x read
-opens-strict job loaded x read loads o = (loaded, record { loads = loads; asked = o.0.0; short = o.0.1 }, o.0.2, o.1)
+abbrev pub opens-strict : (strict : Bool) (job : Job) (loaded : Loaded) (x : State) (read : Option Unwritten) → Loads job.target job.file.now loaded
+    → OpensMachine job loaded.program x × (read ≡ unwritten_in strict job x) → OpensStrict strict job x read
+opens-strict strict job loaded x read loads o = (loaded, record { loads = loads; asked = o.0.0; short = o.0.1 }, o.0.2, o.1)
 
-pub strict-read : (job : Job) (x : State) (read now : Option Unwritten) → (o : OpensStrict job x read) → read ≡ now
-    → now ≡ unwritten_in job (initial_of job o.0)
-strict-read job x read now o is = sym is ∙ o.3 ∙ ap (unwritten_in job) o.2
+pub strict-read : (strict : Bool) (job : Job) (x : State) (read now : Option Unwritten) → (o : OpensStrict strict job x read) → read ≡ now
+    → now ≡ unwritten_in strict job (initial_of job o.0)
+strict-read strict job x read now o is = sym is ∙ o.3 ∙ ap (unwritten_in strict job) o.2
 
 -- what a run prints, from the machine that was opened and the state that it left
-pub run-prints : (job : Job) (x end : State) (read : Option Unwritten) (ending : Ending) → OpensStrict job x read → read ≡ None
-    → end ≡ plain_end job.options.limit x → ending ≡ ending_of end.status → Prints Run job (run_print job.options.limit ending end)
-run-prints job x end read ending o none e is = (
+pub run-prints : (strict : Bool) (job : Job) (x end : State) (read : Option Unwritten) (ending : Ending) → OpensStrict strict job x read → read ≡ None
+    → end ≡ plain_end job.options.limit x → ending ≡ ending_of end.status → Prints (Run strict) job (run_print job.target job.options.limit ending end)
+run-prints strict job x end read ending o none e is = (
   o.0,
   o.1,
-  ap (λ z. run_print job.options.limit z end) is ∙ ap (λ (y : State). run_print job.options.limit (ending_of y.status) y) (e ∙ ap (plain_end job.options.limit) o.2)
-      ∙ ap (λ (r : Option Unwritten). run_or_stopped r (run_print job.options.limit (ending_of (run_end job o.0).status) (run_end job o.0)))
-      (strict-read job x read None o none),
+  ap (λ z. run_print job.target job.options.limit z end) is ∙ ap (λ (y : State). run_print job.target job.options.limit (ending_of y.status) y) (e ∙ ap (plain_end job.options.limit) o.2)
+      ∙ ap (λ (r : Option Unwritten). run_or_stopped r (run_print job.target job.options.limit (ending_of (run_end job o.0).status) (run_end job o.0)))
+      (strict-read strict job x read None o none),
 )
 
-pub stopped-prints : (job : Job) (x : State) (read : Option Unwritten) (at : Unwritten) → OpensStrict job x read → read ≡ Some at
-    → Prints Run job (stopped (unwritten_line at))
-stopped-prints job x read at o is = (
+pub stopped-prints : (strict : Bool) (job : Job) (x : State) (read : Option Unwritten) (at : Unwritten) → OpensStrict strict job x read → read ≡ Some at
+    → Prints (Run strict) job (stopped (unwritten_line at))
+stopped-prints strict job x read at o is = (
   o.0,
   o.1,
-  ap (λ (r : Option Unwritten). run_or_stopped r (run_print job.options.limit (ending_of (run_end job o.0).status) (run_end job o.0)))
-      (strict-read job x read (Some at) o is),
+  ap (λ (r : Option Unwritten). run_or_stopped r (run_print job.target job.options.limit (ending_of (run_end job o.0).status) (run_end job o.0)))
+      (strict-read strict job x read (Some at) o is),
 )

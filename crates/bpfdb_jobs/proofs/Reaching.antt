@@ -24,53 +24,54 @@ use Rattle.bpfdb_jobs.specs.declared.job.Job.{Job}
 use Rattle.bpfdb_jobs.specs.declared.known.Known.{Known}
 use Rattle.bpfdb_faults.specs.declared.refusal.JobRefusal.{JobRefusal}
 use Rattle.bpfdb_faults.specs.declared.refusal.JobRefusal.TheVariants.{OtherMap, OtherObject, Kind, Maps, Listing, Load, Opening, Open, OtherRun, TraceLine, Journal, What, Goal, NoPlace, Object, Functions, Tests, NoTest, ManyTests, Script}
-use Rattle.bpfdb_options.specs.declared.subcommand.Subcommand.TheVariants.{Whynot}
+use Rattle.bpfdb_options.specs.declared.ask.Ask.TheVariants.{Whynot}
+use Rattle.bpfdb_options.specs.declared.ask.WhynotAsk.{WhynotAsk}
 
 -- how it is asked over a history behind so many moves
-abbrev search : Job → Known → List ℕ → List Record → ℕ → Query
-search job known goals h n = record {
+abbrev search : WhynotAsk → Known → List ℕ → List Record → ℕ → Query
+search why known goals h n = record {
   goals = goals;
-  question = record { addresses = job.options.addresses; lines = job.options.lines; opening = length h == n; places = known.places };
-  alone = job.options.alone;
+  question = record { addresses = why.scope.addresses; lines = why.scope.lines; opening = length h == n; places = known.places };
+  alone = why.alone;
 }
 
 -- the refusal of slots that are none
-pub goal-refuses : (job : Job) (known : Known) (program : Checked) (slots : List ℕ) (fault : GoalFault) (refusal : JobRefusal) → AreAsked job known slots
-    → goals_in program slots ≡ Err fault → IsRefusalOf job fault refusal → RefusesGoals job known program refusal
-goal-refuses job known program slots fault (Goal told) asked none r = ((slots, asked, none ∙ ap (λ f. Err f) (sym r.0)), ap (λ f. lacks_place f (asked_of job)) r.0 ∙ r.1)
-goal-refuses job known program slots fault (NoPlace name) asked none r =
-    (r.0, (slots, asked, none ∙ ap (λ f. Err f) r.1), ap (λ f. lacks_place f (asked_of job)) (sym r.1) ∙ r.2)
-goal-refuses job known program slots fault (Maps why) asked none r = absurd r
-goal-refuses job known program slots fault (Listing why) asked none r = absurd r
-goal-refuses job known program slots fault (Load why) asked none r = absurd r
-goal-refuses job known program slots fault (Open why) asked none r = absurd r
-goal-refuses job known program slots fault (Opening why) asked none r = absurd r
-goal-refuses job known program slots fault (OtherRun refusal) asked none r = absurd r
-goal-refuses job known program slots fault (TraceLine why line) asked none r = absurd r
-goal-refuses job known program slots fault (Journal why) asked none r = absurd r
-goal-refuses job known program slots fault (Script refusal) asked none r = absurd r
-goal-refuses job known program slots fault (What why) asked none r = absurd r
-goal-refuses job known program slots fault (Object why name) asked none r = absurd r
-goal-refuses job known program slots fault (Functions why index name) asked none r = absurd r
-goal-refuses job known program slots fault (Tests why line) asked none r = absurd r
-goal-refuses job known program slots fault (NoTest name) asked none r = absurd r
-goal-refuses job known program slots fault ManyTests asked none r = absurd r
-goal-refuses job known program slots fault (Kind why) asked none r = absurd r
-goal-refuses job known program slots fault (OtherMap number) asked none r = absurd r
-goal-refuses job known program slots fault (OtherObject why name) asked none r = absurd r
+pub goal-refuses : (why : WhynotAsk) (job : Job) (known : Known) (program : Checked) (slots : List ℕ) (fault : GoalFault) (refusal : JobRefusal) → AreAsked why job known slots
+    → goals_in program slots ≡ Err fault → IsRefusalOf why fault refusal → RefusesGoals why job known program refusal
+goal-refuses ask job known program slots fault (Goal told) asked none r = ((slots, asked, none ∙ ap (λ f. Err f) (sym r.0)), ap (λ f. lacks_place f (asked_of ask)) r.0 ∙ r.1)
+goal-refuses ask job known program slots fault (NoPlace name) asked none r =
+    (r.0, (slots, asked, none ∙ ap (λ f. Err f) r.1), ap (λ f. lacks_place f (asked_of ask)) (sym r.1) ∙ r.2)
+goal-refuses ask job known program slots fault (Maps why) asked none r = absurd r
+goal-refuses ask job known program slots fault (Listing why) asked none r = absurd r
+goal-refuses ask job known program slots fault (Load why) asked none r = absurd r
+goal-refuses ask job known program slots fault (Open why) asked none r = absurd r
+goal-refuses ask job known program slots fault (Opening why) asked none r = absurd r
+goal-refuses ask job known program slots fault (OtherRun refusal) asked none r = absurd r
+goal-refuses ask job known program slots fault (TraceLine why line) asked none r = absurd r
+goal-refuses ask job known program slots fault (Journal why) asked none r = absurd r
+goal-refuses ask job known program slots fault (Script refusal) asked none r = absurd r
+goal-refuses ask job known program slots fault (What why) asked none r = absurd r
+goal-refuses ask job known program slots fault (Object why name) asked none r = absurd r
+goal-refuses ask job known program slots fault (Functions why index name) asked none r = absurd r
+goal-refuses ask job known program slots fault (Tests why line) asked none r = absurd r
+goal-refuses ask job known program slots fault (NoTest name) asked none r = absurd r
+goal-refuses ask job known program slots fault ManyTests asked none r = absurd r
+goal-refuses ask job known program slots fault (Kind why) asked none r = absurd r
+goal-refuses ask job known program slots fault (OtherMap number) asked none r = absurd r
+goal-refuses ask job known program slots fault (OtherObject why name) asked none r = absurd r
 
 -- a machine where it is asked
-module _ (job : Job) (object : Option LinkedObject) (known : Known) (is_known : IsKnown job object known) (moment : Moment RingKeeper) (n : ℕ)
+module _ (why : WhynotAsk) (job : Job) (object : Option LinkedObject) (known : Known) (is_known : IsKnown job object known) (moment : Moment RingKeeper) (n : ℕ)
     (a : HasArrived job object moment n) where
   -- what is known of the object that was loaded
   known-here : IsKnown job a.loaded.object known
   known-here = subst (λ (o : Option LinkedObject). IsKnown job o known) (sym a.of) is_known
 
   -- the answer about it is printed
-  pub whynot-prints : (s : Query) (goals : List ℕ) (can : ℕ → List ℕ → Bool) → s ≡ search job known goals a.at.point.history n
-      → AsksGoals job known moment.state.program (Ok goals) → TellsReach moment.state.program goals can
+  pub whynot-prints : (s : Query) (goals : List ℕ) (can : ℕ → List ℕ → Bool) → s ≡ search why known goals a.at.point.history n
+      → AsksGoals why job known moment.state.program (Ok goals) → TellsReach moment.state.program goals can
       → (names : Option Names) → AreNamesOf object (section_of job) job.target.packet names
-      → Prints Whynot job (named_print names moment.state (why_not can s a.at.point.history moment.state))
+      → Prints (Whynot why) job (named_print names moment.state (why_not can s a.at.point.history moment.state))
   whynot-prints s goals can asks named tells names found = (
     a.loaded,
     known,
@@ -81,16 +82,16 @@ module _ (job : Job) (object : Option LinkedObject) (known : Known) (is_known : 
     a.opens,
     known-here,
     a.arrives,
-    subst (λ (x : State). AsksGoals job known x.program (Ok goals)) a.state named,
+    subst (λ (x : State). AsksGoals why job known x.program (Ok goals)) a.state named,
     subst (λ (x : State). TellsReach x.program goals can) a.state tells,
     subst (λ (o : Option LinkedObject). AreNamesOf o (section_of job) job.target.packet names) (sym a.of) found,
-    ap (λ (z : Query). named_print names moment.state (why_not can z a.at.point.history moment.state)) (asks ∙ ap (search job known goals a.at.point.history) a.counted)
-        ∙ ap (λ (x : State). named_print names x (why_not can (search job known goals a.at.point.history a.at.moves) a.at.point.history x)) a.state,
+    ap (λ (z : Query). named_print names moment.state (why_not can z a.at.point.history moment.state)) (asks ∙ ap (search why known goals a.at.point.history) a.counted)
+        ∙ ap (λ (x : State). named_print names x (why_not can (search why known goals a.at.point.history a.at.moves) a.at.point.history x)) a.state,
   )
 
   -- nothing is known of the names in maps
-  pub names-lack : (goals : List ℕ) → AsksGoals job known moment.state.program (Ok goals) → (fault : LinkFault) (name : Bor (List ℕ))
-      → RefusesNames object (section_of job) fault name.now → RefusesAs Whynot job (Object fault name)
+  pub names-lack : (goals : List ℕ) → AsksGoals why job known moment.state.program (Ok goals) → (fault : LinkFault) (name : Bor (List ℕ))
+      → RefusesNames object (section_of job) fault name.now → RefusesAs (Whynot why) job (Object fault name)
   names-lack goals named fault name lacks = (
     a.loaded,
     known,
@@ -99,16 +100,16 @@ module _ (job : Job) (object : Option LinkedObject) (known : Known) (is_known : 
     a.opens,
     known-here,
     a.arrives,
-    subst (λ (x : State). AsksGoals job known x.program (Ok goals)) a.state named,
+    subst (λ (x : State). AsksGoals why job known x.program (Ok goals)) a.state named,
     subst (λ (o : Option LinkedObject). RefusesNames o (section_of job) fault name.now) (sym a.of) lacks,
   )
 
   -- and so is what it refuses
-  at-goals : (goals : Result (List ℕ) GoalFault) → AsksGoals job known moment.state.program goals → AsksGoals job known a.at.point.state.program goals
-  at-goals goals named = subst (λ (x : State). AsksGoals job known x.program goals) a.state named
+  at-goals : (goals : Result (List ℕ) GoalFault) → AsksGoals why job known moment.state.program goals → AsksGoals why job known a.at.point.state.program goals
+  at-goals goals named = subst (λ (x : State). AsksGoals why job known x.program goals) a.state named
 
-  pub whynot-refuses : (refusal : JobRefusal) → RefusesGoals job known moment.state.program refusal → RefusesAs Whynot job refusal
-  whynot-refuses (Journal fault) r = subst (λ f. RefusesWhynot job (Journal f)) (sym r) (a.opens.opens.short, a.opens.sized)
+  pub whynot-refuses : (refusal : JobRefusal) → RefusesGoals why job known moment.state.program refusal → RefusesAs (Whynot why) job refusal
+  whynot-refuses (Journal fault) r = subst (λ f. RefusesWhynot why job (Journal f)) (sym r) (a.opens.opens.short, a.opens.sized)
   whynot-refuses (Listing fault) r = r
   whynot-refuses (Goal fault) r = (a.loaded, known, a.at, a.opens, known-here, a.arrives, at-goals (Err fault) r.0, r.1)
   whynot-refuses (NoPlace name) r = (r.0, (a.loaded, known, a.at, a.opens, known-here, a.arrives, at-goals (Err NoSlot) r.1, r.2))

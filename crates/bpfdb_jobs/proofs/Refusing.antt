@@ -8,6 +8,8 @@ use Rattle.bpfdb_jobs.specs.Refusals.{Refuses, RefusesArrival, RefusesMachine, R
 use Rattle.bpfdb_jobs.specs.declared.job.Job.{Job}
 use Rattle.bpfdb_faults.specs.declared.refusal.JobRefusal.{JobRefusal}
 use Rattle.bpfdb_faults.specs.declared.refusal.JobRefusal.TheVariants.{OtherMap, OtherObject, Kind, Maps, Listing, Load, Opening, Open, OtherRun, TraceLine, Journal, What, Goal, NoPlace, Object, Functions, Tests, NoTest, ManyTests, Script}
+use Rattle.bpfdb_options.specs.declared.ask.OriginAsk.{OriginAsk}
+use Rattle.bpfdb_options.specs.declared.ask.WhynotAsk.{WhynotAsk}
 
 -- a refusal of a machine is one of a session
 pub machine-session : (job : Job) (refusal : JobRefusal) → RefusesMachine job refusal → Refuses job refusal
@@ -55,49 +57,49 @@ session-arrival job (Kind why) p = p
 session-arrival job (OtherMap number) p = p
 session-arrival job (OtherObject why name) p = p
 
-pub arrival-origin : (job : Job) (refusal : JobRefusal) → RefusesArrival job refusal → RefusesOrigin job refusal
-arrival-origin job (Maps fault) p = p
-arrival-origin job (Listing fault) p = p
-arrival-origin job (Load fault) p = p
-arrival-origin job (Opening fault) p = p
-arrival-origin job (Open fault) p = p
-arrival-origin job (OtherRun refusal) p = p
-arrival-origin job (TraceLine fault line) p = p
-arrival-origin job (Journal fault) p = p
-arrival-origin job (Script refusal) p = p
-arrival-origin job (What fault) p = absurd p
-arrival-origin job (Goal fault) p = p
-arrival-origin job (NoPlace name) p = p
-arrival-origin job (Object fault name) p = absurd p
-arrival-origin job (Functions fault index name) p = p
-arrival-origin job (Tests fault line) p = p
-arrival-origin job (NoTest name) p = p
-arrival-origin job ManyTests p = p
-arrival-origin job (Kind why) p = p
-arrival-origin job (OtherMap number) p = p
-arrival-origin job (OtherObject why name) p = p
+pub arrival-origin : (origin : OriginAsk) (job : Job) (refusal : JobRefusal) → RefusesArrival job refusal → RefusesOrigin origin job refusal
+arrival-origin origin job (Maps fault) p = p
+arrival-origin origin job (Listing fault) p = p
+arrival-origin origin job (Load fault) p = p
+arrival-origin origin job (Opening fault) p = p
+arrival-origin origin job (Open fault) p = p
+arrival-origin origin job (OtherRun refusal) p = p
+arrival-origin origin job (TraceLine fault line) p = p
+arrival-origin origin job (Journal fault) p = p
+arrival-origin origin job (Script refusal) p = p
+arrival-origin origin job (What fault) p = absurd p
+arrival-origin origin job (Goal fault) p = p
+arrival-origin origin job (NoPlace name) p = p
+arrival-origin origin job (Object fault name) p = absurd p
+arrival-origin origin job (Functions fault index name) p = p
+arrival-origin origin job (Tests fault line) p = p
+arrival-origin origin job (NoTest name) p = p
+arrival-origin origin job ManyTests p = p
+arrival-origin origin job (Kind why) p = p
+arrival-origin origin job (OtherMap number) p = p
+arrival-origin origin job (OtherObject why name) p = p
 
-pub arrival-whynot : (job : Job) (refusal : JobRefusal) → RefusesArrival job refusal → RefusesWhynot job refusal
-arrival-whynot job (Maps fault) p = p
-arrival-whynot job (Listing fault) p = absurd p
-arrival-whynot job (Load fault) p = p
-arrival-whynot job (Opening fault) p = p
-arrival-whynot job (Open fault) p = p
-arrival-whynot job (OtherRun refusal) p = p
-arrival-whynot job (TraceLine fault line) p = p
-arrival-whynot job (Journal fault) p = p
-arrival-whynot job (Script refusal) p = p
-arrival-whynot job (What fault) p = p
-arrival-whynot job (Goal fault) p = absurd p
-arrival-whynot job (NoPlace name) p = absurd p
-arrival-whynot job (Object fault name) p = absurd p
-arrival-whynot job (Functions fault index name) p = p
-arrival-whynot job (Tests fault line) p = p
-arrival-whynot job (NoTest name) p = p
-arrival-whynot job ManyTests p = p
-arrival-whynot job (Kind why) p = p
-arrival-whynot job (OtherMap number) p = p
-arrival-whynot job (OtherObject why name) p = p
+pub arrival-whynot : (why : WhynotAsk) (job : Job) (refusal : JobRefusal) → RefusesArrival job refusal → RefusesWhynot why job refusal
+arrival-whynot ask job (Maps fault) p = p
+arrival-whynot ask job (Listing fault) p = absurd p
+arrival-whynot ask job (Load fault) p = p
+arrival-whynot ask job (Opening fault) p = p
+arrival-whynot ask job (Open fault) p = p
+arrival-whynot ask job (OtherRun refusal) p = p
+arrival-whynot ask job (TraceLine fault line) p = p
+arrival-whynot ask job (Journal fault) p = p
+arrival-whynot ask job (Script refusal) p = p
+arrival-whynot ask job (What fault) p = p
+arrival-whynot ask job (Goal fault) p = absurd p
+arrival-whynot ask job (NoPlace name) p = absurd p
+arrival-whynot ask job (Object fault name) p = absurd p
+arrival-whynot ask job (Functions fault index name) p = p
+arrival-whynot ask job (Tests fault line) p = p
+arrival-whynot ask job (NoTest name) p = p
+arrival-whynot ask job ManyTests p = p
+arrival-whynot ask job (Kind why) p = p
+arrival-whynot ask job (OtherMap number) p = p
+arrival-whynot ask job (OtherObject why name) p = p
 
 -- what a session refuses has a line of the session's
 pub session-refused : (job : Job) (refusal : JobRefusal) → Refuses job refusal → refusal_line refusal ≡ session_line refusal

@@ -15,10 +15,12 @@ use Rattle.bpf_origin.specs.declared.place.Part.{Part}
 use Rattle.bpf_origin.specs.declared.question.Question.{Question}
 use Rattle.bpf_session.specs.Plain.{RunsKept, plain_end, plain_steps}
 use Rattle.bpf_diff.specs.Values.{Value}
+use Rattle.bpfdb_script.specs.SlotTexts.{SlotTexts}
 use Rattle.bpfdb_script.specs.Texts.{place}
 use Rattle.bpfdb_jobs.specs.Openings.{HasRun, asked_text}
 use Rattle.bpfdb_jobs.specs.Origins.{found_text, named_by, question_by, run_history}
 use Rattle.bpfdb_jobs.specs.Sources.{asked_at, behind, source, told_of}
+use Rattle.bpfdb_options.specs.declared.ask.Scope.{Scope}
 use Rattle.bpfdb_options.specs.declared.options.Options.{Options}
 
 -- a machine that has run from an opening, over an empty journal
@@ -49,27 +51,27 @@ told-none (p ∷ parts) text none =
     absurd (omega (arith, zero))
 
 -- what is told there
-module _ (names : Option Names) (options : Options) (v : Value) (x : State) (moment : Moment RingKeeper) (moves : ℕ) (ran : HasRun options v.steps x moment moves)
-    (q : Question) (asks : q ≡ record { addresses = options.addresses; lines = options.lines; opening = length (behind options v.steps x).point.history == moves; places = None })
+module _ (names : Option Names) (texts : SlotTexts) (scope : Scope) (options : Options) (v : Value) (x : State) (moment : Moment RingKeeper) (moves : ℕ) (ran : HasRun options v.steps x moment moves)
+    (q : Question) (asks : q ≡ record { addresses = scope.addresses; lines = scope.lines; opening = length (behind options v.steps x).point.history == moves; places = texts })
     (asked : List Part) (is : asked ≡ asked_at moment.state.status v.parts moment.state) where
   abbrev told : Question → List Part → State → List ℕ
   told z parts y = named_by names (found_text y (answer_about z parts (behind options v.steps x).point.history y))
 
-  asks-as : q ≡ question_by None options (behind options v.steps x)
+  asks-as : q ≡ question_by texts scope (behind options v.steps x)
   asks-as = asks
-      ∙ ap (λ (m : ℕ). record { addresses = options.addresses; lines = options.lines; opening = length (behind options v.steps x).point.history == m; places = None }) ran.counted
+      ∙ ap (λ (m : ℕ). record { addresses = scope.addresses; lines = scope.lines; opening = length (behind options v.steps x).point.history == m; places = texts }) ran.counted
 
-  whole : told_of asked (told q asked moment.state) ≡ source names options x v
+  whole : told_of asked (told q asked moment.state) ≡ source names texts scope options x v
   whole = ap (λ (z : Question). told_of asked (told z asked moment.state)) asks-as
-      ∙ ap (λ (parts : List Part). told_of parts (told (question_by None options (behind options v.steps x)) parts moment.state)) is
+      ∙ ap (λ (parts : List Part). told_of parts (told (question_by texts scope (behind options v.steps x)) parts moment.state)) is
       ∙ ap (λ (y : State). told_of (asked_at y.status v.parts y)
-      (told (question_by None options (behind options v.steps x)) (asked_at y.status v.parts y) y)) ran.state
+      (told (question_by texts scope (behind options v.steps x)) (asked_at y.status v.parts y) y)) ran.state
 
-  pub nothing-told : (length asked == 0) ≡ true → [] ≡ source names options x v
+  pub nothing-told : (length asked == 0) ≡ true → [] ≡ source names texts scope options x v
   nothing-told none = told-none asked (told q asked moment.state) none ∙ whole
 
   pub something-told : (length asked == 0) ≡ false
-      → named_by names (asked_text q asked (behind options v.steps x).point.history moment.state []) ≡ source names options x v
+      → named_by names (asked_text q asked (behind options v.steps x).point.history moment.state []) ≡ source names texts scope options x v
   something-told some =
       ap (λ (text : List ℕ). named_by names (place moment.state ++ codes "\n" ++ text)) (append-nil _)
       ∙ told-some asked (told q asked moment.state) some ∙ whole

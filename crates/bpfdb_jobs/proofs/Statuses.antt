@@ -7,7 +7,7 @@ use Rattle.bpf_suite.specs.declared.cover.CoverForm.{CoverForm}
 use Rattle.bpfdb_faults.specs.Streams.{Stream}
 use Rattle.bpfdb_faults.specs.declared.fault.JobFault.{JobFault}
 use Rattle.bpfdb_jobs.specs.Cases as batches
-use Rattle.bpfdb_jobs.specs.Done.{Does, DoesJob, DoesPlain, Unloaded}
+use Rattle.bpfdb_jobs.specs.Done.{Does, DoesJob, DoesLoaded, DoesPlain, Unloaded}
 use Rattle.bpfdb_jobs.specs.Endings.{Broken, EndsPrinted, EndsSession, ErrLost, Exhausted, OutLost, Printed, Refused, Served}
 use Rattle.bpfdb_jobs.specs.Jobs.{Print, Prints}
 use Rattle.bpfdb_jobs.specs.Shown.{EndsTest}
@@ -15,8 +15,9 @@ use Rattle.bpfdb_jobs.specs.Shown as shown
 use Rattle.bpfdb_jobs.specs.Statuses.{EndsBatchWith, EndsSessionWith, EndsTestWith, EndsWith}
 use Rattle.bpfdb_jobs.specs.Suites as tests
 use Rattle.bpfdb_jobs.specs.declared.job.Job.{Job}
-use Rattle.bpfdb_options.specs.declared.subcommand.Subcommand.{Subcommand}
-use Rattle.bpfdb_options.specs.declared.subcommand.Subcommand.TheVariants.{Run, Trace, Debug, Origin, Whynot, Diff, Gdb, Asm, Disasm, Lines, Check, Load, Link, Test, Batch}
+use Rattle.bpfdb_options.specs.declared.ask.Ask.{Ask}
+use Rattle.bpfdb_options.specs.declared.ask.Ask.TheVariants.{Run, Trace, Debug, Origin, Whynot, Diff, Gdb, Asm, Disasm, Lines, Check, Load, Link, Test, Batch}
+use Rattle.bpfdb_options.specs.declared.ask.TestAsk.{TestAsk}
 use Rattle.bpfdb_options.specs.declared.test_part.TestPart.{TestPart}
 
 -- the status of a report, and of one with which it is told what ran
@@ -24,29 +25,29 @@ abbrev number_in : Result ℕ JobFault → ℕ
 number_in (Ok n) = n
 number_in (Err why) = 0
 
-reported_with : {W : Type 0} (writer : Stream W) (job : Job) (reported : ℕ) → tests.Reports job writer (Ok reported) → EndsTestWith None job reported
-reported_with writer job reported (tests.Reported asked outcomes are came out is) = (asked, outcomes, are, came, ap number_in is)
-reported_with writer job reported (tests.Refused refusal why w is) = cc
-reported_with writer job reported (tests.Exhausted w is) = cc
-reported_with writer job reported (tests.BrokenOff why asked are breaks is) = cc
+reported_with : {W : Type 0} (writer : Stream W) (ask : TestAsk) (job : Job) (reported : ℕ) → tests.Reports ask job writer (Ok reported) → EndsTestWith None ask job reported
+reported_with writer ask job reported (tests.Reported asked outcomes are came out is) = (asked, outcomes, are, came, ap number_in is)
+reported_with writer ask job reported (tests.Refused refusal why w is) = cc
+reported_with writer ask job reported (tests.Exhausted w is) = cc
+reported_with writer ask job reported (tests.BrokenOff why asked are breaks is) = cc
 
-told_with : {W E : Type 0} (writer : Stream W) (errors : Stream E) (form : CoverForm) (job : Job) (reported status : ℕ)
-    → tests.EndsTold form job reported writer errors status → status ≢ 2 → EndsTestWith None job reported → EndsTestWith None job status
-told_with writer errors form job reported status (tests.Covered text covers out err is) other same = subst (EndsTestWith None job) (sym is) same
-told_with writer errors form job reported status (tests.Unfound w told two) other same = absurd (other two)
-told_with writer errors form job reported status (tests.Lost text covers out told two) other same = absurd (other two)
+told_with : {W E : Type 0} (writer : Stream W) (errors : Stream E) (form : CoverForm) (ask : TestAsk) (job : Job) (reported status : ℕ)
+    → tests.EndsTold form ask job reported writer errors status → status ≢ 2 → EndsTestWith None ask job reported → EndsTestWith None ask job status
+told_with writer errors form ask job reported status (tests.Covered text covers out err is) other same = subst (EndsTestWith None ask job) (sym is) same
+told_with writer errors form ask job reported status (tests.Unfound w told two) other same = absurd (other two)
+told_with writer errors form ask job reported status (tests.Lost text covers out told two) other same = absurd (other two)
 
-run_with : {W E : Type 0} (writer : Stream W) (errors : Stream E) (traced covers : Bool) (job : Job) (status : ℕ)
-    → tests.EndsRun traced covers job writer errors status → status ≢ 2 → EndsTestWith None job status
-run_with writer errors true covers job status (tests.Beside file middle reported named reports told) other =
-    told_with _ _ _ job reported status told other (reported_with _ job reported reports)
-run_with writer errors true covers job status (tests.Untraced why middle reports told same two) other = absurd (other two)
-run_with writer errors false true job status (tests.Behind middle reported reports told) other =
-    told_with _ _ _ job reported status told other (reported_with _ job reported reports)
-run_with writer errors false true job status (tests.Uncovered why reports told two) other = absurd (other two)
-run_with writer errors false false job status (tests.Done reported reports same is) other =
-    subst (EndsTestWith None job) (sym is) (reported_with _ job reported reports)
-run_with writer errors false false job status (tests.Undone why reports told two) other = absurd (other two)
+run_with : {W E : Type 0} (writer : Stream W) (errors : Stream E) (traced covers : Bool) (ask : TestAsk) (job : Job) (status : ℕ)
+    → tests.EndsRun traced covers ask job writer errors status → status ≢ 2 → EndsTestWith None ask job status
+run_with writer errors true covers ask job status (tests.Beside file middle reported named reports told) other =
+    told_with _ _ _ ask job reported status told other (reported_with _ ask job reported reports)
+run_with writer errors true covers ask job status (tests.Untraced why middle reports told same two) other = absurd (other two)
+run_with writer errors false true ask job status (tests.Behind middle reported reports told) other =
+    told_with _ _ _ ask job reported status told other (reported_with _ ask job reported reports)
+run_with writer errors false true ask job status (tests.Uncovered why reports told two) other = absurd (other two)
+run_with writer errors false false ask job status (tests.Done reported reports same is) other =
+    subst (EndsTestWith None ask job) (sym is) (reported_with _ ask job reported reports)
+run_with writer errors false false ask job status (tests.Undone why reports told two) other = absurd (other two)
 
 module _ {R W E : Type 0} (reader : Stream R) (writer : Stream W) (errors : Stream E) where
   session_with : (job : Job) (loaded : Loaded) → Loads job.target job.file.now loaded → (Serves : Type 0) (Breaks : RunFault → Type 0) (status : ℕ)
@@ -61,15 +62,15 @@ module _ {R W E : Type 0} (reader : Stream R) (writer : Stream W) (errors : Stre
   batch_with job status (batches.Refused refusal why r w told two) other = absurd (other two)
   batch_with job status (batches.Broken b why is breaks fails told two) other = absurd (other two)
 
-  test_with : (show : Option TestPart) (job : Job) (status : ℕ) → EndsTest show job writer errors status → status ≢ 2
-      → EndsTestWith show job status
-  test_with None job status ends other = run_with writer errors job.options.is_tracefile job.options.covers job status ends other
-  test_with (Some part) job status (shown.Shown test bytes are shows out err is) other = (test, bytes, are, shows, is)
-  test_with (Some part) job status (shown.Refused refusal why w told two) other = absurd (other two)
-  test_with (Some part) job status (shown.Exhausted w told two) other = absurd (other two)
-  test_with (Some part) job status (shown.Lost test bytes are shows out told two) other = absurd (other two)
+  test_with : (show : Option TestPart) (ask : TestAsk) (job : Job) (status : ℕ) → EndsTest show ask job writer errors status → status ≢ 2
+      → EndsTestWith show ask job status
+  test_with None ask job status ends other = run_with writer errors ask.is_tracefile ask.covers ask job status ends other
+  test_with (Some part) ask job status (shown.Shown test bytes are shows out err is) other = (test, bytes, are, shows, is)
+  test_with (Some part) ask job status (shown.Refused refusal why w told two) other = absurd (other two)
+  test_with (Some part) ask job status (shown.Exhausted w told two) other = absurd (other two)
+  test_with (Some part) ask job status (shown.Lost test bytes are shows out told two) other = absurd (other two)
 
-  printed_with : (s : Subcommand) (job : Job) (status : ℕ) → EndsPrinted s job writer errors status → status ≢ 2
+  printed_with : (s : Ask) (job : Job) (status : ℕ) → EndsPrinted s job writer errors status → status ≢ 2
       → (a : Print) × Prints s job a × (status ≡ a.status)
   printed_with s job status (Printed a prints out err is) other = (a, prints, is)
   printed_with s job status (Refused refusal why w told two) other = absurd (other two)
@@ -78,24 +79,27 @@ module _ {R W E : Type 0} (reader : Stream R) (writer : Stream W) (errors : Stre
   printed_with s job status (ErrLost a prints out lost two) other = absurd (other two)
 
   -- the status of a job over FILE's bytes or its listing
-  plain_with : (s : Subcommand) (job : Job) (status : ℕ) → DoesPlain s job reader writer errors status → status ≢ 2 → EndsWith s job status
+  plain_with : (s : Ask) (job : Job) (status : ℕ) → DoesPlain s job reader writer errors status → status ≢ 2 → EndsWith s job status
   plain_with Debug job status does other = session_with job does.0 does.1 _ _ status does.2 other
-  plain_with Gdb job status does other = session_with job does.0 does.1 _ _ status does.2 other
+  plain_with (Gdb registers) job status does other = session_with job does.0 does.1 _ _ status does.2 other
   plain_with Batch job status does other = batch_with job status does other
-  plain_with Test job status does other = test_with job.options.show job status does.1 other
-  plain_with Run job status does other = printed_with Run job status does.1 other
-  plain_with Trace job status does other = printed_with Trace job status does.1 other
-  plain_with Origin job status does other = printed_with Origin job status does.1 other
-  plain_with Whynot job status does other = printed_with Whynot job status does.1 other
-  plain_with Diff job status does other = printed_with Diff job status does.1 other
+  plain_with (Test ask) job status does other = test_with ask.show ask job status does.1 other
+  plain_with (Run strict) job status does other = printed_with (Run strict) job status does.1 other
+  plain_with (Trace trace) job status does other = printed_with (Trace trace) job status does.1 other
+  plain_with (Origin origin) job status does other = printed_with (Origin origin) job status does.1 other
+  plain_with (Whynot why) job status does other = printed_with (Whynot why) job status does.1 other
+  plain_with (Diff diff) job status does other = printed_with (Diff diff) job status does.1 other
   plain_with Asm job status does other = printed_with Asm job status does.1 other
   plain_with Disasm job status does other = printed_with Disasm job status does.1 other
   plain_with Lines job status does other = printed_with Lines job status does.1 other
   plain_with Check job status does other = printed_with Check job status does.1 other
   plain_with Load job status does other = printed_with Load job status does.1 other
-  plain_with Link job status does other = printed_with Link job status does.1 other
+  plain_with (Link joined) job status does other = printed_with (Link joined) job status does.1 other
 
-  -- the status of a job that is done
-  pub ends_with : (s : Subcommand) (job : Job) (status : ℕ) → DoesJob s job reader writer errors status → status ≢ 2 → EndsWith s job status
-  ends_with s job status (Does does) other = plain_with s job status does other
-  ends_with s job status (Unloaded checks refusal refuses r-same w-same told two) other = absurd (other two)
+-- the status of a job that is done
+pub ends_with : {R W E : Type 0} (reader : Stream R) (writer : Stream W) (errors : Stream E) (s : Ask) (job : Job) (status : ℕ)
+    → DoesJob s job reader writer errors status → status ≢ 2 → EndsWith s job status
+ends_with reader writer errors s job status (Does other_file does) other = plain_with reader writer errors s job status does other
+ends_with reader writer errors s job status (DoesLoaded checks loaded loads said says does) other =
+    plain_with reader writer (record errors { old = said }) s job status does other
+ends_with reader writer errors s job status (Unloaded checks refusal refuses r-same w-same told two) other = absurd (other two)

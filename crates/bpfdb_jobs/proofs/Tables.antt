@@ -11,7 +11,7 @@ use Rattle.bpfdb_faults.specs.declared.refusal.JobRefusal.{JobRefusal}
 use Rattle.bpfdb_jobs.specs.Jobs.{AreLinesFor, IsTable, Prints, links_first, printed, table_by}
 use Rattle.bpfdb_jobs.specs.Refusals.{RefusesAs, RefusesLines, RefusesLinking, RefusesTable}
 use Rattle.bpfdb_jobs.specs.declared.job.Job.{Job}
-use Rattle.bpfdb_options.specs.declared.subcommand.Subcommand.TheVariants.{Lines}
+use Rattle.bpfdb_options.specs.declared.ask.Ask.TheVariants.{Lines}
 
 -- an object is refused as `link` refuses it, or for its lines
 pub refuses-linking : (job : Job) (refusal : JobRefusal) → links_first job.target.kind ≡ true → RefusesLinking job refusal → RefusesAs Lines job refusal

@@ -16,27 +16,27 @@ use Rattle.bpf_session.specs.Runs.{HasStanding}
 use Rattle.bpf_session.specs.Sessions.{SessionValue}
 use Rattle.bpf_session.specs.declared.fault.RunFault.{RunFault}
 use Rattle.bpfdb_faults.specs.Streams.{Stream}
-use Rattle.bpfdb_jobs.specs.Jobs.{HasPlaces, section_of, start_of, tells_places}
+use Rattle.bpfdb_jobs.specs.Jobs.{AreTold, section_of, start_of}
 use Rattle.bpfdb_jobs.specs.Origins.{AreNamesOf, LacksNames}
 use Rattle.bpfdb_jobs.specs.declared.job.Job.{Job}
 use Rattle.bpfdb_options.specs.declared.registers.Registers.{Registers}
-use Rattle.bpfdb_options.specs.declared.registers.Registers.TheVariants as registers
+use Rattle.bpfdb_options.specs.declared.registers.Registers.TheVariants as of
 
 -- The machine that gdb takes this one for.
 abbrev pub layout_of : Registers → Layout
-layout_of registers.Bpf = layout.Bpf
-layout_of registers.X86 = layout.X86
-layout_of registers.Riscv = layout.Riscv
+layout_of of.Bpf = layout.Bpf
+layout_of of.X86 = layout.X86
+layout_of of.Riscv = layout.Riscv
 
 -- The names that gdb is told: those in the maps of the object that the program comes from; none where these can't be known.
 abbrev pub KnowsNames : Job → Option LinkedObject → Option Names → Type 0
 KnowsNames job object names =
     AreNamesOf object (section_of job) job.target.packet names ⊎ ((names ≡ None) × (why : LinkFault) × LacksNames object (section_of job) why)
 
-pub record IsTarget (job : Job) (object : Option LinkedObject) (gdb : Target) : Type 0 where
-  pub layout : gdb.layout ≡ layout_of job.options.registers
+pub record IsTarget (registers : Registers) (job : Job) (object : Option LinkedObject) (gdb : Target) : Type 0 where
+  pub layout : gdb.layout ≡ layout_of registers
   pub names : KnowsNames job object (option_map (λ n. n.now) gdb.names)
-  pub places : HasPlaces (tells_places job) job object (option_map (λ texts. map (λ text. text.items) texts.now) gdb.places)
+  pub places : AreTold job object gdb.places
 
 -- A ring refuses no push.
 abbrev pub ring_refusals : RingKeeper → ℕ
@@ -58,11 +58,11 @@ ends gdb from to reader writer = record {
   writer' = writer.new;
 }
 
-module _ {R W : Type 0} (job : Job) (loaded : Loaded) (reader : Stream R) (writer : Stream W) where
+module _ {R W : Type 0} (registers : Registers) (job : Job) (loaded : Loaded) (reader : Stream R) (writer : Stream W) where
   -- It was served to the connection's end.
   pub record ServesConnection : Type 0 where
     pub gdb : Target
-    pub target : IsTarget job loaded.object gdb
+    pub target : IsTarget registers job loaded.object gdb
     pub from : SessionValue RingKeeper
     pub to : SessionValue RingKeeper
     pub begins : Begins job loaded.program from
@@ -71,7 +71,7 @@ module _ {R W : Type 0} (job : Job) (loaded : Loaded) (reader : Stream R) (write
   -- It was served until a read or a write failed.
   pub record BreaksConnection (why : RunFault) : Type 0 where
     pub gdb : Target
-    pub target : IsTarget job loaded.object gdb
+    pub target : IsTarget registers job loaded.object gdb
     pub from : SessionValue RingKeeper
     pub to : SessionValue RingKeeper
     pub begins : Begins job loaded.program from

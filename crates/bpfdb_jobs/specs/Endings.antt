@@ -10,29 +10,29 @@ use Rattle.bpfdb_jobs.specs.Refusals.{Refuses, RefusesAs}
 use Rattle.bpfdb_faults.specs.declared.fault.JobFault.TheVariants as fault
 use Rattle.bpfdb_jobs.specs.declared.job.Job.{Job}
 use Rattle.bpfdb_faults.specs.declared.refusal.JobRefusal.{JobRefusal}
-use Rattle.bpfdb_options.specs.declared.subcommand.Subcommand.{Subcommand}
-use Rattle.bpfdb_options.specs.declared.subcommand.Subcommand.TheVariants.{Diff, Disasm, Trace}
+use Rattle.bpfdb_options.specs.declared.ask.Ask.{Ask}
+use Rattle.bpfdb_options.specs.declared.ask.Ask.TheVariants.{Diff, Disasm, Trace}
 
 -- Subcommands for which memory may run out where no refusal says so.
-abbrev pub MayExhaust : Subcommand → Job → Type 0
+abbrev pub MayExhaust : Ask → Job → Type 0
 MayExhaust Disasm job = ⊤
-MayExhaust Trace job = ⊤
-MayExhaust Diff job = ⊤
-MayExhaust subcommand job = ⊥
+MayExhaust (Trace trace) job = ⊤
+MayExhaust (Diff diff) job = ⊤
+MayExhaust ask job = ⊥
 
 -- How a job ends that prints: all was printed; or it was refused; or memory ran out, before anything was written; or standard output failed,
 -- which got a beginning; or standard error failed while it was told what follows the output.
-pub data EndsPrinted {W E : Type 0} (subcommand : Subcommand) (job : Job) (writer : Stream W) (errors : Stream E) (status : ℕ) : Type 0 where
-  Printed : (a : Print) → Prints subcommand job a → Gets writer a.out → Gets errors a.err → status ≡ a.status
-      → EndsPrinted subcommand job writer errors status
-  Refused : (refusal : JobRefusal) → RefusesAs subcommand job refusal → writer.new ≡ writer.old → Told errors (line_of (fault.Refused refusal))
-      → status ≡ 2 → EndsPrinted subcommand job writer errors status
-  Exhausted : (a : Print) → Prints subcommand job a → MayExhaust subcommand job → writer.new ≡ writer.old → Told errors (line_of fault.Memory)
-      → status ≡ 2 → EndsPrinted subcommand job writer errors status
-  OutLost : (a : Print) → Prints subcommand job a → Loses writer a.out → Told errors (line_of fault.Output) → status ≡ 2
-      → EndsPrinted subcommand job writer errors status
-  ErrLost : (a : Print) → Prints subcommand job a → Gets writer a.out → Loses errors a.err → status ≡ 2
-      → EndsPrinted subcommand job writer errors status
+pub data EndsPrinted {W E : Type 0} (ask : Ask) (job : Job) (writer : Stream W) (errors : Stream E) (status : ℕ) : Type 0 where
+  Printed : (a : Print) → Prints ask job a → Gets writer a.out → Gets errors a.err → status ≡ a.status
+      → EndsPrinted ask job writer errors status
+  Refused : (refusal : JobRefusal) → RefusesAs ask job refusal → writer.new ≡ writer.old → Told errors (line_of (fault.Refused refusal))
+      → status ≡ 2 → EndsPrinted ask job writer errors status
+  Exhausted : (a : Print) → Prints ask job a → MayExhaust ask job → writer.new ≡ writer.old → Told errors (line_of fault.Memory)
+      → status ≡ 2 → EndsPrinted ask job writer errors status
+  OutLost : (a : Print) → Prints ask job a → Loses writer a.out → Told errors (line_of fault.Output) → status ≡ 2
+      → EndsPrinted ask job writer errors status
+  ErrLost : (a : Print) → Prints ask job a → Gets writer a.out → Loses errors a.err → status ≡ 2
+      → EndsPrinted ask job writer errors status
 
 -- The line of a session that is broken off.
 abbrev pub broken_line : RunFault → List ℕ

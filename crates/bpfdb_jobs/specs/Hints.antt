@@ -73,12 +73,12 @@ place_after why table = None
 -- The hint of a job, if there is one: none where FILE isn't read as a program, or is an object, or the program is loaded, or no table is made of a
 -- listing.
 pub data IsHintOf (job : Job) (hint : Option Hint) : Type 0 where
-  Unchecked : is_check job.subcommand ≡ false → hint ≡ None → IsHintOf job hint
+  Unchecked : is_check job.ask ≡ false → hint ≡ None → IsHintOf job hint
   Linked : job.target.kind ≡ kind.Object → hint ≡ None → IsHintOf job hint
   Accepted : (loaded : Loaded) → Loads job.target job.file.now loaded → hint ≡ None → IsHintOf job hint
-  Looks : (why : TargetFault) → is_check job.subcommand ≡ true → job.target.kind ≡ kind.Words → IsTargetFault job.target job.file.now why
+  Looks : (why : TargetFault) → is_check job.ask ≡ true → job.target.kind ≡ kind.Words → IsTargetFault job.target job.file.now why
       → hint ≡ look_after why job.file.now → IsHintOf job hint
-  Stands : (why : TargetFault) (table : List ℕ) → is_check job.subcommand ≡ true → job.target.kind ≡ kind.Listing
+  Stands : (why : TargetFault) (table : List ℕ) → is_check job.ask ≡ true → job.target.kind ≡ kind.Listing
       → IsTargetFault job.target job.file.now why → IsLineTable job.file.now table → hint ≡ place_after why table → IsHintOf job hint
   Untold : (why : AsmFault) → job.target.kind ≡ kind.Listing → IsFaultOf job.file.now why → hint ≡ None → IsHintOf job hint
 

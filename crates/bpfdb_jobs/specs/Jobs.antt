@@ -4,19 +4,26 @@ use Rattle.std.specs.Borrow.{Bor}
 use Rattle.bpf_entries.specs.Keeping.{IsSize}
 use Rattle.bpf_diff.specs.Values.{Comparison, by_steps, by_writes}
 use Rattle.bpf_diff.specs.Against.{against_text, tells_run}
+use Rattle.bpf_diff.specs.declared.texts.BothTexts.{BothTexts}
 use Rattle.input_texts.specs.TraceFaults.{bad_line}
 use Rattle.input_texts.specs.TraceForms.{form_in, told}
 use Rattle.input_texts.specs.declared.trace_form.Form.{Form}
 use Rattle.bpf_entries.specs.declared.status.Status.{Status}
 use Rattle.bpf_entries.specs.declared.status.Status.TheVariants as status
 use Rattle.bpf_isa.specs.Programs.{Checked}
+use Rattle.bpf_link.specs.declared.fault.LinkFault.{LinkFault}
+use Rattle.bpf_link.specs.declared.fault.LinkFault.TheVariants.{Memory}
 use Rattle.bpf_load.specs.Targets.{Gathers, LinksTo, Loads, contents, fields_of, object_of}
+use Rattle.bpf_load.specs.Notes.{AreNotes}
 use Rattle.bpf_load.specs.declared.loading.LinkedObject.{LinkedObject}
+use Rattle.bpf_load.specs.declared.notes.Notes.{Notes}
+use Rattle.bpf_load.specs.declared.target.Target.{Target}
 use Rattle.bpf_load.specs.declared.loading.Sources.{Sources}
 use Rattle.bpf_load.specs.declared.program.Loaded.{Loaded}
 use Rattle.bpf_load.specs.declared.target.SourceKind.{SourceKind}
 use Rattle.bpf_load.specs.declared.target.SourceKind.TheVariants.{Listing, Object, Words}
-use Rattle.bpf_lines.specs.Objects.{AreProgramLines, program_table}
+use Rattle.bpf_lines.specs.Objects.{AreProgramLines, IsProgramLinesFault, program_table}
+use Rattle.bpf_lines.specs.declared.objects.LinesFault.{LinesFault}
 use Rattle.bpf_lines.specs.declared.objects.ObjectLines.{ObjectLines}
 use Rattle.bpf_lines.specs.declared.place_names.Names.{Names}
 use Rattle.bpf_lines.specs.Lookups.{AreListingSlots}
@@ -32,7 +39,7 @@ use Rattle.bpf_steps.specs.State.{State}
 use Rattle.bpf_origin.specs.Answers.{Answer}
 use Rattle.bpf_origin.specs.Asked.{parts_asked}
 use Rattle.bpf_origin.specs.declared.what.What.{What}
-use Rattle.bpf_session.specs.Plain.{ending_of, plain_end, text_of_ending}
+use Rattle.bpf_session.specs.Plain.{ending_of, plain_end}
 use Rattle.bpf_session.specs.Points.{opening}
 use Rattle.bpf_session.specs.Runs.{Standing}
 use Rattle.bpf_session.specs.declared.plain.Ending.{Ending}
@@ -51,16 +58,24 @@ use Rattle.bpf_whynot.specs.Asked.{goals_in}
 use Rattle.bpf_whynot.specs.Reach.{TellsReach}
 use Rattle.bpf_whynot.specs.declared.fault.GoalFault.{GoalFault}
 use Rattle.bpfdb_script.specs.declared.refusal.Refusal.{Refusal}
+use Rattle.bpfdb_script.specs.SlotTexts.{SlotTexts}
 use Rattle.bpfdb_script.specs.Texts.{place}
 use Rattle.bpfdb_jobs.specs.MapLines.{linked_told}
 use Rattle.bpfdb_jobs.specs.Programs.{AreSameMaps, check_line, program_text}
 use Rattle.bpfdb_jobs.specs.Origins.{Arrival, AreNamesOf, Asks, IsTail, answer_by, arrival, followed_by, found_text, named_by, question_by, status_of_extent}
+use Rattle.bpfdb_jobs.specs.Differences.{differences}
+use Rattle.bpfdb_jobs.specs.Results.{result_text}
 use Rattle.bpfdb_jobs.specs.Sources.{both_marked, sources}
 use Rattle.bpfdb_jobs.specs.declared.job.Job.{Job}
 use Rattle.bpfdb_jobs.specs.declared.known.Known.{Known}
 use Rattle.bpfdb_options.specs.declared.options.Options.{Options}
-use Rattle.bpfdb_options.specs.declared.subcommand.Subcommand.{Subcommand}
-use Rattle.bpfdb_options.specs.declared.subcommand.Subcommand.TheVariants.{Run, Trace, Debug, Origin, Whynot, Diff, Gdb, Asm, Disasm, Lines, Check, Load, Link, Test, Batch}
+use Rattle.bpfdb_options.specs.Asks.{is_context, is_trace}
+use Rattle.bpfdb_options.specs.declared.ask.Ask.{Ask}
+use Rattle.bpfdb_options.specs.declared.ask.Ask.TheVariants.{Run, Trace, Debug, Origin, Whynot, Diff, Gdb, Asm, Disasm, Lines, Check, Load, Link, Test, Batch}
+use Rattle.bpfdb_options.specs.declared.ask.DiffAsk.{DiffAsk}
+use Rattle.bpfdb_options.specs.declared.ask.OriginAsk.{OriginAsk}
+use Rattle.bpfdb_options.specs.declared.ask.TraceAsk.{TraceAsk}
+use Rattle.bpfdb_options.specs.declared.ask.WhynotAsk.{WhynotAsk}
 
 -- What is asked of the opening, or why that is refused.
 abbrev pub opening_asked : Options → Result Opening OpeningFault
@@ -139,19 +154,19 @@ printed out = record { out = Some out; err = None; status = 0 }
 abbrev pub stopped : List ℕ → Print
 stopped line = record { out = None; err = Some line; status = 1 }
 
--- `run`: r0 of a program that exits, and else where it stopped.
-abbrev pub run_print : ℕ → Ending → State → Print
-run_print limit Exited end = printed (text_of_ending Exited end)
-run_print limit Faulted end = stopped (place end ++ codes "\n")
-run_print limit Limit end = stopped (limit_line limit end.pc)
+-- `run`: what a program came to that exits, and else where it stopped.
+abbrev pub run_print : Target → ℕ → Ending → State → Print
+run_print target limit Exited end = printed (result_text target end)
+run_print target limit Faulted end = stopped (place end ++ codes "\n")
+run_print target limit Limit end = stopped (limit_line limit end.pc)
 
 -- The state to which the program runs without history, from the machine's opening to its end or to the limit of steps.
 abbrev pub run_end : Job → Loaded → State
 run_end job loaded = plain_end job.options.limit (initial_of job loaded)
 
 -- With `--strict` it stops before the first step that would read a byte of the stack which nothing wrote since the call.
-abbrev pub unwritten_in : Job → State → Option Unwritten
-unwritten_in job x = if job.options.is_strict then unwritten_of job.options.limit x else None
+abbrev pub unwritten_in : Bool → Job → State → Option Unwritten
+unwritten_in strict job x = if strict then unwritten_of job.options.limit x else None
 
 abbrev pub run_or_stopped : Option Unwritten → Print → Print
 run_or_stopped None a = a
@@ -159,28 +174,28 @@ run_or_stopped (Some read) a = stopped (unwritten_line read)
 
 -- `trace`: the steps that are shown, with `--branches` the conditional jumps among them, or with `--profile` how often each instruction ran, and where
 -- the run ended. Its status is 1 where `run` has no result.
-abbrev pub shown_of : Job → Known → Shown
-shown_of job known = record {
-  from = job.options.from;
-  count = job.options.count;
-  only_branches = job.options.only_branches;
+abbrev pub shown_of : TraceAsk → Known → Shown
+shown_of trace known = record {
+  from = trace.from;
+  count = trace.count;
+  only_branches = trace.only_branches;
   places = known.places;
 }
 
-abbrev pub trace_out : Job → Shown → State → List ℕ
-trace_out job shown x = if job.options.is_profile then profile_text job.options.limit x else trace_text job.options.limit shown x
+abbrev pub trace_out : TraceAsk → Job → Shown → State → List ℕ
+trace_out trace job shown x = if trace.is_profile then profile_text shown.places job.options.limit x else trace_text job.options.limit shown x
 
 abbrev pub status_of_end : Status → ℕ
 status_of_end status.Exited = 0
 status_of_end _ = 1
 
-abbrev pub trace_print : Job → Shown → State → State → Print
-trace_print job shown x end = record { out = Some (trace_out job shown x); err = None; status = status_of_end end.status }
+abbrev pub trace_print : TraceAsk → Job → Shown → State → State → Print
+trace_print trace job shown x end = record { out = Some (trace_out trace job shown x); err = None; status = status_of_end end.status }
 
 -- With `--strict` it stops there, too.
-abbrev pub trace_or_stopped : Option Unwritten → Job → Shown → State → State → Print
-trace_or_stopped None job shown x end = trace_print job shown x end
-trace_or_stopped (Some read) job shown x end = record { out = Some (trace_until read shown x); err = None; status = 1 }
+abbrev pub trace_or_stopped : Option Unwritten → TraceAsk → Job → Shown → State → State → Print
+trace_or_stopped None trace job shown x end = trace_print trace job shown x end
+trace_or_stopped (Some read) trace job shown x end = record { out = Some (trace_until read shown x); err = None; status = 1 }
 
 -- `origin`: where the machine stands, and where the values came from that are asked about. Where that is, by the job; or why its script is
 -- refused.
@@ -191,41 +206,76 @@ abbrev pub named_print : Option Names → State → Answer → Print
 named_print names end answer = record (printed (named_by names (found_text end answer))) { status = status_of_extent answer.extent }
 
 -- `whynot`: where the machine stands, and why it did not come to the slots that are asked about.
-abbrev pub asked_of : Job → List ℕ
-asked_of job = name_or_empty job.options.what
+abbrev pub asked_of : WhynotAsk → List ℕ
+asked_of why = name_or_empty why.what
 
 -- They are named by that, or are those of the place of an object, or of a listing, which it names.
 abbrev pub is_listing : SourceKind → Bool
 is_listing Listing = true
 is_listing kind = false
 
-abbrev pub names_place : Job → Bool
-names_place job = is_listing job.target.kind && is_place (asked_of job)
+abbrev pub names_place : WhynotAsk → Job → Bool
+names_place why job = is_listing job.target.kind && is_place (asked_of why)
 
-abbrev pub AreNamed : Bool → Job → List ℕ → Type 0
-AreNamed true job slots = AreListingSlots job.file.now (asked_of job) slots
-AreNamed false job slots = slots ≡ asked_of job
+abbrev pub AreNamed : Bool → WhynotAsk → Job → List ℕ → Type 0
+AreNamed true why job slots = AreListingSlots job.file.now (asked_of why) slots
+AreNamed false why job slots = slots ≡ asked_of why
 
-abbrev pub AreGiven : Option (Bor (List ℕ)) → Job → List ℕ → Type 0
-AreGiven (Some goals) job slots = slots ≡ goals.now
-AreGiven None job slots = AreNamed (names_place job) job slots
+abbrev pub AreGiven : Option (Bor (List ℕ)) → WhynotAsk → Job → List ℕ → Type 0
+AreGiven (Some goals) why job slots = slots ≡ goals.now
+AreGiven None why job slots = AreNamed (names_place why job) why job slots
 
-abbrev pub AreAsked : Job → Known → List ℕ → Type 0
-AreAsked job known slots = AreGiven known.goals job slots
+abbrev pub AreAsked : WhynotAsk → Job → Known → List ℕ → Type 0
+AreAsked why job known slots = AreGiven known.goals why job slots
 
 -- The slots of a program, or why they are none.
-abbrev pub AsksGoals : Job → Known → Checked → Result (List ℕ) GoalFault → Type 0
-AsksGoals job known program goals = (slots : List ℕ) × AreAsked job known slots × (goals_in program slots ≡ goals)
+abbrev pub AsksGoals : WhynotAsk → Job → Known → Checked → Result (List ℕ) GoalFault → Type 0
+AsksGoals why job known program goals = (slots : List ℕ) × AreAsked why job known slots × (goals_in program slots ≡ goals)
 
-abbrev pub query_of : Job → Known → List ℕ → Arrival → Query
-query_of job known goals at = record {
+abbrev pub query_of : WhynotAsk → Known → List ℕ → Arrival → Query
+query_of why known goals at = record {
   goals = goals;
-  question = question_by known.places job.options at;
-  alone = job.options.alone;
+  question = question_by known.places why.scope at;
+  alone = why.alone;
 }
 
 abbrev pub whynot_print : Option Names → Query → (ℕ → List ℕ → Bool) → Arrival → Print
 whynot_print names q can at = named_print names at.point.state (why_not can q at.point.history at.point.state)
+
+-- `lines`: the table of a listing; or of the program to which an object is linked, alone or joined with others, in their order.
+abbrev pub AreLinesFor : Job → LinkedObject → List ObjectLines → Type 0
+AreLinesFor job linked all = AreProgramLines linked.sources.own.items (section_of job) (contents job.target.with.now) all
+
+abbrev pub table_by : Job → LinkedObject → List ObjectLines → List ℕ
+table_by job linked all = program_table job.target.packet linked.program.words.items all
+
+-- Where each slot stands in C, by that table, where steps or moves are told; nothing where its lines can't be read. (Where there is no memory for them, that
+-- is refused.)
+abbrev pub is_memory : LinkFault → Bool
+is_memory Memory = true
+is_memory fault = false
+
+abbrev pub LacksLines : Job → LinkedObject → Type 0
+LacksLines job linked = (why : LinesFault) × IsProgramLinesFault linked.sources.own.items (section_of job) (contents job.target.with.now) why
+    × (is_memory why.fault ≡ false)
+
+abbrev pub HasPlaces : Bool → Job → Option LinkedObject → Option (List (List ℕ)) → Type 0
+HasPlaces true job (Some linked) (Some texts) =
+    (all : List ObjectLines) × AreLinesFor job linked all × (texts ≡ places_told (length linked.program.words.items / 8) (table_by job linked all))
+HasPlaces true job (Some linked) None = LacksLines job linked
+HasPlaces tells job object texts = texts ≡ None
+
+-- Answers whose lines tell them: gdb's user asks for those of `origin` and `whynot`, too.
+abbrev pub tells_places : Ask → Bool
+tells_places (Trace trace) = true
+tells_places (Origin origin) = true
+tells_places (Whynot why) = true
+tells_places (Diff diff) = true
+tells_places (Gdb registers) = true
+tells_places ask = false
+
+abbrev pub AreTold : Job → Option LinkedObject → SlotTexts → Type 0
+AreTold job object texts = HasPlaces (tells_places job.ask) job object (option_map (λ texts. map (λ text. text.items) texts.now) texts)
 
 -- `diff`: the job of the other run, which has the bytes of the other file for its program, which is of a kind of its own, or for its context.
 abbrev pub other_bytes : Option (Bor (List ℕ)) → List ℕ
@@ -237,27 +287,28 @@ RunsOn true job other = (other.context.now ≡ other_bytes job.other) × (other 
 RunsOn false job other = (other.file.now ≡ other_bytes job.other)
     × (other ≡ record job { file = other.file; target = record job.target { kind = job.other_kind } })
 
-abbrev pub IsOtherRun : Job → Job → Type 0
-IsOtherRun job other = RunsOn job.options.other_is_context job other
+abbrev pub IsOtherRun : DiffAsk → Job → Job → Type 0
+IsOtherRun diff job other = RunsOn (is_context diff.other) job other
 
 -- Where the two runs part, with status 0 where they don't.
 abbrev pub diff_status : Bool → ℕ
 diff_status same = if same then 0 else 1
 
 -- Or where they end otherwise for one who looks from outside.
-abbrev pub comparison : Bool → ℕ → List ℕ → List ℕ → State → State → Comparison
-comparison true limit c d x y = by_writes limit c d x y
-comparison false limit c d x y = by_steps limit x y
+abbrev pub comparison : Bool → BothTexts → ℕ → List ℕ → List ℕ → State → State → Comparison
+comparison true texts limit c d x y = by_writes texts limit c d x y
+comparison false texts limit c d x y = by_steps texts limit x y
 
-abbrev pub comparison_of : Job → Job → State → State → Comparison
-comparison_of job other x y = comparison job.options.compares_writes job.options.limit job.context.now other.context.now x y
+abbrev pub comparison_of : BothTexts → DiffAsk → Job → Job → State → State → Comparison
+comparison_of texts diff job other x y = comparison diff.compares_writes texts job.options.limit job.context.now other.context.now x y
 
--- Behind it stands where the values came from that differ, with the names of places in maps, of each run by its own object.
+-- Behind it stands where the values came from that differ, with the names of places in maps. Lines of steps and moves end with where they stand in C.
+-- Both are of each run by its own object.
 abbrev pub runs_told : List ℕ → Bool → List ℕ × List ℕ → Print
 runs_told text same texts = record { out = Some (text ++ both_marked texts); err = None; status = diff_status same }
 
-abbrev pub runs_print : Option Names → Option Names → Job → Comparison → State → State → Print
-runs_print names others job told x y = runs_told told.text told.same (sources names others job.options told.values x y)
+abbrev pub runs_print : Option Names → Option Names → BothTexts → DiffAsk → Job → Comparison → State → State → Print
+runs_print names others texts diff job told x y = runs_told told.text told.same (sources names others texts diff job.options told.values x y)
 
 -- (With `--alone` no names are looked for.)
 abbrev pub AreNamesFor : Bool → Job → Option LinkedObject → Option Names → Type 0
@@ -272,14 +323,15 @@ against_print form limit x lines = record {
   status = diff_status (tells_run form limit x lines);
 }
 
-abbrev pub compared_print : Option Names → Option Names → Job → Job → State → State → Print
-compared_print names others job other x y = runs_print names others job (comparison_of job other x y) x y
+abbrev pub compared_print : Option Names → Option Names → BothTexts → DiffAsk → Job → Job → State → State → Print
+compared_print names others texts diff job other x y = runs_print names others texts diff job (comparison_of texts diff job other x y) x y
 
-abbrev pub RunsPrint : Job → Print → Type 0
-RunsPrint job a = (loaded : Loaded) × (other : Job) × (second : Loaded) × (names : Option Names) × (others : Option Names)
-    × Opens job loaded × IsOtherRun job other × Opens other second × AreSameMaps loaded second
-    × AreNamesFor job.options.alone job loaded.object names × AreNamesFor job.options.alone other second.object others
-    × (a ≡ compared_print names others job other (initial_of job loaded) (initial_of other second))
+abbrev pub RunsPrint : DiffAsk → Job → Print → Type 0
+RunsPrint diff job a = (loaded : Loaded) × (other : Job) × (second : Loaded) × (names : Option Names) × (others : Option Names) × (texts : BothTexts)
+    × Opens job loaded × IsOtherRun diff job other × Opens other second × AreSameMaps loaded second
+    × AreNamesFor diff.alone job loaded.object names × AreNamesFor diff.alone other second.object others
+    × AreTold job loaded.object texts.first × AreTold other second.object texts.second
+    × (a ≡ compared_print names others texts diff job other (initial_of job loaded) (initial_of other second))
 
 pub record AgainstPrints (job : Job) (a : Print) : Type 0 where
   pub loaded : Loaded
@@ -289,9 +341,9 @@ pub record AgainstPrints (job : Job) (a : Print) : Type 0 where
   pub clear : bad_line (other_bytes job.other) ≡ None
   pub prints : a ≡ against_print form job.options.limit (initial_of job loaded) (told (other_bytes job.other))
 
-abbrev pub DiffPrints : Bool → Job → Print → Type 0
-DiffPrints true job a = AgainstPrints job a
-DiffPrints false job a = RunsPrint job a
+abbrev pub DiffPrints : Bool → DiffAsk → Job → Print → Type 0
+DiffPrints true diff job a = AgainstPrints job a
+DiffPrints false diff job a = RunsPrint diff job a
 
 -- `link`: the words of the program, and what is told of it: the shapes of its maps, in the order of their numbers (none unless the object
 -- defines each as an array), and their names; how many calls are answered; and how many fields are left as compiled. Or with `-r` the
@@ -306,13 +358,6 @@ abbrev pub LinkPrints : Bool → Job → Print → Type 0
 LinkPrints false job a = (linked : LinkedObject) × LinksTo job.target job.file.now linked × (a ≡ link_print job linked)
 LinkPrints true job a = (sources : Sources) × Gathers job.target job.file.now sources × (a ≡ printed (object_of sources))
 
--- `lines`: the table of a listing; or of the program to which an object is linked, alone or joined with others, in their order.
-abbrev pub AreLinesFor : Job → LinkedObject → List ObjectLines → Type 0
-AreLinesFor job linked all = AreProgramLines linked.sources.own.items (section_of job) (contents job.target.with.now) all
-
-abbrev pub table_by : Job → LinkedObject → List ObjectLines → List ℕ
-table_by job linked all = program_table job.target.packet linked.program.words.items all
-
 -- (An object is linked first.)
 abbrev pub links_first : SourceKind → Bool
 links_first Object = true
@@ -323,67 +368,53 @@ IsTable true job table = (linked : LinkedObject) × (all : List ObjectLines) × 
     × (table ≡ table_by job linked all)
 IsTable false job table = IsLineTable job.file.now table
 
--- `load`: the size and the maps of a program, and then the table that `lines` has of an object or a listing; words have none.
+-- `load`: the size and the maps of a program, what of an object is other than Linux's, and then the table that `lines` has of an object or a listing; words
+-- have none.
 abbrev pub AreRows : SourceKind → Job → Option LinkedObject → List ℕ → Type 0
 AreRows Object job None rows = ⊥
-AreRows Object job (Some linked) rows = (all : List ObjectLines) × AreLinesFor job linked all × (rows ≡ table_by job linked all)
+AreRows Object job (Some linked) rows = (notes : Notes) × (all : List ObjectLines) × AreNotes job.target job.file.now job.library.now notes
+    × AreLinesFor job linked all × (rows ≡ differences notes ++ table_by job linked all)
 AreRows Listing job object rows = IsLineTable job.file.now rows
 AreRows Words job object rows = rows ≡ []
 
 -- The slots of the place of an object that is asked about, by the table of its program's words.
-abbrev pub HasPlace : Bool → Job → Option LinkedObject → Option (List ℕ) → Type 0
-HasPlace true job (Some linked) (Some goals) =
-    (all : List ObjectLines) × AreLinesFor job linked all × (goals ≡ slots_told true (table_by job linked all) (asked_of job))
-HasPlace true job (Some linked) None = ⊥
-HasPlace asks job object goals = goals ≡ None
+abbrev pub HasPlace : Option (List ℕ) → Job → Option LinkedObject → Option (List ℕ) → Type 0
+HasPlace (Some place) job (Some linked) (Some goals) =
+    (all : List ObjectLines) × AreLinesFor job linked all × (goals ≡ slots_told true (table_by job linked all) place)
+HasPlace (Some place) job (Some linked) None = ⊥
+HasPlace place job object goals = goals ≡ None
 
--- Where each slot stands in C, by that table, where moves or branches are told.
-abbrev pub HasPlaces : Bool → Job → Option LinkedObject → Option (List (List ℕ)) → Type 0
-HasPlaces true job (Some linked) (Some texts) =
-    (all : List ObjectLines) × AreLinesFor job linked all × (texts ≡ places_told (length linked.program.words.items / 8) (table_by job linked all))
-HasPlaces true job (Some linked) None = ⊥
-HasPlaces tells job object texts = texts ≡ None
+-- `whynot` may ask about a place.
+abbrev pub place_in : WhynotAsk → Option (List ℕ)
+place_in why = if is_place (asked_of why) then Some (asked_of why) else None
 
--- `whynot` may ask about a place. Its answers and those of `origin`, which gdb's user asks for too, tell moves; branches are told with `--branches`.
-abbrev pub is_whynot : Subcommand → Bool
-is_whynot Whynot = true
-is_whynot subcommand = false
-
-abbrev pub asks_place : Job → Bool
-asks_place job = is_whynot job.subcommand && is_place (asked_of job)
-
-abbrev pub tells_moves : Subcommand → Bool
-tells_moves Origin = true
-tells_moves Whynot = true
-tells_moves Gdb = true
-tells_moves subcommand = false
-
-abbrev pub tells_places : Job → Bool
-tells_places job = tells_moves job.subcommand || job.options.only_branches
+abbrev pub asked_place : Ask → Option (List ℕ)
+asked_place (Whynot why) = place_in why
+asked_place ask = None
 
 -- What is known of a program's slots.
 pub record IsKnown (job : Job) (object : Option LinkedObject) (known : Known) : Type 0 where
-  pub goals : HasPlace (asks_place job) job object (option_map (λ goals. goals.now) known.goals)
-  pub places : HasPlaces (tells_places job) job object (option_map (λ texts. map (λ text. text.items) texts.now) known.places)
+  pub goals : HasPlace (asked_place job.ask) job object (option_map (λ goals. goals.now) known.goals)
+  pub places : AreTold job object known.places
 
 -- What a subcommand prints of a job that has what it needs: one that reads no standard input. (`test` has a definition of its own.)
-abbrev pub Prints : Subcommand → Job → Print → Type 0
-Prints Run job a = (loaded : Loaded) × Opens job loaded × (a ≡ run_or_stopped (unwritten_in job (initial_of job loaded))
-    (run_print job.options.limit (ending_of (run_end job loaded).status) (run_end job loaded)))
-Prints Trace job a = (loaded : Loaded) × (known : Known) × Opens job loaded × IsKnown job loaded.object known
-    × (a ≡ trace_or_stopped (unwritten_in job (initial_of job loaded)) job (shown_of job known) (initial_of job loaded) (run_end job loaded))
+abbrev pub Prints : Ask → Job → Print → Type 0
+Prints (Run strict) job a = (loaded : Loaded) × Opens job loaded × (a ≡ run_or_stopped (unwritten_in strict job (initial_of job loaded))
+    (run_print job.target job.options.limit (ending_of (run_end job loaded).status) (run_end job loaded)))
+Prints (Trace trace) job a = (loaded : Loaded) × (known : Known) × Opens job loaded × IsKnown job loaded.object known
+    × (a ≡ trace_or_stopped (unwritten_in trace.is_strict job (initial_of job loaded)) trace job (shown_of trace known) (initial_of job loaded) (run_end job loaded))
 Prints Debug job a = ⊥
-Prints Origin job a = (loaded : Loaded) × (known : Known) × (at : Arrival) × (what : Option What) × (tail : Answer) × (names : Option Names)
-    × OpensSession job loaded × IsKnown job loaded.object known × (arrival_of job loaded ≡ Ok at) × Asks job.options.what at.point.state what
-    × IsTail job.options.only_branches (question_by known.places job.options at) (parts_asked at.point.state what) at.point tail
-    × AreNamesOf loaded.object (section_of job) job.target.packet names × (a ≡ named_print names at.point.state (followed_by (answer_by known.places job.options what at) tail))
-Prints Whynot job a = (loaded : Loaded) × (known : Known) × (at : Arrival) × (goals : List ℕ) × (can : ℕ → List ℕ → Bool) × (names : Option Names)
-    × OpensSession job loaded × IsKnown job loaded.object known × (arrival_of job loaded ≡ Ok at) × AsksGoals job known at.point.state.program (Ok goals)
+Prints (Origin origin) job a = (loaded : Loaded) × (known : Known) × (at : Arrival) × (what : Option What) × (tail : Answer) × (names : Option Names)
+    × OpensSession job loaded × IsKnown job loaded.object known × (arrival_of job loaded ≡ Ok at) × Asks origin.what at.point.state what
+    × IsTail origin.tells_branches (question_by known.places origin.scope at) (parts_asked at.point.state what) at.point tail
+    × AreNamesOf loaded.object (section_of job) job.target.packet names × (a ≡ named_print names at.point.state (followed_by (answer_by known.places origin.scope what at) tail))
+Prints (Whynot why) job a = (loaded : Loaded) × (known : Known) × (at : Arrival) × (goals : List ℕ) × (can : ℕ → List ℕ → Bool) × (names : Option Names)
+    × OpensSession job loaded × IsKnown job loaded.object known × (arrival_of job loaded ≡ Ok at) × AsksGoals why job known at.point.state.program (Ok goals)
     × TellsReach at.point.state.program goals can × AreNamesOf loaded.object (section_of job) job.target.packet names
-    × (a ≡ whynot_print names (query_of job known goals at) can at)
-Prints Diff job a = DiffPrints job.options.other_is_trace job a
-Prints Gdb job a = ⊥
-Prints Test job a = ⊥
+    × (a ≡ whynot_print names (query_of why known goals at) can at)
+Prints (Diff diff) job a = DiffPrints (is_trace diff.other) diff job a
+Prints (Gdb registers) job a = ⊥
+Prints (Test tests) job a = ⊥
 Prints Batch job a = ⊥
 Prints Asm job a = (words : List ℕ) × IsListing job.file.now words × (a ≡ printed words)
 Prints Disasm job a = (loaded : Loaded) × Loads job.target job.file.now loaded × (a ≡ printed (canon loaded.program))
@@ -391,4 +422,4 @@ Prints Lines job a = (table : List ℕ) × IsTable (links_first job.target.kind)
 Prints Check job a = (loaded : Loaded) × Loads job.target job.file.now loaded × (a ≡ printed (check_line loaded.program))
 Prints Load job a = (loaded : Loaded) × (rows : List ℕ) × Loads job.target job.file.now loaded × AreRows job.target.kind job loaded.object rows
     × (a ≡ printed (program_text loaded ++ rows))
-Prints Link job a = LinkPrints job.options.is_joined job a
+Prints (Link joined) job a = LinkPrints joined job a

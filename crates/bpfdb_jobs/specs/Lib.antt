@@ -1,5 +1,6 @@
 pub mod Cases
 pub mod Connections
+pub mod Differences
 pub mod Done
 pub mod Endings
 pub mod Hints
@@ -12,6 +13,7 @@ pub mod Objects
 pub mod Openings
 pub mod Origins
 pub mod Refusals
+pub mod Results
 pub mod Sources
 pub mod Scripts
 pub mod Shown

@@ -20,12 +20,16 @@ use Rattle.bpf_session.specs.Sessions.{SessionValue}
 use Rattle.bpf_whynot.specs.Answers.{Query, why_not}
 use Rattle.bpfdb_jobs.specs.Connections.{Begins}
 use Rattle.bpf_diff.specs.Values.{Pair, pair_of}
+use Rattle.bpf_diff.specs.declared.texts.BothTexts.{BothTexts}
 use Rattle.bpf_entries.specs.Keeping.{IsSize}
-use Rattle.bpfdb_jobs.specs.Jobs.{AreNamesFor, HasRoom, IsKnown, IsOtherRun, Opens, OpensSession, arrival_of, begun_for, comparison_of, initial_of}
+use Rattle.bpfdb_jobs.specs.Jobs.{AreNamesFor, AreTold, HasRoom, IsKnown, IsOtherRun, Opens, OpensSession, arrival_of, begun_for, comparison_of, initial_of}
 use Rattle.bpfdb_jobs.specs.Programs.{AreSameMaps}
 use Rattle.bpfdb_jobs.specs.Sources.{behind, sources}
 use Rattle.bpfdb_jobs.specs.declared.runs.ComparedRuns.{ComparedRuns}
 use Rattle.bpfdb_jobs.specs.declared.source.Sources.{Sources}
+use Rattle.bpfdb_options.specs.Asks.{is_trace}
+use Rattle.bpfdb_options.specs.declared.ask.DiffAsk.{DiffAsk}
+use Rattle.bpfdb_options.specs.declared.ask.OriginAsk.{OriginAsk}
 use Rattle.bpfdb_options.specs.declared.options.Options.{Options}
 use Rattle.bpfdb_jobs.specs.Origins.{Arrival, Asks, IsTail, followed_by, found_text, named_by, question_by}
 use Rattle.bpfdb_jobs.specs.declared.job.Job.{Job}
@@ -44,30 +48,32 @@ abbrev pub beside : Bool → Option LinkedObject → Option LinkedObject → Opt
 beside true file own = file
 beside false file own = own
 
--- Two machines stand at the openings of two runs that are compared, whose names in maps these are.
-pub record OpensRuns (job other : Job) (x y : State) (names others : Option Names) : Type 0 where
-  pub runs : job.options.other_is_trace ≡ false
+-- Two machines stand at the openings of two runs that are compared, whose names in maps these are, and whose places in C.
+pub record OpensRuns (diff : DiffAsk) (job other : Job) (x y : State) (names others : Option Names) (texts : BothTexts) : Type 0 where
+  pub runs : is_trace diff.other ≡ false
   pub first : OpensAs job x
-  pub is_other : IsOtherRun job other
+  pub is_other : IsOtherRun diff job other
   pub second : OpensAs other y
   pub maps : AreSameMaps first.0 second.0
-  pub named : AreNamesFor job.options.alone job first.0.object names
-  pub named_other : AreNamesFor job.options.alone other second.0.object others
+  pub named : AreNamesFor diff.alone job first.0.object names
+  pub named_other : AreNamesFor diff.alone other second.0.object others
+  pub told : AreTold job first.0.object texts.first
+  pub told_other : AreTold other second.0.object texts.second
 
 -- They were compared, and each machine still has its program.
-pub record AreCompared (job other : Job) (x y : State) (found : ComparedRuns) : Type 0 where
-  pub text : found.text.items ≡ (comparison_of job other x y).text
-  pub same : found.is_same ≡ (comparison_of job other x y).same
-  pub values : pair_of found.values ≡ (comparison_of job other x y).values
+pub record AreCompared (texts : BothTexts) (diff : DiffAsk) (job other : Job) (x y : State) (found : ComparedRuns) : Type 0 where
+  pub text : found.text.items ≡ (comparison_of texts diff job other x y).text
+  pub same : found.is_same ≡ (comparison_of texts diff job other x y).same
+  pub values : pair_of found.values ≡ (comparison_of texts diff job other x y).values
   pub first : found.first.program ≡ x.program
   pub second : found.second.program ≡ y.program
 
--- Of some openings, and with these names.
-pub record WereCompared (job other : Job) (names others : Option (Bor Names)) (found : ComparedRuns) : Type 0 where
+-- Of some openings, and with these names and places.
+pub record WereCompared (diff : DiffAsk) (job other : Job) (names others : Option (Bor Names)) (texts : BothTexts) (found : ComparedRuns) : Type 0 where
   pub x : State
   pub y : State
-  pub opens : OpensRuns job other x y (option_map (λ n. n.now) names) (option_map (λ n. n.now) others)
-  pub are : AreCompared job other x y found
+  pub opens : OpensRuns diff job other x y (option_map (λ n. n.now) names) (option_map (λ n. n.now) others) texts
+  pub are : AreCompared texts diff job other x y found
 
 -- A machine has run so many steps from an opening, and its journal holds the history of that.
 pub record HasRun (options : Options) (n : ℕ) (x : State) (moment : Moment RingKeeper) (moves : ℕ) : Type 0 where
@@ -77,9 +83,9 @@ pub record HasRun (options : Options) (n : ℕ) (x : State) (moment : Moment Rin
   pub counted : moves ≡ (behind options n x).moves
 
 -- What is told of the values, in memory.
-pub record AreSources (names others : Option (Bor Names)) (options : Options) (values : Option Pair) (x y : State) (found : Sources) : Type 0 where
-  pub first : found.first.items ≡ (sources (option_map (λ n. n.now) names) (option_map (λ n. n.now) others) options values x y).0
-  pub second : found.second.items ≡ (sources (option_map (λ n. n.now) names) (option_map (λ n. n.now) others) options values x y).1
+pub record AreSources (names others : Option (Bor Names)) (texts : BothTexts) (diff : DiffAsk) (options : Options) (values : Option Pair) (x y : State) (found : Sources) : Type 0 where
+  pub first : found.first.items ≡ (sources (option_map (λ n. n.now) names) (option_map (λ n. n.now) others) texts diff options values x y).0
+  pub second : found.second.items ≡ (sources (option_map (λ n. n.now) names) (option_map (λ n. n.now) others) texts diff options values x y).1
 
 -- It has the program, and stands where one of the job begins.
 pub record IsOpening (job : Job) (program : Checked) (session : SessionValue RingKeeper) : Type 0 where
@@ -105,22 +111,22 @@ pub record HasArrived (job : Job) (object : Option LinkedObject) (moment : Momen
   pub counted : moves ≡ at.moves
 
 -- The job asks about these parts of a state.
-abbrev pub AreAskedParts : Job → State → List Part → Type 0
-AreAskedParts job x parts = (what : Option What) × Asks job.options.what x what × (parts ≡ parts_asked x what)
+abbrev pub AreAskedParts : OriginAsk → State → List Part → Type 0
+AreAskedParts origin x parts = (what : Option What) × Asks origin.what x what × (parts ≡ parts_asked x what)
 
 -- It is asked there about these parts, and in this way.
-pub record IsAsked (job : Job) (object : Option LinkedObject) (moment : Moment RingKeeper) (moves : ℕ) (parts : List Part) (q : Question) : Type 0 where
+pub record IsAsked (origin : OriginAsk) (job : Job) (object : Option LinkedObject) (moment : Moment RingKeeper) (moves : ℕ) (parts : List Part) (q : Question) : Type 0 where
   pub arrived : HasArrived job object moment moves
-  pub about : AreAskedParts job moment.state parts
+  pub about : AreAskedParts origin moment.state parts
   pub known : Known
   pub is_known : IsKnown job object known
-  pub way : q ≡ question_by known.places job.options arrived.at
+  pub way : q ≡ question_by known.places origin.scope arrived.at
 
 -- And this stands behind the answer.
-pub record HasTail (job : Job) (object : Option LinkedObject) (moment : Moment RingKeeper) (moves : ℕ) (parts : List Part) (q : Question) (tail : Answer)
+pub record HasTail (origin : OriginAsk) (job : Job) (object : Option LinkedObject) (moment : Moment RingKeeper) (moves : ℕ) (parts : List Part) (q : Question) (tail : Answer)
     : Type 0 where
-  pub asked : IsAsked job object moment moves parts q
-  pub is : IsTail job.options.only_branches q parts asked.arrived.at.point tail
+  pub asked : IsAsked origin job object moment moves parts q
+  pub is : IsTail origin.tells_branches q parts asked.arrived.at.point tail
 
 -- What is written where the machine stands: the answer about these parts, and a text behind it.
 abbrev pub asked_text : Question → List Part → List Record → State → List ℕ → List ℕ

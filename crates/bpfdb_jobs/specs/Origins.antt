@@ -32,6 +32,7 @@ use Rattle.bpfdb_script.specs.Commands.{command_of}
 use Rattle.bpfdb_script.specs.Commands as commands
 use Rattle.bpfdb_script.specs.declared.command.Command.{Command}
 use Rattle.bpfdb_script.specs.declared.refusal.Refusal.{Refusal}
+use Rattle.bpfdb_options.specs.declared.ask.Scope.{Scope}
 use Rattle.bpfdb_options.specs.declared.options.Options.{Options}
 use Rattle.bpfdb_script.specs.Texts.{place}
 use Rattle.counted_io.specs.Lines.{lines}
@@ -89,17 +90,17 @@ arrival None options x = Ok (run_arrival options x)
 arrival (Some script) options x = obeyed (bounds options) (lines script.now) (record { point = opening x; moves = 0 })
 
 -- How it is asked, with what is told of slots. The oldest kept state is the opening where the journal has each move.
-abbrev pub question_by : SlotTexts → Options → Arrival → Question
-question_by places options a = record {
-  addresses = options.addresses;
-  lines = options.lines;
+abbrev pub question_by : SlotTexts → Scope → Arrival → Question
+question_by places scope a = record {
+  addresses = scope.addresses;
+  lines = scope.lines;
   opening = length a.point.history == a.moves;
   places = places;
 }
 
 -- The answer there.
-abbrev pub answer_by : SlotTexts → Options → Option What → Arrival → Answer
-answer_by places options what a = answer_about (question_by places options a) (parts_asked a.point.state what) a.point.history a.point.state
+abbrev pub answer_by : SlotTexts → Scope → Option What → Arrival → Answer
+answer_by places scope what a = answer_about (question_by places scope a) (parts_asked a.point.state what) a.point.history a.point.state
 
 -- What stands behind that: with `--branches` those branches that decided that the moves were made which the answer about these parts tells, and that the
 -- program came there; else nothing.

@@ -14,6 +14,7 @@ use Rattle.bpfdb_faults.specs.declared.fault.JobFault.TheVariants as fault
 use Rattle.bpfdb_jobs.specs.declared.job.Job.{Job}
 use Rattle.bpfdb_faults.specs.declared.refusal.JobRefusal.{JobRefusal}
 use Rattle.bpfdb_faults.specs.declared.refusal.JobRefusal.TheVariants.{Listing, ManyTests}
+use Rattle.bpfdb_options.specs.declared.ask.TestAsk.{TestAsk}
 use Rattle.bpfdb_options.specs.declared.test_part.TestPart.{TestPart}
 use Rattle.bpfdb_options.specs.declared.test_part.TestPart.TheVariants.{Program, Context, Options, Script}
 
@@ -31,24 +32,24 @@ HidesPart part test fault.Memory = ⊤
 HidesPart part test fault = ⊥
 
 -- Why a part isn't shown, besides what keeps tests from being run: more than one is asked for, or the one has no words.
-abbrev pub RefusesShown : Job → TestPart → JobRefusal → Type 0
-RefusesShown job part ManyTests = (asked : List (List Section)) × AreTestsOf job asked × (1 < length asked)
-RefusesShown job part (Listing why) =
-    (test : List Section) × AreTestsOf job (test ∷ []) × HidesPart part test (fault.Refused (Listing why))
-RefusesShown job part refusal = RefusesTests job refusal
+abbrev pub RefusesShown : TestAsk → Job → TestPart → JobRefusal → Type 0
+RefusesShown ask job part ManyTests = (asked : List (List Section)) × AreTestsOf ask job asked × (1 < length asked)
+RefusesShown ask job part (Listing why) =
+    (test : List Section) × AreTestsOf ask job (test ∷ []) × HidesPart part test (fault.Refused (Listing why))
+RefusesShown ask job part refusal = RefusesTests ask.only job refusal
 
 -- How a job of `test` ends that shows a part: it was shown; or it was refused, or memory ran out before, and nothing was written; or standard
 -- output failed, which got a beginning.
-pub data EndsShown {W E : Type 0} (part : TestPart) (job : Job) (writer : Stream W) (errors : Stream E) (status : ℕ) : Type 0 where
-  Shown : (test : List Section) (bytes : List ℕ) → AreTestsOf job (test ∷ []) → Shows part test bytes → Gets writer (Some bytes)
-      → errors.new ≡ errors.old → status ≡ 0 → EndsShown part job writer errors status
-  Refused : (refusal : JobRefusal) → RefusesShown job part refusal → writer.new ≡ writer.old → Told errors (line_of (fault.Refused refusal))
-      → status ≡ 2 → EndsShown part job writer errors status
-  Exhausted : writer.new ≡ writer.old → Told errors (line_of fault.Memory) → status ≡ 2 → EndsShown part job writer errors status
-  Lost : (test : List Section) (bytes : List ℕ) → AreTestsOf job (test ∷ []) → Shows part test bytes → Loses writer (Some bytes)
-      → Told errors (line_of fault.Output) → status ≡ 2 → EndsShown part job writer errors status
+pub data EndsShown {W E : Type 0} (part : TestPart) (ask : TestAsk) (job : Job) (writer : Stream W) (errors : Stream E) (status : ℕ) : Type 0 where
+  Shown : (test : List Section) (bytes : List ℕ) → AreTestsOf ask job (test ∷ []) → Shows part test bytes → Gets writer (Some bytes)
+      → errors.new ≡ errors.old → status ≡ 0 → EndsShown part ask job writer errors status
+  Refused : (refusal : JobRefusal) → RefusesShown ask job part refusal → writer.new ≡ writer.old → Told errors (line_of (fault.Refused refusal))
+      → status ≡ 2 → EndsShown part ask job writer errors status
+  Exhausted : writer.new ≡ writer.old → Told errors (line_of fault.Memory) → status ≡ 2 → EndsShown part ask job writer errors status
+  Lost : (test : List Section) (bytes : List ℕ) → AreTestsOf ask job (test ∷ []) → Shows part test bytes → Loses writer (Some bytes)
+      → Told errors (line_of fault.Output) → status ≡ 2 → EndsShown part ask job writer errors status
 
 -- How a job of `test` ends, by the part that is to be shown, if there is one.
-abbrev pub EndsTest : {W E : Type 0} → Option TestPart → Job → Stream W → Stream E → ℕ → Type 0
-EndsTest None job writer errors status = EndsRun job.options.is_tracefile job.options.covers job writer errors status
-EndsTest (Some part) job writer errors status = EndsShown part job writer errors status
+abbrev pub EndsTest : {W E : Type 0} → Option TestPart → TestAsk → Job → Stream W → Stream E → ℕ → Type 0
+EndsTest None ask job writer errors status = EndsRun ask.is_tracefile ask.covers ask job writer errors status
+EndsTest (Some part) ask job writer errors status = EndsShown part ask job writer errors status

@@ -9,7 +9,11 @@ use Rattle.bpf_origin.specs.Reads.{asked}
 use Rattle.bpf_origin.specs.declared.place.Part.{Part}
 use Rattle.bpf_lines.specs.declared.place_names.Names.{Names}
 use Rattle.bpf_diff.specs.Values.{Pair, Value, marked}
+use Rattle.bpf_diff.specs.declared.texts.BothTexts.{BothTexts}
+use Rattle.bpfdb_script.specs.SlotTexts.{SlotTexts}
 use Rattle.bpfdb_jobs.specs.Origins.{Arrival, found_text, named_by, question_by, run_arrival}
+use Rattle.bpfdb_options.specs.declared.ask.DiffAsk.{DiffAsk}
+use Rattle.bpfdb_options.specs.declared.ask.Scope.{Scope}
 use Rattle.bpfdb_options.specs.declared.options.Options.{Options}
 
 -- A run's first n steps.
@@ -26,25 +30,25 @@ abbrev pub told_of : List Part → List ℕ → List ℕ
 told_of [] text = []
 told_of (p ∷ parts) text = text
 
-abbrev pub source_about : Option Names → Options → List Part → Arrival → List ℕ
-source_about names options parts at = told_of parts
-    (named_by names (found_text at.point.state (answer_about (question_by None options at) parts at.point.history at.point.state)))
+abbrev pub source_about : Option Names → SlotTexts → Scope → List Part → Arrival → List ℕ
+source_about names texts scope parts at = told_of parts
+    (named_by names (found_text at.point.state (answer_about (question_by texts scope at) parts at.point.history at.point.state)))
 
-abbrev pub source_at : Option Names → Options → List Part → Arrival → List ℕ
-source_at names options parts at =
-    source_about names options (asked_at at.point.state.status parts at.point.state) at
+abbrev pub source_at : Option Names → SlotTexts → Scope → List Part → Arrival → List ℕ
+source_at names texts scope parts at =
+    source_about names texts scope (asked_at at.point.state.status parts at.point.state) at
 
 -- What is told of values of a run from x.
-abbrev pub source : Option Names → Options → State → Value → List ℕ
-source names options x v = source_at names options v.parts (behind options v.steps x)
+abbrev pub source : Option Names → SlotTexts → Scope → Options → State → Value → List ℕ
+source names texts scope options x v = source_at names texts scope v.parts (behind options v.steps x)
 
 -- Of those of two runs, unless that is left out.
-abbrev pub sources_by : Bool → Option Names → Option Names → Options → Option Pair → State → State → List ℕ × List ℕ
-sources_by false names others options (Some v) x y = (source names options x v.0, source others options y v.1)
-sources_by alone names others options v x y = ([], [])
+abbrev pub sources_by : Bool → Option Names → Option Names → BothTexts → Scope → Options → Option Pair → State → State → List ℕ × List ℕ
+sources_by false names others texts scope options (Some v) x y = (source names texts.first scope options x v.0, source others texts.second scope options y v.1)
+sources_by alone names others texts scope options v x y = ([], [])
 
-abbrev pub sources : Option Names → Option Names → Options → Option Pair → State → State → List ℕ × List ℕ
-sources names others options v x y = sources_by options.alone names others options v x y
+abbrev pub sources : Option Names → Option Names → BothTexts → DiffAsk → Options → Option Pair → State → State → List ℕ × List ℕ
+sources names others texts diff options v x y = sources_by diff.alone names others texts diff.scope options v x y
 
 -- Each line has the mark of its run.
 abbrev pub both_marked : List ℕ × List ℕ → List ℕ

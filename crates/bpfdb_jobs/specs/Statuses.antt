@@ -10,8 +10,9 @@ use Rattle.bpfdb_jobs.specs.Jobs.{OpensSession, Print, Prints}
 use Rattle.bpfdb_jobs.specs.Shown.{Shows}
 use Rattle.bpfdb_jobs.specs.Suites.{AreTestsOf, status_of}
 use Rattle.bpfdb_jobs.specs.declared.job.Job.{Job}
-use Rattle.bpfdb_options.specs.declared.subcommand.Subcommand.{Subcommand}
-use Rattle.bpfdb_options.specs.declared.subcommand.Subcommand.TheVariants.{Batch, Debug, Gdb, Test}
+use Rattle.bpfdb_options.specs.declared.ask.Ask.{Ask}
+use Rattle.bpfdb_options.specs.declared.ask.Ask.TheVariants.{Batch, Debug, Gdb, Test}
+use Rattle.bpfdb_options.specs.declared.ask.TestAsk.{TestAsk}
 use Rattle.bpfdb_options.specs.declared.test_part.TestPart.{TestPart}
 
 -- A session was opened.
@@ -23,15 +24,15 @@ abbrev pub EndsBatchWith : Job → ℕ → Type 0
 EndsBatchWith job status = (maps : List MapShape) × AreNamedMaps job.target.maps maps × (status ≡ 0)
 
 -- Tests were run, or a part of one was shown.
-abbrev pub EndsTestWith : Option TestPart → Job → ℕ → Type 0
-EndsTestWith None job status = (asked : List (List Section)) × (outcomes : List Outcome) × AreTestsOf job asked × AreOutcomes asked outcomes
+abbrev pub EndsTestWith : Option TestPart → TestAsk → Job → ℕ → Type 0
+EndsTestWith None ask job status = (asked : List (List Section)) × (outcomes : List Outcome) × AreTestsOf ask job asked × AreOutcomes asked outcomes
     × (status ≡ status_of (all_pass asked outcomes))
-EndsTestWith (Some part) job status = (test : List Section) × (bytes : List ℕ) × AreTestsOf job (test ∷ []) × Shows part test bytes × (status ≡ 0)
+EndsTestWith (Some part) ask job status = (test : List Section) × (bytes : List ℕ) × AreTestsOf ask job (test ∷ []) × Shows part test bytes × (status ≡ 0)
 
 -- Each other subcommand printed.
-abbrev pub EndsWith : Subcommand → Job → ℕ → Type 0
+abbrev pub EndsWith : Ask → Job → ℕ → Type 0
 EndsWith Debug job status = EndsSessionWith job status
-EndsWith Gdb job status = EndsSessionWith job status
+EndsWith (Gdb registers) job status = EndsSessionWith job status
 EndsWith Batch job status = EndsBatchWith job status
-EndsWith Test job status = EndsTestWith job.options.show job status
-EndsWith subcommand job status = (a : Print) × Prints subcommand job a × (status ≡ a.status)
+EndsWith (Test ask) job status = EndsTestWith ask.show ask job status
+EndsWith ask job status = (a : Print) × Prints ask job a × (status ≡ a.status)

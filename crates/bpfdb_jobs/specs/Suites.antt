@@ -21,6 +21,7 @@ use Rattle.bpfdb_jobs.specs.Refusals.{RefusesTests}
 use Rattle.bpfdb_faults.specs.declared.fault.JobFault.{JobFault}
 use Rattle.bpfdb_faults.specs.declared.fault.JobFault.TheVariants as fault
 use Rattle.bpfdb_jobs.specs.declared.job.Job.{Job}
+use Rattle.bpfdb_options.specs.declared.ask.TestAsk.{TestAsk}
 use Rattle.bpfdb_faults.specs.declared.refusal.JobRefusal.{JobRefusal}
 use Rattle.bpfdb_faults.specs.declared.refusal.JobRefusal.TheVariants.{Tests}
 
@@ -38,14 +39,14 @@ AreAsked None all asked = asked ≡ all
 AreAsked (Some name) all asked = (asked ≡ chosen name.now all) × (0 < length asked)
 
 -- The tests that are run, of a file without a fault.
-pub record AreTestsOf (job : Job) (asked : List (List Section)) : Type 0 where
+pub record AreTestsOf (ask : TestAsk) (job : Job) (asked : List (List Section)) : Type 0 where
   pub sound : file_fault job.file.now ≡ None
-  pub asked_for : AreAsked job.options.only (tests (sections job.file.now)) asked
+  pub asked_for : AreAsked ask.only (tests (sections job.file.now)) asked
 
 -- What ran of the programs, over these tests, as tables or as a tracefile.
-abbrev pub CoversTests : CoverForm → Job → List ℕ → Type 0
-CoversTests form job text = let s = sections job.file.now in
-    Covers form (until_name s) (own_named job.options.only (until_name s) (own_tests s)) text
+abbrev pub CoversTests : CoverForm → TestAsk → Job → List ℕ → Type 0
+CoversTests form ask job text = let s = sections job.file.now in
+    Covers form (until_name s) (own_named ask.only (until_name s) (own_tests s)) text
 
 -- Why the tests of a file aren't run.
 abbrev pub fault_of_file : FileFault → JobFault
@@ -60,45 +61,45 @@ fault_of_suite suite.Write = fault.Output
 -- What a report comes to: tests were run, and reported on; or their file was refused, or the name that is asked for, or memory ran out before,
 -- and nothing was written; or memory ran out at a test, or the writer failed, and what stands are the plan and the reports on the tests before, or
 -- a beginning of them.
-pub data Reports {W : Type 0} (job : Job) (writer : Stream W) (result : Result ℕ JobFault) : Type 0 where
-  Reported : (asked : List (List Section)) (outcomes : List Outcome) → AreTestsOf job asked → AreOutcomes asked outcomes
-      → Gets writer (Some (report job.name.now asked outcomes)) → result ≡ Ok (status_of (all_pass asked outcomes)) → Reports job writer result
-  Refused : (refusal : JobRefusal) → RefusesTests job refusal → writer.new ≡ writer.old → result ≡ Err (fault.Refused refusal)
-      → Reports job writer result
-  Exhausted : writer.new ≡ writer.old → result ≡ Err fault.Memory → Reports job writer result
-  BrokenOff : (why : SuiteFault) (asked : List (List Section)) → AreTestsOf job asked
+pub data Reports {W : Type 0} (ask : TestAsk) (job : Job) (writer : Stream W) (result : Result ℕ JobFault) : Type 0 where
+  Reported : (asked : List (List Section)) (outcomes : List Outcome) → AreTestsOf ask job asked → AreOutcomes asked outcomes
+      → Gets writer (Some (report job.name.now asked outcomes)) → result ≡ Ok (status_of (all_pass asked outcomes)) → Reports ask job writer result
+  Refused : (refusal : JobRefusal) → RefusesTests ask.only job refusal → writer.new ≡ writer.old → result ≡ Err (fault.Refused refusal)
+      → Reports ask job writer result
+  Exhausted : writer.new ≡ writer.old → result ≡ Err fault.Memory → Reports ask job writer result
+  BrokenOff : (why : SuiteFault) (asked : List (List Section)) → AreTestsOf ask job asked
       → BreaksOff writer.bytes why writer.old writer.new (plan (length asked)) job.name.now 1 asked → result ≡ Err (fault_of_suite why)
-      → Reports job writer result
+      → Reports ask job writer result
 
 -- How a job of `test` ends that reports: with the status of its report; or it tells why there is none, and the status is 2.
-pub data EndsTests {W E : Type 0} (job : Job) (writer : Stream W) (errors : Stream E) (status : ℕ) : Type 0 where
-  Done : (reported : ℕ) → Reports job writer (Ok reported) → errors.new ≡ errors.old → status ≡ reported → EndsTests job writer errors status
-  Undone : (why : JobFault) → Reports job writer (Err why) → Told errors (line_of why) → status ≡ 2 → EndsTests job writer errors status
+pub data EndsTests {W E : Type 0} (ask : TestAsk) (job : Job) (writer : Stream W) (errors : Stream E) (status : ℕ) : Type 0 where
+  Done : (reported : ℕ) → Reports ask job writer (Ok reported) → errors.new ≡ errors.old → status ≡ reported → EndsTests ask job writer errors status
+  Undone : (why : JobFault) → Reports ask job writer (Err why) → Told errors (line_of why) → status ≡ 2 → EndsTests ask job writer errors status
 
 -- How a job ends that reported on tests, with this status, and then tells what ran: that was written; or memory ran out, and no more was written;
 -- or standard output failed, which got a beginning.
-pub data EndsTold {W E : Type 0} (form : CoverForm) (job : Job) (reported : ℕ) (writer : Stream W) (errors : Stream E) (status : ℕ) : Type 0 where
-  Covered : (text : List ℕ) → CoversTests form job text → Gets writer (Some text) → errors.new ≡ errors.old → status ≡ reported
-      → EndsTold form job reported writer errors status
-  Unfound : writer.new ≡ writer.old → Told errors (line_of fault.Memory) → status ≡ 2 → EndsTold form job reported writer errors status
-  Lost : (text : List ℕ) → CoversTests form job text → Loses writer (Some text) → Told errors (line_of fault.Output) → status ≡ 2
-      → EndsTold form job reported writer errors status
+pub data EndsTold {W E : Type 0} (form : CoverForm) (ask : TestAsk) (job : Job) (reported : ℕ) (writer : Stream W) (errors : Stream E) (status : ℕ) : Type 0 where
+  Covered : (text : List ℕ) → CoversTests form ask job text → Gets writer (Some text) → errors.new ≡ errors.old → status ≡ reported
+      → EndsTold form ask job reported writer errors status
+  Unfound : writer.new ≡ writer.old → Told errors (line_of fault.Memory) → status ≡ 2 → EndsTold form ask job reported writer errors status
+  Lost : (text : List ℕ) → CoversTests form ask job text → Loses writer (Some text) → Told errors (line_of fault.Output) → status ≡ 2
+      → EndsTold form ask job reported writer errors status
 
 -- How a job of `test` ends that tells in tables what ran: they stand behind the report.
-pub data EndsCovered {W E : Type 0} (job : Job) (writer : Stream W) (errors : Stream E) (status : ℕ) : Type 0 where
-  Behind : (middle : Tally W) (reported : ℕ) → Reports job (record writer { new = middle }) (Ok reported)
-      → EndsTold Tables job reported (record writer { old = middle }) errors status → EndsCovered job writer errors status
-  Uncovered : (why : JobFault) → Reports job writer (Err why) → Told errors (line_of why) → status ≡ 2 → EndsCovered job writer errors status
+pub data EndsCovered {W E : Type 0} (ask : TestAsk) (job : Job) (writer : Stream W) (errors : Stream E) (status : ℕ) : Type 0 where
+  Behind : (middle : Tally W) (reported : ℕ) → Reports ask job (record writer { new = middle }) (Ok reported)
+      → EndsTold Tables ask job reported (record writer { old = middle }) errors status → EndsCovered ask job writer errors status
+  Uncovered : (why : JobFault) → Reports ask job writer (Err why) → Told errors (line_of why) → status ≡ 2 → EndsCovered ask job writer errors status
 
 -- How one ends that tells it as a tracefile over the file of this name: that is all of standard output, and the report stands on standard error.
-pub data EndsTraced {W E : Type 0} (job : Job) (writer : Stream W) (errors : Stream E) (status : ℕ) : Type 0 where
-  Beside : (file : Bor (List ℕ)) (middle : Tally E) (reported : ℕ) → file.now ≡ job.name.now → Reports job (record errors { new = middle }) (Ok reported)
-      → EndsTold (Tracefile file) job reported writer (record errors { old = middle }) status → EndsTraced job writer errors status
-  Untraced : (why : JobFault) (middle : Tally E) → Reports job (record errors { new = middle }) (Err why)
-      → Told (record errors { old = middle }) (line_of why) → writer.new ≡ writer.old → status ≡ 2 → EndsTraced job writer errors status
+pub data EndsTraced {W E : Type 0} (ask : TestAsk) (job : Job) (writer : Stream W) (errors : Stream E) (status : ℕ) : Type 0 where
+  Beside : (file : Bor (List ℕ)) (middle : Tally E) (reported : ℕ) → file.now ≡ job.name.now → Reports ask job (record errors { new = middle }) (Ok reported)
+      → EndsTold (Tracefile file) ask job reported writer (record errors { old = middle }) status → EndsTraced ask job writer errors status
+  Untraced : (why : JobFault) (middle : Tally E) → Reports ask job (record errors { new = middle }) (Err why)
+      → Told (record errors { old = middle }) (line_of why) → writer.new ≡ writer.old → status ≡ 2 → EndsTraced ask job writer errors status
 
 -- By the options: a tracefile, or tables, or neither.
-abbrev pub EndsRun : {W E : Type 0} → Bool → Bool → Job → Stream W → Stream E → ℕ → Type 0
-EndsRun true covers job writer errors status = EndsTraced job writer errors status
-EndsRun false true job writer errors status = EndsCovered job writer errors status
-EndsRun false false job writer errors status = EndsTests job writer errors status
+abbrev pub EndsRun : {W E : Type 0} → Bool → Bool → TestAsk → Job → Stream W → Stream E → ℕ → Type 0
+EndsRun true covers ask job writer errors status = EndsTraced ask job writer errors status
+EndsRun false true ask job writer errors status = EndsCovered ask job writer errors status
+EndsRun false false ask job writer errors status = EndsTests ask job writer errors status

@@ -3,7 +3,8 @@ ghost use Rattle.std.specs.Prelude.{◌≡◌, ◌≤◌, true};
 ghost use Rattle.bpf_load.specs.Targets.{Loads};
 ghost use Rattle.bpfdb_faults.specs.Streams.{stream};
 ghost use Rattle.bpfdb_jobs.specs.Endings.{EndsPrinted};
-ghost use Rattle.bpfdb_options.specs.declared.subcommand.Subcommand.TheVariants.{Diff};
+ghost use Rattle.bpfdb_options.specs.Asks.{is_trace};
+ghost use Rattle.bpfdb_options.specs.declared.ask.Ask.TheVariants.{Diff};
 
 use crate::diff::{bytes_of, end_of};
 use crate::job::Job;
@@ -11,6 +12,7 @@ use crate::opening::machine_of;
 use bpf_diff::put_against;
 use bpf_load::Loaded;
 use bpfdb_faults::{JobFault, JobRefusal, flush_after, give_up};
+use bpfdb_options::DiffAsk;
 use counted_io::Counted;
 use input_texts::form_of_trace;
 use std::alloc::Global;
@@ -19,14 +21,15 @@ use std::io::Write;
 /// Runs a program along a trace, and tells the first step that it tells otherwise.
 pub fn against_job<W: Write, E: Write>(
     alloc: Global,
+    diff: &DiffAsk,
     job: &Job<'_>,
     loaded: Loaded,
     writer: &mut Counted<W>,
     errors: &mut Counted<E>,
 ) -> u8
-    requires trace { job.now.options.other_is_trace ≡ true }
+    requires trace { is_trace diff.now.other ≡ true }
     requires loaded { Loads job.now.target job.now.file.now loaded }
-    ensures does { EndsPrinted Diff job.now (stream W.contents writer.old writer.new)
+    ensures does { EndsPrinted (Diff diff.now) job.now (stream W.contents writer.old writer.new)
         (stream E.contents errors.old errors.new) result }
     ensures status { result ≤ 2 }
 {

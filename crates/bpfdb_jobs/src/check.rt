@@ -4,7 +4,7 @@ ghost use Rattle.bpf_load.specs.Targets.{Loads};
 ghost use Rattle.counted_io.specs.Writing.{Writes};
 ghost use Rattle.bpfdb_jobs.specs.Endings.{EndsPrinted};
 ghost use Rattle.bpfdb_jobs.specs.Programs.{check_line};
-ghost use Rattle.bpfdb_options.specs.declared.subcommand.Subcommand.TheVariants.{Check};
+ghost use Rattle.bpfdb_options.specs.declared.ask.Ask.TheVariants.{Check};
 ghost use Rattle.bpfdb_faults.specs.Streams.{stream};
 
 use crate::job::Job;

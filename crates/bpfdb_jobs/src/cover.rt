@@ -7,6 +7,7 @@ use crate::job::Job;
 use crate::suite::report_on;
 use bpf_suite::{CoverForm, Suite};
 use bpfdb_faults::{JobFault, give_up, write_out};
+use bpfdb_options::TestAsk;
 use counted_io::{Counted, WriteFault};
 use std::alloc::{AllocError, Global};
 use std::io::Write;
@@ -14,16 +15,25 @@ use std::io::Write;
 /// Reports on the tests of a file, or on those of a name, and tells behind it what ran.
 pub fn cover_job<W: Write, E: Write>(
     alloc: Global,
+    ask: &TestAsk<'_>,
     job: &Job<'_>,
     writer: &mut Counted<W>,
     errors: &mut Counted<E>,
 ) -> u8
-    ensures does { EndsCovered job.now (stream W.contents writer.old writer.new)
+    ensures does { EndsCovered ask.now job.now (stream W.contents writer.old writer.new)
         (stream E.contents errors.old errors.new) result }
     ensures status { result ≤ 2 }
 {
-    match report_on(alloc, job, writer) {
-        Ok(reported) => tell_cover(alloc, job, &CoverForm::Tables, reported, writer, errors),
+    match report_on(alloc, ask, job, writer) {
+        Ok(reported) => tell_cover(
+            alloc,
+            ask,
+            job,
+            &CoverForm::Tables,
+            reported,
+            writer,
+            errors,
+        ),
         Err(why) => give_up(errors, &why),
     }
 }
@@ -32,18 +42,19 @@ pub fn cover_job<W: Write, E: Write>(
 /// tracefile.
 pub fn tracefile_job<W: Write, E: Write>(
     alloc: Global,
+    ask: &TestAsk<'_>,
     job: &Job<'_>,
     writer: &mut Counted<W>,
     errors: &mut Counted<E>,
 ) -> u8
-    ensures does { EndsTraced job.now (stream W.contents writer.old writer.new)
+    ensures does { EndsTraced ask.now job.now (stream W.contents writer.old writer.new)
         (stream E.contents errors.old errors.new) result }
     ensures status { result ≤ 2 }
 {
-    match report_on(alloc, job, errors) {
+    match report_on(alloc, ask, job, errors) {
         Ok(reported) => {
             let form = CoverForm::Tracefile(job.name.as_bytes());
-            tell_cover(alloc, job, &form, reported, writer, errors)
+            tell_cover(alloc, ask, job, &form, reported, writer, errors)
         }
         Err(why) => give_up(errors, &why),
     }
@@ -52,6 +63,7 @@ pub fn tracefile_job<W: Write, E: Write>(
 /// Tells what ran of the programs of tests, which were reported on with this status.
 fn tell_cover<W: Write, E: Write>(
     alloc: Global,
+    ask: &TestAsk<'_>,
     job: &Job<'_>,
     form: &CoverForm<'_>,
     reported: u8,
@@ -59,11 +71,11 @@ fn tell_cover<W: Write, E: Write>(
     errors: &mut Counted<E>,
 ) -> u8
     requires { reported ≤ 2 }
-    ensures does { EndsTold form.now job.now reported (stream W.contents writer.old writer.new)
+    ensures does { EndsTold form.now ask.now job.now reported (stream W.contents writer.old writer.new)
         (stream E.contents errors.old errors.new) result }
     ensures status { result ≤ 2 }
 {
-    let text = match cover_of(alloc, job, form) {
+    let text = match cover_of(alloc, ask, job, form) {
         Ok(text) => text,
         Err(_) => return give_up(errors, &JobFault::Memory),
     };
@@ -74,11 +86,16 @@ fn tell_cover<W: Write, E: Write>(
 }
 
 /// What ran of the programs of tests. (The file was read before: it has no fault.)
-fn cover_of(alloc: Global, job: &Job<'_>, form: &CoverForm<'_>) -> Result<Vec<u8>, AllocError>
-    ensures { IfOk result (λ text. CoversTests form.now job.now text.items) }
+fn cover_of(
+    alloc: Global,
+    ask: &TestAsk<'_>,
+    job: &Job<'_>,
+    form: &CoverForm<'_>,
+) -> Result<Vec<u8>, AllocError>
+    ensures { IfOk result (λ text. CoversTests form.now ask.now job.now text.items) }
 {
     match Suite::read(alloc, job.file) {
-        Ok(suite) => suite.cover(alloc, job.options.only, form),
+        Ok(suite) => suite.cover(alloc, ask.only, form),
         Err(_) => Err(AllocError),
     }
 }

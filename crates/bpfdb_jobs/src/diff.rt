@@ -1,31 +1,34 @@
 //! What a job of `diff` does.
 ghost use Rattle.std.specs.Borrow.{Bor};
-ghost use Rattle.std.specs.Prelude.{◌≡◌, ◌≤◌, ℕ, IfErr, IfOk, IsOk, List, OnErr, OnOk, false};
+ghost use Rattle.std.specs.Prelude.{◌≡◌, ◌≤◌, ℕ, IfErr, IfOk, IsOk, List, None, OnErr, OnOk, Some, false, map, option_map, true};
 ghost use Rattle.bpf_link.specs.Names.{fault_names};
 ghost use Rattle.bpf_load.specs.Faults.{IsTargetFault};
 ghost use Rattle.bpf_load.specs.Targets.{IsObjectOf, Loads, lent, loaded_of};
 ghost use Rattle.bpfdb_jobs.specs.Endings.{EndsPrinted};
-ghost use Rattle.bpfdb_jobs.specs.Jobs.{AreNamesFor, IsOtherRun, Prints, diff_status, opening_asked, other_bytes, runs_told, section_of};
+ghost use Rattle.bpfdb_jobs.specs.Jobs.{AreNamesFor, AreTold, HasPlaces, IsKnown, IsOtherRun, Prints, diff_status, is_memory, opening_asked, other_bytes, runs_told, section_of, tells_places};
 ghost use Rattle.bpfdb_jobs.specs.Openings.{OpensOf, WereCompared, beside};
 ghost use Rattle.bpfdb_jobs.specs.Origins.{LacksNames};
 ghost use Rattle.bpfdb_jobs.specs.Programs.{AreSameMaps};
-ghost use Rattle.bpfdb_jobs.specs.Refusals.{IsOtherFault, TellsOther};
+ghost use Rattle.bpf_load.specs.declared.loading.LinkedObject.{LinkedObject as Linked};
+ghost use Rattle.bpfdb_jobs.specs.Refusals.{IsOtherFault, LacksPlaces, TellsOther};
 ghost use Rattle.bpfdb_faults.specs.declared.fault.JobFault.TheVariants.{Refused};
 ghost use Rattle.bpfdb_faults.specs.declared.refusal.JobRefusal.{JobRefusal as WhyRefused};
 ghost use Rattle.bpfdb_faults.specs.declared.refusal.JobRefusal.TheVariants.{OtherObject};
 ghost use Rattle.bpfdb_faults.specs.Faults.{line_of, output_line};
 ghost use Rattle.bpfdb_faults.specs.Streams.{Told, stream};
-ghost use Rattle.bpfdb_options.specs.declared.subcommand.Subcommand.TheVariants.{Diff};
+ghost use Rattle.bpfdb_options.specs.Asks.{is_context, is_trace};
+ghost use Rattle.bpfdb_options.specs.declared.ask.Ask.TheVariants.{Diff};
 
 use crate::against::against_job;
 use crate::job::Job;
+use crate::known::{Known, Places, is_memory, nowhere, places_of};
 use crate::object::refuse;
 use crate::opening::{machine_of, opening_for};
 use crate::origin::{bytes_of as object_bytes, names_of};
 use crate::other_map::other_map;
 use crate::runs::{ComparedRuns, compare};
 use crate::source::{AskedRun, Sources, sources_of};
-use bpf_diff::put_marked;
+use bpf_diff::{BothTexts, put_marked};
 use bpf_lines::Names;
 use bpf_link::{LinkFault, fault_names};
 use bpf_load::{LinkedObject, Loaded, ObjectFault, Target, TargetFault, load, load_again};
@@ -33,6 +36,8 @@ use bpf_machine::Cpu;
 use bpf_opening::open;
 use bpf_suite::Refusal;
 use bpfdb_faults::{JobFault, JobRefusal, flush_after, give_up};
+use bpfdb_options::DiffAsk;
+use bpfdb_script::SlotTexts;
 use counted_io::{Counted, WriteFault, put};
 use std::alloc::{AllocError, Global};
 use std::io::Write;
@@ -51,28 +56,33 @@ pub enum OtherFault<'a> {
 /// otherwise.
 pub fn diff_job<W: Write, E: Write>(
     alloc: Global,
+    diff: &DiffAsk,
     job: &Job<'_>,
     loaded: Loaded,
+    known: Known<'_>,
     writer: &mut Counted<W>,
     errors: &mut Counted<E>,
 ) -> u8
     requires loaded { Loads job.now.target job.now.file.now loaded }
-    ensures does { EndsPrinted Diff job.now (stream W.contents writer.old writer.new)
+    requires known { IsKnown job.now loaded.object known }
+    ensures does { EndsPrinted (Diff diff.now) job.now (stream W.contents writer.old writer.new)
         (stream E.contents errors.old errors.new) result }
     ensures status { result ≤ 2 }
 {
-    if job.options.other_is_trace {
-        against_job(alloc, job, loaded, writer, errors)
+    if diff.other.is_trace() {
+        against_job(alloc, diff, job, loaded, writer, errors)
     } else {
-        runs_job(alloc, job, loaded, writer, errors)
+        runs_job(alloc, diff, job, loaded, known.places, writer, errors)
     }
 }
 
-/// A machine of a run that is compared, and the object that its program comes from.
+/// A machine of a run that is compared, the object that its program comes from, and where its slots
+/// stand in C.
 #[derive(Drop)]
 pub(crate) struct Side<'a> {
     pub(crate) cpu: Cpu,
     pub(crate) object: Option<&'a LinkedObject>,
+    pub(crate) places: SlotTexts<'a>,
 }
 
 /// The machine of the other run, and the object of its own that its program comes from, if there is
@@ -86,14 +96,17 @@ struct OtherMachine {
 /// Runs two programs, or one on two contexts, and tells where they part, or what they leave.
 fn runs_job<W: Write, E: Write>(
     alloc: Global,
+    diff: &DiffAsk,
     job: &Job<'_>,
     loaded: Loaded,
+    places: SlotTexts<'_>,
     writer: &mut Counted<W>,
     errors: &mut Counted<E>,
 ) -> u8
-    requires runs { job.now.options.other_is_trace ≡ false }
+    requires runs { is_trace diff.now.other ≡ false }
     requires loaded { Loads job.now.target job.now.file.now loaded }
-    ensures does { EndsPrinted Diff job.now (stream W.contents writer.old writer.new)
+    requires places { AreTold job.now loaded.object places }
+    ensures does { EndsPrinted (Diff diff.now) job.now (stream W.contents writer.old writer.new)
         (stream E.contents errors.old errors.new) result }
     ensures status { result ≤ 2 }
 {
@@ -103,8 +116,8 @@ fn runs_job<W: Write, E: Write>(
         Ok(cpu) => cpu,
         Err(refusal) => return give_up(errors, &JobFault::Refused(refusal)),
     };
-    let other = other_run(job);
-    let machine = match other_machine(alloc, job, &other, file) {
+    let other = other_run(diff, job);
+    let machine = match other_machine(alloc, diff, job, &other, file) {
         Ok(machine) => machine,
         Err(fault) => return refuse_other(&fault, errors),
     };
@@ -112,37 +125,86 @@ fn runs_job<W: Write, E: Write>(
         cpu: second,
         object: own,
     } = machine;
-    let beside = object_beside(job, file, own.as_ref());
+    let beside = object_beside(diff, file, own.as_ref());
+    let others = match other_places(alloc, &other, beside) {
+        Ok(places) => places,
+        Err(fault) => return refuse_other(&OtherFault::Object(fault), errors),
+    };
     let one = Side {
         cpu: first,
         object: file,
+        places,
     };
     let another = Side {
         cpu: second,
         object: beside,
+        places: others.known().places,
     };
-    sides_job(alloc, job, &other, one, another, writer, errors)
+    sides_job(alloc, diff, job, &other, one, another, writer, errors)
+}
+
+/// Where the slots of the other run stand in C; nothing where its lines can't be read.
+fn other_places(
+    alloc: Global,
+    other: &Job<'_>,
+    object: Option<&LinkedObject>,
+) -> Result<Places, ObjectFault<'static>>
+    ensures ok { IfOk result (λ places. HasPlaces (tells_places other.now.ask) other.now (lent object.entry)
+        (option_map (λ texts. map (λ text. text.items) texts.items) places.texts)) }
+    ensures err { IfErr result (λ it. (linked : Linked) × (lent object.entry ≡ Some linked)
+        × LacksPlaces other.now linked it × (is_memory it.fault ≡ true)) }
+{
+    match object {
+        Some(object) => places_in(alloc, other, object),
+        None => Ok(nowhere()),
+    }
+}
+
+/// Where the slots of a program stand that comes from an object.
+fn places_in(
+    alloc: Global,
+    other: &Job<'_>,
+    object: &LinkedObject,
+) -> Result<Places, ObjectFault<'static>>
+    ensures ok { IfOk result (λ places. HasPlaces (tells_places other.now.ask) other.now (Some object.now)
+        (option_map (λ texts. map (λ text. text.items) texts.items) places.texts)) }
+    ensures err { IfErr result (λ it. LacksPlaces other.now object.now it
+        × (is_memory it.fault ≡ true)) }
+{
+    match places_of(alloc, other, object) {
+        Ok(places) => Ok(places),
+        Err(fault) => without_lines(fault),
+    }
+}
+
+/// Nothing is known of the slots of a program whose lines can't be read, unless memory ran out for them.
+fn without_lines(fault: ObjectFault<'static>) -> Result<Places, ObjectFault<'static>>
+    ensures ok { IfOk result (λ places. (places.texts ≡ None) × (is_memory fault.entry.fault ≡ false)) }
+    ensures err { IfErr result (λ it. (it ≡ fault.entry) × (is_memory fault.entry.fault ≡ true)) }
+{
+    if is_memory(&fault.fault) {
+        Err(fault)
+    } else {
+        Ok(nowhere())
+    }
 }
 
 /// The object of the other run: that of FILE on another context.
 fn object_beside<'a>(
-    job: &Job<'_>,
+    diff: &DiffAsk,
     file: Option<&'a LinkedObject>,
     own: Option<&'a LinkedObject>,
 ) -> Option<&'a LinkedObject>
-    ensures { lent result ≡ beside job.now.options.other_is_context (lent file.entry) (lent own.entry) }
+    ensures { lent result ≡ beside (is_context diff.now.other) (lent file.entry) (lent own.entry) }
 {
-    if job.options.other_is_context {
-        file
-    } else {
-        own
-    }
+    if diff.other.is_context() { file } else { own }
 }
 
 /// Runs two machines, and tells where they part, or what they leave, unless a map is another one in the
 /// other program.
 fn sides_job<W: Write, E: Write>(
     alloc: Global,
+    diff: &DiffAsk,
     job: &Job<'_>,
     other: &Job<'_>,
     first: Side<'_>,
@@ -150,22 +212,25 @@ fn sides_job<W: Write, E: Write>(
     writer: &mut Counted<W>,
     errors: &mut Counted<E>,
 ) -> u8
-    requires runs { (job.now.options.other_is_trace ≡ false) × IsOtherRun job.now other.now }
+    requires runs { (is_trace diff.now.other ≡ false) × IsOtherRun diff.now job.now other.now }
     requires first { OpensOf job.now (lent first.object) first.cpu }
     requires second { OpensOf other.now (lent second.object) second.cpu }
-    ensures does { EndsPrinted Diff job.now (stream W.contents writer.old writer.new)
+    requires told { AreTold job.now (lent first.object) first.places
+        × AreTold other.now (lent second.object) second.places }
+    ensures does { EndsPrinted (Diff diff.now) job.now (stream W.contents writer.old writer.new)
         (stream E.contents errors.old errors.new) result }
     ensures status { result ≤ 2 }
 {
     match other_map(&first, &second) {
         Some(number) => give_up(errors, &JobFault::Refused(JobRefusal::OtherMap(number))),
-        None => alike_job(alloc, job, other, first, second, writer, errors),
+        None => alike_job(alloc, diff, job, other, first, second, writer, errors),
     }
 }
 
 /// Runs two machines that have the same maps, and tells where they part, or what they leave.
 fn alike_job<W: Write, E: Write>(
     alloc: Global,
+    diff: &DiffAsk,
     job: &Job<'_>,
     other: &Job<'_>,
     first: Side<'_>,
@@ -173,27 +238,33 @@ fn alike_job<W: Write, E: Write>(
     writer: &mut Counted<W>,
     errors: &mut Counted<E>,
 ) -> u8
-    requires runs { (job.now.options.other_is_trace ≡ false) × IsOtherRun job.now other.now }
+    requires runs { (is_trace diff.now.other ≡ false) × IsOtherRun diff.now job.now other.now }
     requires opened { OpensOf job.now (lent first.object) first.cpu
         × OpensOf other.now (lent second.object) second.cpu }
+    requires told { AreTold job.now (lent first.object) first.places
+        × AreTold other.now (lent second.object) second.places }
     requires maps { AreSameMaps (loaded_of first.cpu.program (lent first.object))
         (loaded_of second.cpu.program (lent second.object)) }
-    ensures does { EndsPrinted Diff job.now (stream W.contents writer.old writer.new)
+    ensures does { EndsPrinted (Diff diff.now) job.now (stream W.contents writer.old writer.new)
         (stream E.contents errors.old errors.new) result }
     ensures status { result ≤ 2 }
 {
-    let names = match names_for(alloc, job, first.object) {
+    let names = match names_for(alloc, diff, job, first.object) {
         Ok(names) => names,
         Err(why) => return refuse(job, object_bytes(first.object), errors, why),
     };
-    let others = match names_for(alloc, other, second.object) {
+    let others = match names_for(alloc, diff, other, second.object) {
         Ok(names) => names,
         Err(why) => return refuse_names(other, object_bytes(second.object), errors, why),
     };
-    match compare(alloc, job, other, first.cpu, second.cpu) {
+    let texts = BothTexts {
+        first: first.places,
+        second: second.places,
+    };
+    match compare(alloc, diff, job, other, texts, first.cpu, second.cpu) {
         Ok(runs) => {
             let known = (names.as_ref(), others.as_ref());
-            tell_runs(alloc, job, other, known, runs, writer, errors)
+            tell_runs(alloc, diff, job, other, known, texts, runs, writer, errors)
         }
         Err(AllocError) => give_up(errors, &JobFault::Memory),
     }
@@ -225,14 +296,15 @@ fn refuse_names<E: Write>(
 /// about.
 fn names_for<'a>(
     alloc: Global,
+    diff: &DiffAsk,
     job: &Job<'_>,
     object: Option<&'a LinkedObject>,
 ) -> Result<Option<Names<'a>>, LinkFault>
-    ensures ok { IfOk result (AreNamesFor job.now.options.alone job.now (lent object.entry)) }
-    ensures err { IfErr result (λ fault. (job.now.options.alone ≡ false)
+    ensures ok { IfOk result (AreNamesFor diff.now.alone job.now (lent object.entry)) }
+    ensures err { IfErr result (λ fault. (diff.now.alone ≡ false)
         × LacksNames (lent object.entry) (section_of job.now) fault) }
 {
-    if job.options.alone {
+    if diff.alone {
         Ok(None)
     } else {
         names_of(alloc, job, object)
@@ -243,15 +315,17 @@ fn names_for<'a>(
 /// differ.
 fn tell_runs<W: Write, E: Write>(
     alloc: Global,
+    diff: &DiffAsk,
     job: &Job<'_>,
     other: &Job<'_>,
     names: (Option<&Names<'_>>, Option<&Names<'_>>),
+    texts: BothTexts<'_>,
     runs: ComparedRuns,
     writer: &mut Counted<W>,
     errors: &mut Counted<E>,
 ) -> u8
-    requires { WereCompared job.now other.now names.0 names.1 runs }
-    ensures does { EndsPrinted Diff job.now (stream W.contents writer.old writer.new)
+    requires { WereCompared diff.now job.now other.now names.0 names.1 texts runs }
+    ensures does { EndsPrinted (Diff diff.now) job.now (stream W.contents writer.old writer.new)
         (stream E.contents errors.old errors.new) result }
     ensures status { result ≤ 2 }
 {
@@ -266,16 +340,18 @@ fn tell_runs<W: Write, E: Write>(
         cpu: first,
         context: job.context,
         names: names.0,
+        places: texts.first,
     };
     let another = AskedRun {
         cpu: second,
         context: other.context,
         names: names.1,
+        places: texts.second,
     };
-    match sources_of(alloc, job, values, one, another) {
+    match sources_of(alloc, diff, job, values, one, another) {
         Ok(sources) => {
             let told = text.as_slice();
-            put_runs(job, told, is_same, &sources, writer, errors)
+            put_runs(diff, job, told, is_same, &sources, writer, errors)
         }
         Err(fault) => give_up(errors, &JobFault::Refused(JobRefusal::Journal(fault))),
     }
@@ -283,6 +359,7 @@ fn tell_runs<W: Write, E: Write>(
 
 /// Writes what is told of two runs, and of the values in which they differ.
 fn put_runs<W: Write, E: Write>(
+    diff: &DiffAsk,
     job: &Job<'_>,
     text: &[u8],
     is_same: bool,
@@ -290,9 +367,9 @@ fn put_runs<W: Write, E: Write>(
     writer: &mut Counted<W>,
     errors: &mut Counted<E>,
 ) -> u8
-    requires { Prints Diff job.now
+    requires { Prints (Diff diff.now) job.now
         (runs_told text.now is_same (sources.now.first.items, sources.now.second.items)) }
-    ensures does { EndsPrinted Diff job.now (stream W.contents writer.old writer.new)
+    ensures does { EndsPrinted (Diff diff.now) job.now (stream W.contents writer.old writer.new)
         (stream E.contents errors.old errors.new) result }
     ensures status { result ≤ 2 }
 {
@@ -333,18 +410,19 @@ fn status_of(is_same: bool) -> u8
 /// The machine of the other run, which is this job's, before its first step.
 fn other_machine<'a>(
     alloc: Global,
+    diff: &DiffAsk,
     job: &Job<'_>,
     other: &Job<'a>,
     object: Option<&LinkedObject>,
 ) -> Result<OtherMachine, OtherFault<'a>>
-    requires other { IsOtherRun job.now other.now }
+    requires other { IsOtherRun diff.now job.now other.now }
     requires asked { IsOk (opening_asked other.now.options) }
     requires object { IsObjectOf job.now.target.kind job.now.target job.now.file.now (lent object) }
     ensures ok { IfOk result (λ machine. OpensOf other.now
-        (beside job.now.options.other_is_context (lent object.entry) machine.object) machine.cpu) }
+        (beside (is_context diff.now.other) (lent object.entry) machine.object) machine.cpu) }
     ensures err { IfErr result (IsOtherFault other.now) }
 {
-    let Loaded { program, object } = match other_program(alloc, job, other, object) {
+    let Loaded { program, object } = match other_program(alloc, diff, job, other, object) {
         Ok(loaded) => loaded,
         Err(fault) => return Err(unloaded(other, fault)),
     };
@@ -358,17 +436,18 @@ fn other_machine<'a>(
 /// of its own, or that of the other file.
 fn other_program<'a>(
     alloc: Global,
+    diff: &DiffAsk,
     job: &Job<'_>,
     other: &Job<'a>,
     object: Option<&LinkedObject>,
 ) -> Result<Loaded, TargetFault<'a>>
-    requires other { IsOtherRun job.now other.now }
+    requires other { IsOtherRun diff.now job.now other.now }
     requires object { IsObjectOf job.now.target.kind job.now.target job.now.file.now (lent object) }
     ensures ok { IfOk result (λ loaded. Loads other.now.target other.now.file.now
-        (loaded_of loaded.program (beside job.now.options.other_is_context (lent object.entry) loaded.object))) }
+        (loaded_of loaded.program (beside (is_context diff.now.other) (lent object.entry) loaded.object))) }
     ensures err { IfErr result (IsTargetFault other.now.target other.now.file.now) }
 {
-    if !job.options.other_is_context {
+    if !diff.other.is_context() {
         return load(alloc, other.file, &other.target);
     }
     match load_again(alloc, other.file, &other.target, object) {
@@ -412,11 +491,11 @@ fn refuse_other<E: Write>(fault: &OtherFault<'_>, errors: &mut Counted<E>) -> u8
 }
 
 /// The job of the other run.
-fn other_run<'a>(job: &Job<'a>) -> Job<'a>
-    ensures { IsOtherRun job.now result }
+fn other_run<'a>(diff: &DiffAsk, job: &Job<'a>) -> Job<'a>
+    ensures { IsOtherRun diff.now job.now result }
 {
     let bytes = bytes_of(job);
-    if job.options.other_is_context {
+    if diff.other.is_context() {
         Job {
             context: bytes,
             ..*job

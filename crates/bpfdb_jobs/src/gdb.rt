@@ -28,6 +28,7 @@ use std::io::{Read, Write};
 #[inline(never)]
 pub fn gdb_job<R: Read, W: Write, E: Write>(
     alloc: Global,
+    registers: Registers,
     job: &Job<'_>,
     loaded: Loaded,
     known: Known<'_>,
@@ -37,13 +38,14 @@ pub fn gdb_job<R: Read, W: Write, E: Write>(
 ) -> u8
     requires limit { IsLimit job.now.options.limit }
     requires known { IsKnown job.now loaded.object known }
-    ensures does { ServesGdb job.now loaded (stream R.remaining reader.old reader.new)
+    ensures does { ServesGdb registers job.now loaded (stream R.remaining reader.old reader.new)
         (stream W.contents writer.old writer.new) (stream E.contents errors.old errors.new) result }
     ensures status { result ≤ 2 }
 {
     let Loaded { program, object } = loaded;
     serve_program(
         alloc,
+        registers,
         job,
         program,
         object.as_ref(),
@@ -57,6 +59,7 @@ pub fn gdb_job<R: Read, W: Write, E: Write>(
 /// Serves gdb over a program, which comes from this object, if it comes from one.
 fn serve_program<R: Read, W: Write, E: Write>(
     alloc: Global,
+    registers: Registers,
     job: &Job<'_>,
     program: Program,
     object: Option<&LinkedObject>,
@@ -67,7 +70,7 @@ fn serve_program<R: Read, W: Write, E: Write>(
 ) -> u8
     requires limit { IsLimit job.now.options.limit }
     requires known { IsKnown job.now (lent object) known }
-    ensures does { ServesGdb job.now (loaded_of program (lent object.entry)) (stream R.remaining reader.old reader.new)
+    ensures does { ServesGdb registers job.now (loaded_of program (lent object.entry)) (stream R.remaining reader.old reader.new)
         (stream W.contents writer.old writer.new) (stream E.contents errors.old errors.new) result }
     ensures status { result ≤ 2 }
 {
@@ -81,7 +84,7 @@ fn serve_program<R: Read, W: Write, E: Write>(
     };
     let names = known_names(alloc, job, object);
     let gdb = Target {
-        layout: layout_of(job.options.registers),
+        layout: layout_of(registers),
         names: names.as_ref(),
         places: known.places,
     };

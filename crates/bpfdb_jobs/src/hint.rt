@@ -61,7 +61,7 @@ pub fn add_hint<E: Write>(
 fn hint_of(alloc: Global, job: &Job<'_>) -> Option<Hint>
     ensures { IsHintOf job.now result }
 {
-    if !is_check(job.subcommand) {
+    if !is_check(&job.ask) {
         return None;
     }
     match job.target.kind {
@@ -73,7 +73,7 @@ fn hint_of(alloc: Global, job: &Job<'_>) -> Option<Hint>
 
 /// The hint of a job over words.
 fn hint_of_words(alloc: Global, job: &Job<'_>) -> Option<Hint>
-    requires checks { is_check job.now.subcommand ≡ true }
+    requires checks { is_check job.now.ask ≡ true }
     requires words { job.now.target.kind ≡ kind.Words }
     ensures { IsHintOf job.now result }
 {
@@ -85,7 +85,7 @@ fn hint_of_words(alloc: Global, job: &Job<'_>) -> Option<Hint>
 
 /// The hint of a job over a listing.
 fn hint_of_listing(alloc: Global, job: &Job<'_>) -> Option<Hint>
-    requires checks { is_check job.now.subcommand ≡ true }
+    requires checks { is_check job.now.ask ≡ true }
     requires listing { job.now.target.kind ≡ kind.Listing }
     ensures { IsHintOf job.now result }
 {

@@ -1,11 +1,11 @@
 //! What `tool` is given to do.
 use bpf_load::{SourceKind, Target};
-use bpfdb_options::{Options, Subcommand};
+use bpfdb_options::{Ask, Options};
 
-/// A subcommand, with the bytes of its files and its options.
+/// What is asked, with the bytes of the files.
 #[derive(Clone, Copy)]
 pub struct Job<'a> {
-    pub subcommand: Subcommand,
+    pub ask: Ask<'a>,
     /// FILE, as the command line names it.
     pub name: &'a str,
     /// FILE's bytes: the program's raw little-endian words, its listing, or an object that holds
@@ -21,5 +21,7 @@ pub struct Job<'a> {
     pub other_kind: SourceKind,
     /// What FILE is, and which program runs.
     pub target: Target<'a>,
+    /// Linux's library, where it was joined by itself; else nothing.
+    pub library: &'a [u8],
     pub options: Options<'a>,
 }

@@ -1,11 +1,11 @@
 //! What is known of the slots of a program that was linked: where they stand in C.
-ghost use Rattle.std.specs.Prelude.{◌≡◌, All, IfErr, IfOk, None, Some, map, option_map, true};
+ghost use Rattle.std.specs.Prelude.{◌≡◌, All, IfErr, IfOk, None, OnOk, Some, map, option_map, true};
 ghost use Rattle.bpf_lines.specs.Objects.{HasPartLines};
 ghost use Rattle.bpf_link.specs.Names.{fault_names};
 ghost use Rattle.bpf_link.specs.declared.fault.LinkFault.TheVariants.{Memory};
 ghost use Rattle.bpf_load.specs.Faults.{Tells};
-ghost use Rattle.bpfdb_jobs.specs.Jobs.{AreLinesFor, asks_place, is_whynot, tells_moves, tells_places};
-ghost use Rattle.bpfdb_jobs.specs.Objects.{ArePlaces, is_check};
+ghost use Rattle.bpfdb_jobs.specs.Jobs.{AreLinesFor, asked_place, is_memory, place_in, tells_places};
+ghost use Rattle.bpfdb_jobs.specs.Objects.{ArePlaces, HasLines, is_check};
 ghost use Rattle.bpfdb_jobs.specs.Refusals.{LacksPlaces, lines_names};
 
 use crate::job::Job;
@@ -13,14 +13,14 @@ use crate::whynot::asked;
 use bpf_lines::{LinesFault, ObjectLines, is_place, program_lines, program_places, program_slots};
 use bpf_link::{LinkFault, fault_names};
 use bpf_load::{LinkedObject, ObjectFault, in_object};
-use bpfdb_options::Subcommand;
+use bpfdb_options::{Ask, WhynotAsk};
 use bpfdb_script::SlotTexts;
 use std::alloc::Global;
 
 /// What is known of a program's slots.
 #[derive(Clone, Copy)]
 pub struct Known<'a> {
-    /// Where each stands in C, where that is told: it ends the lines of moves and branches.
+    /// Where each stands in C, where that is told: it ends the lines of steps and moves.
     pub places: SlotTexts<'a>,
     /// Those of the place of an object which `whynot` asks about, where it is one: numbers with commas
     /// between. Without them what the options ask about counts.
@@ -55,66 +55,75 @@ impl Places {
     }
 }
 
-/// Whether a subcommand checks FILE as a program.
-pub fn is_check(subcommand: Subcommand) -> bool
-    ensures { result ≡ is_check subcommand }
+/// Whether it is asked about the program of FILE, which is loaded.
+pub fn is_check(ask: &Ask<'_>) -> bool
+    ensures { result ≡ is_check ask.now }
 {
-    match subcommand {
-        Subcommand::Asm => false,
-        Subcommand::Lines => false,
-        Subcommand::Link => false,
-        Subcommand::Test => false,
-        Subcommand::Batch => false,
+    match ask {
+        Ask::Asm => false,
+        Ask::Lines => false,
+        Ask::Link { .. } => false,
+        Ask::Test(_) => false,
+        Ask::Batch => false,
         _ => true,
     }
 }
 
-/// Whether `whynot` asks about a place of its object.
-fn asks_place(job: &Job<'_>) -> bool
-    ensures { result ≡ asks_place job.now }
+/// The place of an object which is asked about, if it is one.
+pub fn asked_place<'a>(ask: &Ask<'a>) -> Option<&'a [u8]>
+    ensures { option_map (λ place. place.now) result ≡ asked_place ask.now }
 {
-    is_whynot(job.subcommand) && is_place(asked(job).as_bytes())
+    match ask {
+        Ask::Whynot(why) => place_in(why),
+        _ => None,
+    }
 }
 
-/// Whether a subcommand is `whynot`.
-fn is_whynot(subcommand: Subcommand) -> bool
-    ensures { result ≡ is_whynot subcommand }
+/// The place which `whynot` asks about, if it is one.
+fn place_in<'a>(why: &WhynotAsk<'a>) -> Option<&'a [u8]>
+    ensures { option_map (λ place. place.now) result ≡ place_in why.now }
 {
-    match subcommand {
-        Subcommand::Whynot => true,
+    let what = asked(why).as_bytes();
+    if is_place(what) { Some(what) } else { None }
+}
+
+/// Whether a fault is want of memory.
+pub fn is_memory(fault: &LinkFault) -> bool
+    ensures { result ≡ is_memory fault.now }
+{
+    match fault {
+        LinkFault::Memory => true,
         _ => false,
     }
 }
 
-/// Whether a subcommand tells moves.
-fn tells_moves(subcommand: Subcommand) -> bool
-    ensures { result ≡ tells_moves subcommand }
+/// Whether the lines of an answer tell where slots stand in C.
+fn tells_places(ask: &Ask<'_>) -> bool
+    ensures { result ≡ tells_places ask.now }
 {
-    match subcommand {
-        Subcommand::Origin | Subcommand::Whynot | Subcommand::Gdb => true,
+    match ask {
+        Ask::Trace(_) => true,
+        Ask::Origin(_) => true,
+        Ask::Whynot(_) => true,
+        Ask::Diff(_) => true,
+        Ask::Gdb(_) => true,
         _ => false,
     }
-}
-
-/// Whether a job tells where slots stand in C.
-fn tells_places(job: &Job<'_>) -> bool
-    ensures { result ≡ tells_places job.now }
-{
-    tells_moves(job.subcommand) || job.options.only_branches
 }
 
 /// What is known of the slots of a job's program, which comes from an object: where they stand, if the
-/// job tells moves or branches, and those of the place that it asks about, if it asks about one.
+/// job tells steps or moves, and those of the place that it asks about, if it asks about one.
 pub fn places_of(
     alloc: Global,
     job: &Job<'_>,
     object: &LinkedObject,
 ) -> Result<Places, ObjectFault<'static>>
     ensures ok { IfOk result (ArePlaces job.now (Some object.now)) }
-    ensures err { IfErr result (λ it. (tells_places job.now ≡ true)
+    ensures lines { OnOk result (HasLines job.now (Some object.now) (tells_places job.now.ask)) }
+    ensures err { IfErr result (λ it. (tells_places job.now.ask ≡ true)
         × LacksPlaces job.now object.now it) }
 {
-    if !tells_places(job) {
+    if !tells_places(&job.ask) {
         return Ok(nowhere());
     }
     let own = object.sources.own.as_slice();
@@ -143,7 +152,7 @@ fn places_in(
     lines: &[ObjectLines<'_>],
 ) -> Result<Places, ObjectFault<'static>>
     requires lines { AreLinesFor job.now object.now lines.now × All HasPartLines lines.now }
-    requires tells { tells_places job.now ≡ true }
+    requires tells { tells_places job.now.ask ≡ true }
     ensures ok { IfOk result (ArePlaces job.now (Some object.now)) }
     ensures err { IfErr result (LacksPlaces job.now object.now) }
 {
@@ -152,13 +161,12 @@ fn places_in(
         Ok(texts) => texts,
         Err(_) => return Err(want_of_memory(job, object)),
     };
-    if !asks_place(job) {
+    let Some(what) = asked_place(&job.ask) else {
         return Ok(Places {
             texts: Some(texts),
             goals: None,
         });
-    }
-    let what = asked(job).as_bytes();
+    };
     match program_slots(alloc, lines, job.target.packet, words, what) {
         Ok(goals) => Ok(Places {
             texts: Some(texts),

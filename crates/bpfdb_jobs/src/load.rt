@@ -4,19 +4,21 @@ ghost use Rattle.bpf_lines.specs.Objects.{HasPartLines, program_table};
 ghost use Rattle.bpf_load.specs.Targets.{Loads, lent};
 ghost use Rattle.counted_io.specs.Writing.{Writes, WritesAfter};
 ghost use Rattle.bpfdb_faults.specs.Streams.{stream};
+ghost use Rattle.bpfdb_jobs.specs.Differences.{differences};
 ghost use Rattle.bpfdb_jobs.specs.Endings.{EndsPrinted};
 ghost use Rattle.bpfdb_jobs.specs.Jobs.{Prints, printed};
 ghost use Rattle.bpfdb_jobs.specs.Programs.{behind_address, map_row, map_rows, name_in, program_text, row_of};
-ghost use Rattle.bpfdb_options.specs.declared.subcommand.Subcommand.TheVariants.{Load};
+ghost use Rattle.bpfdb_options.specs.declared.ask.Ask.TheVariants.{Load};
 
 use crate::check::put_size;
+use crate::differences::put_differences;
 use crate::job::Job;
 use crate::known::lines_fault;
 use crate::object::refuse_object;
 use bpf_isa::MapShape;
 use bpf_lines::{ObjectLines, program_lines, write_table};
 use bpf_link::short_at;
-use bpf_load::{LinkedObject, Loaded, SourceKind};
+use bpf_load::{LinkedObject, Loaded, Notes, SourceKind, notes_of};
 use bpf_steps::platform::{MAP_BASE, MAP_STRIDE};
 use bpf_text::line_table;
 use bpfdb_faults::{JobFault, JobRefusal, ended, flush_after, give_up};
@@ -25,7 +27,8 @@ use counted_io::{Counted, Piece, WriteFault, put, put_all};
 use std::alloc::Global;
 use std::io::Write;
 
-/// Writes the size of a program, its maps, and where its slots stand, and runs nothing.
+/// Writes the size of a program, its maps, what of it is other than Linux's, and where its slots stand,
+/// and runs nothing.
 pub fn load_job<W: Write, E: Write>(
     alloc: Global,
     job: &Job<'_>,
@@ -60,10 +63,11 @@ fn tell_object<W: Write, E: Write>(
     ensures status { result ≤ 2 }
 {
     let own = object.sources.own.as_slice();
+    let notes = notes_of(alloc, job.file, &job.target, job.library);
     match program_lines(alloc, own, job.target.section, job.target.with) {
         Ok(all) => {
             let words = object.program.words.as_slice();
-            let written = write_object(writer, job, loaded, words, all.as_slice());
+            let written = write_object(writer, job, loaded, &notes, words, all.as_slice());
             let flushed = flush_after(writer, written);
             ended(flushed, errors)
         }
@@ -71,19 +75,21 @@ fn tell_object<W: Write, E: Write>(
     }
 }
 
-/// Writes the program of an object, and the table of its slots.
+/// Writes the program of an object, what of it is other than Linux's, and the table of its slots.
 fn write_object<W: Write>(
     writer: &mut Counted<W>,
     job: &Job<'_>,
     loaded: &Loaded,
+    notes: &Notes<'_>,
     words: &[u8],
     all: &[ObjectLines<'_>],
 ) -> Result<(), WriteFault>
     requires { All HasPartLines all.now }
-    ensures { Writes W.contents writer.old writer.new result
-        (program_text loaded.now ++ program_table job.now.target.packet words.now all.now) }
+    ensures { Writes W.contents writer.old writer.new result (program_text loaded.now
+        ++ (differences notes.now ++ program_table job.now.target.packet words.now all.now)) }
 {
-    match write_program(writer, loaded) {
+    let begun = write_program(writer, loaded);
+    match put_differences(writer, begun, notes) {
         Ok(()) => write_table(writer, job.target.packet, words, all),
         Err(fault) => Err(fault),
     }

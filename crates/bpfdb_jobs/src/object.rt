@@ -9,7 +9,7 @@ ghost use Rattle.bpfdb_faults.specs.Faults.{line_of};
 ghost use Rattle.bpfdb_jobs.specs.Jobs.{answered_if, fields_if};
 ghost use Rattle.bpfdb_jobs.specs.Refusals.{TellsFault, TellsTarget};
 ghost use Rattle.bpfdb_faults.specs.declared.refusal.JobRefusal.{JobRefusal as WhyRefused};
-ghost use Rattle.bpfdb_options.specs.declared.subcommand.Subcommand.TheVariants.{Link};
+ghost use Rattle.bpfdb_options.specs.declared.ask.Ask.TheVariants.{Link};
 
 use crate::job::Job;
 use crate::maps::tell_linked;
@@ -25,15 +25,16 @@ use std::io::Write;
 /// Where it is asked for the object that would be linked, writes that.
 pub fn link_job<W: Write, E: Write>(
     alloc: Global,
+    is_joined: bool,
     job: &Job<'_>,
     writer: &mut Counted<W>,
     errors: &mut Counted<E>,
 ) -> u8
-    ensures does { EndsPrinted Link job.now (stream W.contents writer.old writer.new)
+    ensures does { EndsPrinted (Link is_joined) job.now (stream W.contents writer.old writer.new)
         (stream E.contents errors.old errors.new) result }
     ensures status { result ≤ 2 }
 {
-    if job.options.is_joined {
+    if is_joined {
         return put_object(alloc, job, writer, errors);
     }
     match link_object(alloc, job.file, &job.target) {
@@ -49,8 +50,7 @@ fn put_object<W: Write, E: Write>(
     writer: &mut Counted<W>,
     errors: &mut Counted<E>,
 ) -> u8
-    requires { job.now.options.is_joined ≡ true }
-    ensures does { EndsPrinted Link job.now (stream W.contents writer.old writer.new)
+    ensures does { EndsPrinted (Link true) job.now (stream W.contents writer.old writer.new)
         (stream E.contents errors.old errors.new) result }
     ensures status { result ≤ 2 }
 {
@@ -70,9 +70,8 @@ fn put_program<W: Write, E: Write>(
     writer: &mut Counted<W>,
     errors: &mut Counted<E>,
 ) -> u8
-    requires words { job.now.options.is_joined ≡ false }
-    requires object { LinksTo job.now.target job.now.file.now object.now }
-    ensures does { EndsPrinted Link job.now (stream W.contents writer.old writer.new)
+    requires { LinksTo job.now.target job.now.file.now object.now }
+    ensures does { EndsPrinted (Link false) job.now (stream W.contents writer.old writer.new)
         (stream E.contents errors.old errors.new) result }
     ensures status { result ≤ 2 }
 {

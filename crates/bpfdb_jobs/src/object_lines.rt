@@ -4,7 +4,7 @@ ghost use Rattle.bpf_load.specs.Targets.{LinksTo};
 ghost use Rattle.bpfdb_faults.specs.Streams.{stream};
 ghost use Rattle.bpfdb_jobs.specs.Endings.{EndsPrinted};
 ghost use Rattle.bpfdb_jobs.specs.Jobs.{links_first};
-ghost use Rattle.bpfdb_options.specs.declared.subcommand.Subcommand.TheVariants.{Lines};
+ghost use Rattle.bpfdb_options.specs.declared.ask.Ask.TheVariants.{Lines};
 
 use crate::job::Job;
 use crate::known::lines_fault;

@@ -11,7 +11,7 @@ ghost use Rattle.bpfdb_jobs.specs.Openings.{AreAskedParts, HasArrived, HasTail, 
 ghost use Rattle.bpfdb_jobs.specs.Origins.{AreNamesOf, LacksNames, RefusesWhat, both_extents, bytes_of, status_of_extent};
 ghost use Rattle.bpfdb_jobs.specs.Refusals.{RefusesArrival};
 ghost use Rattle.bpfdb_limits.specs.Limits.{IsLimit};
-ghost use Rattle.bpfdb_options.specs.declared.subcommand.Subcommand.TheVariants.{Origin};
+ghost use Rattle.bpfdb_options.specs.declared.ask.Ask.TheVariants.{Origin};
 ghost use Rattle.bpfdb_faults.specs.Streams.{stream};
 
 use crate::job::Job;
@@ -30,6 +30,7 @@ use bpf_origin::{
 use bpf_session::run_kept;
 use bpf_whynot::{Found, find_branches};
 use bpfdb_faults::{JobFault, JobRefusal, flush_after, give_up};
+use bpfdb_options::{OriginAsk, Scope};
 use bpfdb_script::{SlotTexts, write_place};
 use counted_io::{Counted, WriteFault, put};
 use std::alloc::{AllocError, Global};
@@ -70,6 +71,7 @@ pub(crate) struct FoundText {
 /// where the machine stands then and where the values came from that are asked about.
 pub fn origin_job<W: Write, E: Write>(
     alloc: Global,
+    origin: &OriginAsk<'_>,
     job: &Job<'_>,
     loaded: Loaded,
     known: Known<'_>,
@@ -79,7 +81,7 @@ pub fn origin_job<W: Write, E: Write>(
     requires limit { IsLimit job.now.options.limit }
     requires loaded { Loads job.now.target job.now.file.now loaded }
     requires known { IsKnown job.now loaded.object known }
-    ensures does { EndsPrinted Origin job.now (stream W.contents writer.old writer.new)
+    ensures does { EndsPrinted (Origin origin.now) job.now (stream W.contents writer.old writer.new)
         (stream E.contents errors.old errors.new) result }
     ensures status { result ≤ 2 }
 {
@@ -87,12 +89,22 @@ pub fn origin_job<W: Write, E: Write>(
         Ok(reached) => reached,
         Err(refusal) => return give_up(errors, &JobFault::Refused(refusal)),
     };
-    ask(alloc, job, object.as_ref(), known, arrived, writer, errors)
+    ask(
+        alloc,
+        origin,
+        job,
+        object.as_ref(),
+        known,
+        arrived,
+        writer,
+        errors,
+    )
 }
 
 /// Finds what is asked about, and asks.
 fn ask<W: Write, E: Write>(
     alloc: Global,
+    origin: &OriginAsk<'_>,
     job: &Job<'_>,
     object: Option<&LinkedObject>,
     known: Known<'_>,
@@ -102,18 +114,19 @@ fn ask<W: Write, E: Write>(
 ) -> u8
     requires arrived { HasArrived job.now (lent object) arrived.timeline arrived.moves }
     requires known { IsKnown job.now (lent object) known }
-    ensures does { EndsPrinted Origin job.now (stream W.contents writer.old writer.new)
+    ensures does { EndsPrinted (Origin origin.now) job.now (stream W.contents writer.old writer.new)
         (stream E.contents errors.old errors.new) result }
     ensures status { result ≤ 2 }
 {
-    let parts = match parts_of(job, arrived.timeline.cpu()) {
+    let parts = match parts_of(origin, arrived.timeline.cpu()) {
         Ok(parts) => parts,
         Err(fault) => return give_up(errors, &JobFault::Refused(JobRefusal::What(fault))),
     };
-    let question = question_of(job, &arrived, known.places);
-    if job.options.only_branches {
+    let question = question_of(&origin.scope, &arrived, known.places);
+    if origin.tells_branches {
         ask_branches(
             alloc,
+            origin,
             job,
             object,
             arrived,
@@ -129,6 +142,7 @@ fn ask<W: Write, E: Write>(
         };
         tell(
             alloc,
+            origin,
             job,
             object,
             arrived,
@@ -144,6 +158,7 @@ fn ask<W: Write, E: Write>(
 /// Finds the branches that are asked for, and tells them behind the answer about these parts.
 fn ask_branches<W: Write, E: Write>(
     alloc: Global,
+    origin: &OriginAsk<'_>,
     job: &Job<'_>,
     object: Option<&LinkedObject>,
     arrived: Arrived,
@@ -152,10 +167,10 @@ fn ask_branches<W: Write, E: Write>(
     writer: &mut Counted<W>,
     errors: &mut Counted<E>,
 ) -> u8
-    requires asked { IsAsked job.now (lent object) arrived.timeline arrived.moves parts.now
+    requires asked { IsAsked origin.now job.now (lent object) arrived.timeline arrived.moves parts.now
         question }
-    requires branches { job.now.options.only_branches ≡ true }
-    ensures does { EndsPrinted Origin job.now (stream W.contents writer.old writer.new)
+    requires branches { origin.now.tells_branches ≡ true }
+    ensures does { EndsPrinted (Origin origin.now) job.now (stream W.contents writer.old writer.new)
         (stream E.contents errors.old errors.new) result }
     ensures status { result ≤ 2 }
 {
@@ -181,7 +196,7 @@ fn ask_branches<W: Write, E: Write>(
                 extent,
             };
             tell(
-                alloc, job, object, arrived, parts, question, tail, writer, errors,
+                alloc, origin, job, object, arrived, parts, question, tail, writer, errors,
             )
         }
         Err(_) => give_up(
@@ -193,22 +208,22 @@ fn ask_branches<W: Write, E: Write>(
 
 /// How it is asked, with what is told of slots.
 pub(crate) fn question_of<'a>(
-    job: &Job<'_>,
+    scope: &Scope,
     arrived: &Arrived,
     places: SlotTexts<'a>,
 ) -> Question<'a>
     ensures { (h : List Record) →
         StandsFor RingHolds arrived.now.timeline.keeper arrived.now.timeline.state h →
         result ≡ record {
-          addresses = job.now.options.addresses;
-          lines = job.now.options.lines;
+          addresses = scope.now.addresses;
+          lines = scope.now.lines;
           opening = length h == arrived.now.moves;
           places = places.entry;
         } }
 {
     Question {
-        addresses: job.options.addresses,
-        lines: job.options.lines,
+        addresses: scope.addresses,
+        lines: scope.lines,
         opening: arrived.timeline.len() as u64 == arrived.moves,
         places,
     }
@@ -303,6 +318,7 @@ fn arrive_at_end(
 /// asked.
 fn tell<W: Write, E: Write>(
     alloc: Global,
+    origin: &OriginAsk<'_>,
     job: &Job<'_>,
     object: Option<&LinkedObject>,
     arrived: Arrived,
@@ -312,9 +328,9 @@ fn tell<W: Write, E: Write>(
     writer: &mut Counted<W>,
     errors: &mut Counted<E>,
 ) -> u8
-    requires { HasTail job.now (lent object) arrived.timeline arrived.moves parts.now question
+    requires { HasTail origin.now job.now (lent object) arrived.timeline arrived.moves parts.now question
         (record { text = tail.text.now; extent = tail.extent }) }
-    ensures does { EndsPrinted Origin job.now (stream W.contents writer.old writer.new)
+    ensures does { EndsPrinted (Origin origin.now) job.now (stream W.contents writer.old writer.new)
         (stream E.contents errors.old errors.new) result }
     ensures status { result ≤ 2 }
 {
@@ -383,11 +399,11 @@ pub(crate) fn bytes_of(object: Option<&LinkedObject>) -> &[u8]
 }
 
 /// What is asked about of a machine.
-fn parts_of(job: &Job<'_>, cpu: &Cpu) -> Result<Parts, WhatFault>
-    ensures ok { IfOk result (λ parts. AreAskedParts job.now cpu.now parts.items) }
-    ensures err { IfErr result (RefusesWhat job.now.options.what cpu.now) }
+fn parts_of(origin: &OriginAsk<'_>, cpu: &Cpu) -> Result<Parts, WhatFault>
+    ensures ok { IfOk result (λ parts. AreAskedParts origin.now cpu.now parts.items) }
+    ensures err { IfErr result (RefusesWhat origin.now.what cpu.now) }
 {
-    match job.options.what {
+    match origin.what {
         Some(text) => match What::find(text.as_bytes(), cpu) {
             Ok(what) => Ok(parts_asked(cpu, Some(what))),
             Err(fault) => Err(fault),

@@ -7,8 +7,9 @@ ghost use Rattle.counted_io.specs.Writing.{WritesAfter};
 
 use crate::job::Job;
 use crate::opening::opening_for;
-use bpf_diff::{Compared, Start, Values, put_diff, put_writes};
+use bpf_diff::{BothTexts, Compared, Start, Values, put_diff, put_writes};
 use bpf_machine::Cpu;
+use bpfdb_options::DiffAsk;
 use counted_io::{Counted, WriteFault};
 use std::alloc::{AllocError, Global};
 use std::io::Write;
@@ -30,22 +31,26 @@ pub(crate) struct ComparedRuns {
 /// Runs two machines, and compares them as the job asks.
 pub(crate) fn compare(
     alloc: Global,
+    diff: &DiffAsk,
     job: &Job<'_>,
     other: &Job<'_>,
+    texts: BothTexts<'_>,
     first: Cpu,
     second: Cpu,
 ) -> Result<ComparedRuns, AllocError>
     requires first { OpensAs job.now first }
     requires second { OpensAs other.now second }
-    ensures { IfOk result (AreCompared job.now other.now first second) }
+    ensures { IfOk result (AreCompared texts.entry diff.now job.now other.now first second) }
 {
     let mut writer = Counted::new(Vec::new(alloc));
     let mut one = first;
     let mut another = second;
     let compared = match put_compared(
         alloc,
+        diff,
         job,
         other,
+        texts,
         &mut writer,
         Ok(()),
         &mut one,
@@ -69,8 +74,10 @@ pub(crate) fn compare(
 /// Writes what is told of two machines that are run: of their steps, or of what they leave.
 fn put_compared<W: Write>(
     alloc: Global,
+    diff: &DiffAsk,
     job: &Job<'_>,
     other: &Job<'_>,
+    texts: BothTexts<'_>,
     writer: &mut Counted<W>,
     so_far: Result<(), WriteFault>,
     first: &mut Cpu,
@@ -79,14 +86,14 @@ fn put_compared<W: Write>(
     requires first { OpensAs job.now first.old }
     requires second { OpensAs other.now second.old }
     ensures text { IfOk result (λ compared. WritesAfter W.contents writer.old so_far writer.new
-        compared.written (comparison_of job.now other.now first.old second.old).text) }
+        compared.written (comparison_of texts.entry diff.now job.now other.now first.old second.old).text) }
     ensures finds { IfOk result (λ compared.
-        Finds compared (comparison_of job.now other.now first.old second.old)) }
+        Finds compared (comparison_of texts.entry diff.now job.now other.now first.old second.old)) }
     ensures programs { IfOk result (λ compared. (first.new.program ≡ first.old.program)
         × (second.new.program ≡ second.old.program)) }
 {
     let limit = job.options.limit;
-    if job.options.compares_writes {
+    if diff.compares_writes {
         let one = opening_for(&job.options);
         let another = opening_for(&other.options);
         let start = Start {
@@ -101,6 +108,7 @@ fn put_compared<W: Write>(
             alloc,
             writer,
             so_far,
+            texts,
             first,
             second,
             &start,
@@ -108,6 +116,6 @@ fn put_compared<W: Write>(
             limit,
         )
     } else {
-        Ok(put_diff(writer, so_far, first, second, limit))
+        Ok(put_diff(writer, so_far, texts, first, second, limit))
     }
 }

@@ -9,7 +9,7 @@ use crate::job::Job;
 use crate::suite::{asked_tests, refuse};
 use bpf_suite::{Suite, Test, TestList, WordsFault};
 use bpfdb_faults::{JobFault, JobRefusal, ended, give_up, write_out};
-use bpfdb_options::TestPart;
+use bpfdb_options::{TestAsk, TestPart};
 use counted_io::Counted;
 use std::alloc::Global;
 use std::io::Write;
@@ -17,12 +17,13 @@ use std::io::Write;
 /// Shows a part of the one test that is asked for.
 pub fn show_job<W: Write, E: Write>(
     alloc: Global,
+    ask: &TestAsk<'_>,
     job: &Job<'_>,
     part: TestPart,
     writer: &mut Counted<W>,
     errors: &mut Counted<E>,
 ) -> u8
-    ensures does { EndsShown part job.now (stream W.contents writer.old writer.new)
+    ensures does { EndsShown part ask.now job.now (stream W.contents writer.old writer.new)
         (stream E.contents errors.old errors.new) result }
     ensures status { result ≤ 2 }
 {
@@ -34,12 +35,12 @@ pub fn show_job<W: Write, E: Write>(
         Ok(tests) => tests,
         Err(_) => return give_up(errors, &JobFault::Memory),
     };
-    let asked = match asked_tests(job.options.only, tests) {
+    let asked = match asked_tests(ask.only, tests) {
         Ok(asked) => asked,
         Err(refusal) => return give_up(errors, &JobFault::Refused(refusal)),
     };
     match only_of(&asked) {
-        Some(test) => show_test(alloc, job, part, &test, writer, errors),
+        Some(test) => show_test(alloc, ask, job, part, &test, writer, errors),
         None => give_up(errors, &JobFault::Refused(JobRefusal::ManyTests)),
     }
 }
@@ -59,14 +60,15 @@ fn only_of<'b, 'a>(tests: &TestList<'b, 'a>) -> Option<Test<'b, 'a>>
 /// Shows a part of a test, the only one that a job asks for.
 fn show_test<W: Write, E: Write>(
     alloc: Global,
+    ask: &TestAsk<'_>,
     job: &Job<'_>,
     part: TestPart,
     test: &Test<'_, '_>,
     writer: &mut Counted<W>,
     errors: &mut Counted<E>,
 ) -> u8
-    requires { AreTestsOf job.now (test.now ∷ []) }
-    ensures does { EndsShown part job.now (stream W.contents writer.old writer.new)
+    requires { AreTestsOf ask.now job.now (test.now ∷ []) }
+    ensures does { EndsShown part ask.now job.now (stream W.contents writer.old writer.new)
         (stream E.contents errors.old errors.new) result }
     ensures status { result ≤ 2 }
 {

@@ -17,6 +17,8 @@ use bpf_lines::Names;
 use bpf_machine::{Cpu, Fault, Status};
 use bpf_origin::{Parts, Wanted, asked};
 use bpf_session::run_kept;
+use bpfdb_options::{DiffAsk, Scope};
+use bpfdb_script::SlotTexts;
 use counted_io::{Counted, WriteFault};
 use std::alloc::{AllocError, Global};
 
@@ -27,42 +29,45 @@ pub(crate) struct Sources {
     pub(crate) second: Vec<u8>,
 }
 
-/// A run whose values are asked about: a machine of its program, its context, and the names in its
-/// maps.
+/// A run whose values are asked about: a machine of its program, its context, the names in its maps,
+/// and where its slots stand in C.
 #[derive(Drop)]
 pub(crate) struct AskedRun<'a> {
     pub(crate) cpu: Cpu,
     pub(crate) context: &'a [u8],
     pub(crate) names: Option<&'a Names<'a>>,
+    pub(crate) places: SlotTexts<'a>,
 }
 
 /// Tells where the values came from in which two runs differ, if they do and the job asks for it.
 pub(crate) fn sources_of(
     alloc: Global,
+    diff: &DiffAsk,
     job: &Job<'_>,
     values: Option<(Values, Values)>,
     first: AskedRun<'_>,
     second: AskedRun<'_>,
 ) -> Result<Sources, JournalFault>
-    ensures ok { IfOk result (AreSources first.entry.names second.entry.names job.now.options (pair_of values)
+    ensures ok { IfOk result (AreSources first.entry.names second.entry.names
+        (record { first = first.entry.places; second = second.entry.places }) diff.now job.now.options (pair_of values)
         (begun_for job.now.options first.entry.cpu.program first.entry.context.now)
         (begun_for job.now.options second.entry.cpu.program second.entry.context.now)) }
-    ensures asked { IfErr result (λ fault. (job.now.options.alone ≡ false)
+    ensures asked { IfErr result (λ fault. (diff.now.alone ≡ false)
         × (is_some (pair_of values) ≡ true)) }
     ensures err { IfErr result (RefusesSize job.now.options.journal) }
 {
-    if job.options.alone {
+    if diff.alone {
         return Ok(nothing(alloc));
     }
     let (one, another) = match values {
         Some((one, another)) => (one, another),
         None => return Ok(nothing(alloc)),
     };
-    let told = match source_of(alloc, job, first, one) {
+    let told = match source_of(alloc, &diff.scope, job, first, one) {
         Ok(text) => text,
         Err(fault) => return Err(fault),
     };
-    match source_of(alloc, job, second, another) {
+    match source_of(alloc, &diff.scope, job, second, another) {
         Ok(text) => Ok(Sources {
             first: told,
             second: text,
@@ -86,12 +91,13 @@ fn nothing(alloc: Global) -> Sources
 /// of them there.
 fn source_of(
     alloc: Global,
+    scope: &Scope,
     job: &Job<'_>,
     run: AskedRun<'_>,
     values: Values,
 ) -> Result<Vec<u8>, JournalFault>
     ensures ok { IfOk result (λ text. text.items ≡ spec.source (option_map (λ n. n.now) run.entry.names)
-        job.now.options (begun_for job.now.options run.entry.cpu.program run.entry.context.now) (value_of values)) }
+        run.entry.places scope.now job.now.options (begun_for job.now.options run.entry.cpu.program run.entry.context.now) (value_of values)) }
     ensures err { IfErr result (RefusesSize job.now.options.journal) }
 {
     let Values { steps, parts } = values;
@@ -99,6 +105,7 @@ fn source_of(
         cpu,
         context,
         names,
+        places,
     } = run;
     let mut arrived = match rerun(alloc, job, cpu, context, steps) {
         Ok(arrived) => arrived,
@@ -108,7 +115,7 @@ fn source_of(
     if asked.is_empty() {
         return Ok(Vec::new(alloc));
     }
-    let question = question_of(job, &arrived, None);
+    let question = question_of(scope, &arrived, places);
     let mut writer = Counted::new(Vec::new(alloc));
     let told = match put_told(
         alloc,

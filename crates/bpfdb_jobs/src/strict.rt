@@ -28,17 +28,18 @@ pub struct Strict {
 pub fn strict_machine(
     alloc: Global,
     job: &Job<'_>,
+    is_strict: bool,
     program: Program,
 ) -> Result<Strict, JobRefusal<'static>>
     ensures ok { IfOk result (λ strict. OpensMachine job.now program strict.cpu
-        × (strict.unwritten ≡ unwritten_in job.now strict.cpu)) }
+        × (strict.unwritten ≡ unwritten_in is_strict job.now strict.cpu)) }
     ensures err { IfErr result (RefusesMachine job.now) }
 {
     let mut cpu = match machine_of(alloc, job, program) {
         Ok(cpu) => cpu,
         Err(refusal) => return Err(refusal),
     };
-    if !job.options.is_strict {
+    if !is_strict {
         return Ok(Strict {
             cpu,
             unwritten: None,

@@ -14,6 +14,7 @@ use crate::job::Job;
 use crate::show::show_job;
 use bpf_suite::{FileFault, Suite, SuiteFault, TestList, choose, run_tests, write_plan};
 use bpfdb_faults::{JobFault, JobRefusal, give_up};
+use bpfdb_options::TestAsk;
 use counted_io::{Counted, WriteFault};
 use std::alloc::Global;
 use std::io::Write;
@@ -21,17 +22,18 @@ use std::io::Write;
 /// Runs the tests of a file, or those of a name, and reports on each, or shows a part of one.
 pub fn test_job<W: Write, E: Write>(
     alloc: Global,
+    ask: &TestAsk<'_>,
     job: &Job<'_>,
     writer: &mut Counted<W>,
     errors: &mut Counted<E>,
 ) -> u8
-    ensures does { EndsTest job.now.options.show job.now (stream W.contents writer.old writer.new)
+    ensures does { EndsTest ask.now.show ask.now job.now (stream W.contents writer.old writer.new)
         (stream E.contents errors.old errors.new) result }
     ensures status { result ≤ 2 }
 {
-    match job.options.show {
-        None => run_job(alloc, job, writer, errors),
-        Some(part) => show_job(alloc, job, part, writer, errors),
+    match ask.show {
+        None => run_job(alloc, ask, job, writer, errors),
+        Some(part) => show_job(alloc, ask, job, part, writer, errors),
     }
 }
 
@@ -39,36 +41,38 @@ pub fn test_job<W: Write, E: Write>(
 /// programs, if that is asked.
 fn run_job<W: Write, E: Write>(
     alloc: Global,
+    ask: &TestAsk<'_>,
     job: &Job<'_>,
     writer: &mut Counted<W>,
     errors: &mut Counted<E>,
 ) -> u8
-    ensures does { EndsRun job.now.options.is_tracefile job.now.options.covers job.now
+    ensures does { EndsRun ask.now.is_tracefile ask.now.covers ask.now job.now
         (stream W.contents writer.old writer.new) (stream E.contents errors.old errors.new) result }
     ensures status { result ≤ 2 }
 {
-    if job.options.is_tracefile {
-        return tracefile_job(alloc, job, writer, errors);
+    if ask.is_tracefile {
+        return tracefile_job(alloc, ask, job, writer, errors);
     }
-    if job.options.covers {
-        cover_job(alloc, job, writer, errors)
+    if ask.covers {
+        cover_job(alloc, ask, job, writer, errors)
     } else {
-        report_job(alloc, job, writer, errors)
+        report_job(alloc, ask, job, writer, errors)
     }
 }
 
 /// Runs the tests of a file, or those of a name, and reports on each.
 fn report_job<W: Write, E: Write>(
     alloc: Global,
+    ask: &TestAsk<'_>,
     job: &Job<'_>,
     writer: &mut Counted<W>,
     errors: &mut Counted<E>,
 ) -> u8
-    ensures does { EndsTests job.now (stream W.contents writer.old writer.new)
+    ensures does { EndsTests ask.now job.now (stream W.contents writer.old writer.new)
         (stream E.contents errors.old errors.new) result }
     ensures status { result ≤ 2 }
 {
-    match report_on(alloc, job, writer) {
+    match report_on(alloc, ask, job, writer) {
         Ok(reported) => reported,
         Err(why) => give_up(errors, &why),
     }
@@ -78,10 +82,11 @@ fn report_job<W: Write, E: Write>(
 /// status, or why there is no report on all.
 pub fn report_on<'a, W: Write>(
     alloc: Global,
+    ask: &TestAsk<'a>,
     job: &Job<'a>,
     writer: &mut Counted<W>,
 ) -> Result<u8, JobFault<'a>>
-    ensures reports { Reports job.now (stream W.contents writer.old writer.new) result }
+    ensures reports { Reports ask.now job.now (stream W.contents writer.old writer.new) result }
     ensures status { IfOk result (λ reported. reported ≤ 1) }
 {
     let suite = match Suite::read(alloc, job.file) {
@@ -92,7 +97,7 @@ pub fn report_on<'a, W: Write>(
         Ok(tests) => tests,
         Err(_) => return Err(JobFault::Memory),
     };
-    let asked = match asked_tests(job.options.only, tests) {
+    let asked = match asked_tests(ask.only, tests) {
         Ok(asked) => asked,
         Err(refusal) => return Err(JobFault::Refused(refusal)),
     };

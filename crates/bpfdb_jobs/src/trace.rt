@@ -10,7 +10,7 @@ ghost use Rattle.bpfdb_jobs.specs.Endings.{EndsPrinted};
 ghost use Rattle.bpfdb_faults.specs.Faults.{line_of};
 ghost use Rattle.bpfdb_jobs.specs.Jobs.{shown_of, status_of_end, trace_out, IsKnown};
 ghost use Rattle.bpfdb_jobs.specs.Tellings.{fault_of_told};
-ghost use Rattle.bpfdb_options.specs.declared.subcommand.Subcommand.TheVariants.{Trace};
+ghost use Rattle.bpfdb_options.specs.declared.ask.Ask.TheVariants.{Trace};
 
 use crate::job::Job;
 use crate::known::Known;
@@ -21,6 +21,8 @@ use bpf_trace::{
     Profile, Shown, TraceFault, Unwritten, put_profile, write_trace, write_trace_until,
 };
 use bpfdb_faults::{JobFault, give_up};
+use bpfdb_options::TraceAsk;
+use bpfdb_script::SlotTexts;
 use counted_io::{Counted, WriteFault};
 use std::alloc::Global;
 use std::io::Write;
@@ -29,6 +31,7 @@ use std::io::Write;
 /// `--profile` how often each instruction ran, and where it ended.
 pub fn trace_job<W: Write, E: Write>(
     alloc: Global,
+    trace: &TraceAsk,
     job: &Job<'_>,
     loaded: Loaded,
     known: Known<'_>,
@@ -37,22 +40,22 @@ pub fn trace_job<W: Write, E: Write>(
 ) -> u8
     requires loaded { Loads job.now.target job.now.file.now loaded }
     requires known { IsKnown job.now loaded.object known }
-    ensures does { EndsPrinted Trace job.now (stream W.contents writer.old writer.new)
+    ensures does { EndsPrinted (Trace trace.now) job.now (stream W.contents writer.old writer.new)
         (stream E.contents errors.old errors.new) result }
     ensures status { result ≤ 2 }
 {
-    let mut strict = match strict_machine(alloc, job, loaded.program) {
+    let mut strict = match strict_machine(alloc, job, trace.is_strict, loaded.program) {
         Ok(strict) => strict,
         Err(refusal) => return give_up(errors, &JobFault::Refused(refusal)),
     };
-    let shown = shown_steps(job, known);
+    let shown = shown_steps(trace, known);
     match strict.unwritten {
         Some(read) => {
             let before = tell_until(alloc, shown, &mut strict.cpu, &read, writer);
             end_of(before, 1, errors)
         }
         None => {
-            let told = tell_run(alloc, job, shown, &mut strict.cpu, writer);
+            let told = tell_run(alloc, trace, job, shown, &mut strict.cpu, writer);
             end_of(told, status_of(strict.cpu.status()), errors)
         }
     }
@@ -107,13 +110,13 @@ fn tell_until<W: Write>(
 }
 
 /// The steps that are shown.
-fn shown_steps<'a>(job: &Job<'_>, known: Known<'a>) -> Shown<'a>
-    ensures { result ≡ shown_of job.now known.entry }
+fn shown_steps<'a>(trace: &TraceAsk, known: Known<'a>) -> Shown<'a>
+    ensures { result ≡ shown_of trace.now known.entry }
 {
     Shown {
-        from: job.options.from,
-        count: job.options.count,
-        only_branches: job.options.only_branches,
+        from: trace.from,
+        count: trace.count,
+        only_branches: trace.only_branches,
         places: known.places,
     }
 }
@@ -121,15 +124,16 @@ fn shown_steps<'a>(job: &Job<'_>, known: Known<'a>) -> Shown<'a>
 /// Writes what is told of a run, and flushes.
 fn tell_run<W: Write>(
     alloc: Global,
+    trace: &TraceAsk,
     job: &Job<'_>,
     shown: Shown<'_>,
     cpu: &mut Cpu,
     writer: &mut Counted<W>,
 ) -> Result<(), TraceFault>
-    ensures told { Tells W.contents writer.old writer.new result (trace_out job.now shown.entry cpu.old) }
+    ensures told { Tells W.contents writer.old writer.new result (trace_out trace.now job.now shown.entry cpu.old) }
     ensures next { OnOk result (cpu.new ≡ plain_end job.now.options.limit cpu.old) }
 {
-    match write_run(alloc, job, shown, cpu, writer) {
+    match write_run(alloc, trace, job, shown, cpu, writer) {
         Ok(()) => {}
         Err(fault) => return Err(fault),
     }
@@ -142,16 +146,17 @@ fn tell_run<W: Write>(
 /// Writes what is told of a run: its steps or its profile. All memory is taken before the first of them.
 fn write_run<W: Write>(
     alloc: Global,
+    trace: &TraceAsk,
     job: &Job<'_>,
     shown: Shown<'_>,
     cpu: &mut Cpu,
     writer: &mut Counted<W>,
 ) -> Result<(), TraceFault>
-    ensures told { Tells W.contents writer.old writer.new result (trace_out job.now shown.entry cpu.old) }
+    ensures told { Tells W.contents writer.old writer.new result (trace_out trace.now job.now shown.entry cpu.old) }
     ensures next { OnOk result (cpu.new ≡ plain_end job.now.options.limit cpu.old) }
 {
-    if job.options.is_profile {
-        write_profile(alloc, job.options.limit, cpu, writer)
+    if trace.is_profile {
+        write_profile(alloc, job.options.limit, shown.places, cpu, writer)
     } else {
         write_trace(alloc, cpu, job.options.limit, shown, writer)
     }
@@ -161,17 +166,19 @@ fn write_run<W: Write>(
 fn write_profile<W: Write>(
     alloc: Global,
     limit: u64,
+    places: SlotTexts<'_>,
     cpu: &mut Cpu,
     writer: &mut Counted<W>,
 ) -> Result<(), TraceFault>
-    ensures told { Tells W.contents writer.old writer.new result (profile_text limit cpu.old) }
+    ensures told { Tells W.contents writer.old writer.new result
+        (profile_text places.entry limit cpu.old) }
     ensures next { OnOk result (cpu.new ≡ plain_end limit cpu.old) }
 {
     let profile = match Profile::run(alloc, cpu, limit) {
         Ok(profile) => profile,
         Err(_) => return Err(TraceFault::Memory),
     };
-    match put_profile(writer, Ok(()), &profile, limit, cpu) {
+    match put_profile(writer, Ok(()), places, &profile, limit, cpu) {
         Ok(()) => Ok(()),
         Err(WriteFault) => Err(TraceFault::Write),
     }

@@ -15,7 +15,7 @@ ghost use Rattle.bpfdb_jobs.specs.Openings.{HasArrived, why_text};
 ghost use Rattle.bpfdb_jobs.specs.Origins.{found_text};
 ghost use Rattle.bpfdb_jobs.specs.Whynots.{IsRefusalOf, RefusesGoals};
 ghost use Rattle.bpfdb_limits.specs.Limits.{IsLimit};
-ghost use Rattle.bpfdb_options.specs.declared.subcommand.Subcommand.TheVariants.{Whynot};
+ghost use Rattle.bpfdb_options.specs.declared.ask.Ask.TheVariants.{Whynot};
 ghost use Rattle.bpfdb_faults.specs.Streams.{stream};
 
 use crate::job::Job;
@@ -29,6 +29,7 @@ use bpf_load::{LinkedObject, Loaded, SourceKind};
 use bpf_origin::{Question, Told, Wanted};
 use bpf_whynot::{Aim, AimFault, GoalFault, Search, put_whynot};
 use bpfdb_faults::{JobFault, JobRefusal, flush_after, give_up};
+use bpfdb_options::WhynotAsk;
 use bpfdb_script::write_place;
 use counted_io::{Counted, WriteFault, put};
 use std::alloc::{AllocError, Global};
@@ -38,6 +39,7 @@ use std::io::Write;
 /// where the machine stands then and why the program did not come to the slots that are asked about.
 pub fn whynot_job<W: Write, E: Write>(
     alloc: Global,
+    why: &WhynotAsk<'_>,
     job: &Job<'_>,
     loaded: Loaded,
     known: Known<'_>,
@@ -47,7 +49,7 @@ pub fn whynot_job<W: Write, E: Write>(
     requires limit { IsLimit job.now.options.limit }
     requires loaded { Loads job.now.target job.now.file.now loaded }
     requires known { IsKnown job.now loaded.object known }
-    ensures does { EndsPrinted Whynot job.now (stream W.contents writer.old writer.new)
+    ensures does { EndsPrinted (Whynot why.now) job.now (stream W.contents writer.old writer.new)
         (stream E.contents errors.old errors.new) result }
     ensures status { result ≤ 2 }
 {
@@ -60,6 +62,7 @@ pub fn whynot_job<W: Write, E: Write>(
     };
     ask_why(
         alloc,
+        why,
         job,
         object.as_ref(),
         known,
@@ -72,6 +75,7 @@ pub fn whynot_job<W: Write, E: Write>(
 /// Writes where the machine stands, and why the program did not come to the slots.
 fn ask_why<W: Write, E: Write>(
     alloc: Global,
+    why: &WhynotAsk<'_>,
     job: &Job<'_>,
     object: Option<&LinkedObject>,
     known: Known<'_>,
@@ -81,21 +85,21 @@ fn ask_why<W: Write, E: Write>(
 ) -> u8
     requires arrived { HasArrived job.now (lent object) arrived.old.timeline arrived.old.moves }
     requires known { IsKnown job.now (lent object) known }
-    ensures does { EndsPrinted Whynot job.now (stream W.contents writer.old writer.new)
+    ensures does { EndsPrinted (Whynot why.now) job.now (stream W.contents writer.old writer.new)
         (stream E.contents errors.old errors.new) result }
     ensures status { result ≤ 2 }
 {
-    let aim = match aim_of(alloc, job, known, arrived.timeline.cpu().program()) {
+    let aim = match aim_of(alloc, why, job, known, arrived.timeline.cpu().program()) {
         Ok(aim) => aim,
         Err(refusal) => return give_up(errors, &JobFault::Refused(refusal)),
     };
     let names = match names_of(alloc, job, object) {
         Ok(names) => names,
-        Err(why) => return refuse(job, bytes_of(object), errors, why),
+        Err(fault) => return refuse(job, bytes_of(object), errors, fault),
     };
     let question = Question {
-        addresses: job.options.addresses,
-        lines: job.options.lines,
+        addresses: why.scope.addresses,
+        lines: why.scope.lines,
         opening: arrived.timeline.len() as u64 == arrived.moves,
         places: known.places,
     };
@@ -103,7 +107,7 @@ fn ask_why<W: Write, E: Write>(
         reach: &aim.reach,
         goals: aim.goals.as_slice(),
         question,
-        alone: job.options.alone,
+        alone: why.alone,
     };
     match put_told(alloc, names.as_ref(), arrived, &search, writer) {
         Ok(told) => match told.written {
@@ -120,33 +124,34 @@ fn ask_why<W: Write, E: Write>(
 /// The slots of a program that are asked about, and from where they can be come to.
 fn aim_of<'a>(
     alloc: Global,
+    why: &WhynotAsk<'a>,
     job: &Job<'a>,
     known: Known<'_>,
     program: &Program,
 ) -> Result<Aim, JobRefusal<'a>>
-    ensures ok { IfOk result (λ aim. (slots : List ℕ) × AreAsked job.now known.entry slots
+    ensures ok { IfOk result (λ aim. (slots : List ℕ) × AreAsked why.now job.now known.entry slots
         × IsAim program.now slots aim) }
-    ensures err { IfErr result (RefusesGoals job.now known.entry program.now) }
+    ensures err { IfErr result (RefusesGoals why.now job.now known.entry program.now) }
 {
-    let what = asked(job).as_bytes();
+    let what = asked(why).as_bytes();
     if let Some(goals) = known.goals {
-        return aim_at(alloc, job, known, program, goals);
+        return aim_at(alloc, why, job, known, program, goals);
     }
-    if !names_place(job) {
-        return aim_at(alloc, job, known, program, what);
+    if !names_place(why, job) {
+        return aim_at(alloc, why, job, known, program, what);
     }
     match listing_slots(alloc, job.file, what) {
-        Ok(slots) => aim_at(alloc, job, known, program, slots.as_slice()),
+        Ok(slots) => aim_at(alloc, why, job, known, program, slots.as_slice()),
         Err(fault) => Err(JobRefusal::Listing(fault)),
     }
 }
 
 /// Whether it is asked about a place of a listing.
-fn names_place(job: &Job<'_>) -> bool
-    ensures { result ≡ names_place job.now }
+fn names_place(why: &WhynotAsk<'_>, job: &Job<'_>) -> bool
+    ensures { result ≡ names_place why.now job.now }
 {
     match job.target.kind {
-        SourceKind::Listing => is_place(asked(job).as_bytes()),
+        SourceKind::Listing => is_place(asked(why).as_bytes()),
         SourceKind::Words | SourceKind::Object => false,
     }
 }
@@ -154,28 +159,29 @@ fn names_place(job: &Job<'_>) -> bool
 /// The slots that a text names, and from where they can be come to.
 fn aim_at<'a>(
     alloc: Global,
+    why: &WhynotAsk<'a>,
     job: &Job<'a>,
     known: Known<'_>,
     program: &Program,
     slots: &[u8],
 ) -> Result<Aim, JobRefusal<'a>>
-    requires { AreAsked job.now known slots.now }
-    ensures ok { IfOk result (λ aim. (slots : List ℕ) × AreAsked job.now known.entry slots
+    requires { AreAsked why.now job.now known slots.now }
+    ensures ok { IfOk result (λ aim. (slots : List ℕ) × AreAsked why.now job.now known.entry slots
         × IsAim program.now slots aim) }
-    ensures err { IfErr result (RefusesGoals job.now known.entry program.now) }
+    ensures err { IfErr result (RefusesGoals why.now job.now known.entry program.now) }
 {
     match Aim::find(alloc, program, slots) {
         Ok(aim) => Ok(aim),
-        Err(AimFault::Goal(fault)) => Err(goal_refusal(job, fault)),
+        Err(AimFault::Goal(fault)) => Err(goal_refusal(why, fault)),
         Err(AimFault::OutOfMemory) => Err(JobRefusal::Journal(JournalFault::OutOfMemory)),
     }
 }
 
 /// The refusal of what is asked about: of a place that has no slot by its name.
-fn goal_refusal<'a>(job: &Job<'a>, fault: GoalFault) -> JobRefusal<'a>
-    ensures { IsRefusalOf job.now fault result }
+fn goal_refusal<'a>(why: &WhynotAsk<'a>, fault: GoalFault) -> JobRefusal<'a>
+    ensures { IsRefusalOf why.now fault result }
 {
-    let what = asked(job);
+    let what = asked(why);
     match fault {
         GoalFault::NoSlot => {
             if is_place(what.as_bytes()) {
@@ -189,10 +195,10 @@ fn goal_refusal<'a>(job: &Job<'a>, fault: GoalFault) -> JobRefusal<'a>
 }
 
 /// The text of what is asked about.
-pub(crate) fn asked<'a>(job: &Job<'a>) -> &'a str
-    ensures { result.now ≡ asked_of job.now }
+pub(crate) fn asked<'a>(why: &WhynotAsk<'a>) -> &'a str
+    ensures { result.now ≡ asked_of why.now }
 {
-    match job.options.what {
+    match why.what {
         Some(text) => text,
         None => "",
     }

@@ -1,7 +1,7 @@
 use Rattle.std.proofs.Common.{refl}
 use Rattle.bpfdb_jobs.specs.Programs.{check_line}
 use Rattle.bpfdb_jobs.proofs.Printing.{out-printed}
-use Rattle.bpfdb_options.specs.declared.subcommand.Subcommand.TheVariants.{Check}
+use Rattle.bpfdb_options.specs.declared.ask.Ask.TheVariants.{Check}
 use Rattle.bpfdb_jobs.proofs.check.check_job.Goals as goal
 
 pub returns-clause-does : goal.returns-clause-does

@@ -14,4 +14,4 @@ returns-clause-does g c =
     let written = Writes-text g.W.Write.contents _ _ _ _ _ (c.flush_after-written.ensures _ _ all)
     (append-nil _ ∙ append_assoc text _ _
     ∙ ap₂ (λ (p q : List ℕ). text ++ (marked (codes "< ") p ++ marked (codes "> ") q)) c.as_slice-first.ensures.value c.as_slice-second.ensures.value) in
-    told-ends c.args.job.now _ _ _ _ _ c.requires refl written c.end_of.ensures.ok c.end_of.ensures.err
+    told-ends c.args.diff.now c.args.job.now _ _ _ _ _ c.requires refl written c.end_of.ensures.ok c.end_of.ensures.err

@@ -8,5 +8,5 @@ pub returns-in-Some-clause-does : goal.returns-in-Some-clause-does
 returns-in-Some-clause-does g c =
     let is = c.in-Some.ensures.some in
     Refused (OtherMap c.in-Some.number)
-    (maps-refused c.args.job.now c.args.other.now _ _ _ _ c.requires.runs.0 c.requires.runs.1 c.requires.first c.requires.second c.in-Some.number is)
+    (maps-refused c.args.diff.now c.args.job.now c.args.other.now _ _ _ _ c.requires.runs.0 c.requires.runs.1 c.requires.first c.requires.second c.in-Some.number is)
     refl c.give_up.ensures.told c.give_up.ensures.value

@@ -14,15 +14,16 @@ use Rattle.bpfdb_faults.specs.Streams.{Spared, Stream, stream}
 use Rattle.bpfdb_jobs.specs.Connections.{Begins, BreaksConnection, IsTarget, ServesConnection, ends, ring_refusals}
 use Rattle.bpfdb_jobs.specs.Endings.{Refused}
 use Rattle.bpfdb_jobs.specs.declared.job.Job.{Job}
+use Rattle.bpfdb_options.specs.declared.registers.Registers.{Registers}
 use Rattle.bpfdb_jobs.proofs.Refusing.{no-places, session-refused}
 use Rattle.bpfdb_jobs.proofs.Sessions.{session-ends}
 use Rattle.bpfdb_jobs.proofs.gdb.serve_program.Goals as goal
 
-module _ {R W A : Type 0} (reader : Stream R) (writer : Stream W) (job : Job) (loaded : Loaded) (gdb : Target)
-    (from to : SessionValue RingKeeper) (target : IsTarget job loaded.object gdb) (begins : Begins job loaded.program from) where
+module _ {R W A : Type 0} (reader : Stream R) (writer : Stream W) (registers : Registers) (job : Job) (loaded : Loaded) (gdb : Target)
+    (from to : SessionValue RingKeeper) (target : IsTarget registers job loaded.object gdb) (begins : Begins job loaded.program from) where
   serves : (r : Result A RunFault)
       → OnOk r (remote.Serves RingHolds ring_refusals ring_room reader.bytes writer.bytes (ends gdb from to reader writer))
-      → OnOk r (ServesConnection job loaded reader writer × Spared reader × Spared writer)
+      → OnOk r (ServesConnection registers job loaded reader writer × Spared reader × Spared writer)
   serves (Ok v) s = (
     record { gdb = gdb; target = target; from = from; to = to; begins = begins; serves = s },
     ⊎_elim (λ left. left.1.same) (λ ended. ended.3.same) s.4,
@@ -32,7 +33,7 @@ module _ {R W A : Type 0} (reader : Stream R) (writer : Stream W) (job : Job) (l
 
   breaks : (r : Result A RunFault)
       → IfErr r (λ why. remote.Breaks RingHolds ring_refusals ring_room reader.bytes writer.bytes why (ends gdb from to reader writer))
-      → IfErr r (λ why. BreaksConnection job loaded reader writer why × FailsBy why reader.old reader.new writer.old writer.new)
+      → IfErr r (λ why. BreaksConnection registers job loaded reader writer why × FailsBy why reader.old reader.new writer.old writer.new)
   breaks (Ok v) b = tt
   breaks (Err Read) b = (record { gdb = gdb; target = target; from = from; to = to; begins = begins; breaks = b }, (b.7.fault, b.3.1))
   breaks (Err Write) b = (record { gdb = gdb; target = target; from = from; to = to; begins = begins; breaks = b }, (b.4.same, b.9))
@@ -56,13 +57,13 @@ returns-clause-does g c =
     let writer = stream g.W.Write.contents c.args.writer.now c.serve-served.new.writer in
     let loaded : Loaded = loaded_of c.args.program (lent c.args.object) in
     let gdb : Target = record { layout = c.layout_of.result; names = c.as_ref.result; places = c.args.known.places } in
-    let target : IsTarget job (lent c.args.object) gdb = record {
+    let target : IsTarget c.args.registers job (lent c.args.object) gdb = record {
       layout = c.layout_of.ensures;
       names = rw (sym c.as_ref.ensures.value) at c.known_names-names.ensures;
       places = c.requires.known.places;
     } in
-    session-ends job (ServesConnection job loaded reader writer) (BreaksConnection job loaded reader writer) c.serve-served.result
+    session-ends job (ServesConnection c.args.registers job loaded reader writer) (BreaksConnection c.args.registers job loaded reader writer) c.serve-served.result
     c.session_ended.result o.room
-    (serves reader writer job loaded gdb c.in-Ok.session c.serve-served.new.session target o.begins c.serve-served.result c.serve-served.ensures.ok)
-    (breaks reader writer job loaded gdb c.in-Ok.session c.serve-served.new.session target o.begins c.serve-served.result c.serve-served.ensures.err)
+    (serves reader writer c.args.registers job loaded gdb c.in-Ok.session c.serve-served.new.session target o.begins c.serve-served.result c.serve-served.ensures.ok)
+    (breaks reader writer c.args.registers job loaded gdb c.in-Ok.session c.serve-served.new.session target o.begins c.serve-served.result c.serve-served.ensures.err)
     c.session_ended.ensures.ok c.session_ended.ensures.err

@@ -2,7 +2,7 @@ use Rattle.std.proofs.Common.{refl}
 use Rattle.bpfdb_jobs.specs.Endings.{Refused}
 use Rattle.bpfdb_faults.specs.declared.refusal.JobRefusal.TheVariants.{Listing}
 use Rattle.bpfdb_jobs.proofs.Printing.{out-printed}
-use Rattle.bpfdb_options.specs.declared.subcommand.Subcommand.TheVariants.{Asm}
+use Rattle.bpfdb_options.specs.declared.ask.Ask.TheVariants.{Asm}
 use Rattle.bpfdb_jobs.proofs.listing.asm_job.Goals as goal
 
 pub returns-in-Ok-clause-does : goal.returns-in-Ok-clause-does

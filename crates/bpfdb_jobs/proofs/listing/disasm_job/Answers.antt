@@ -3,7 +3,7 @@ use Rattle.bpf_text.specs.Canonical.{canon}
 use Rattle.bpfdb_jobs.specs.Endings.{Exhausted}
 use Rattle.bpfdb_jobs.specs.Jobs.{printed}
 use Rattle.bpfdb_jobs.proofs.Printing.{out-printed}
-use Rattle.bpfdb_options.specs.declared.subcommand.Subcommand.TheVariants.{Disasm}
+use Rattle.bpfdb_options.specs.declared.ask.Ask.TheVariants.{Disasm}
 use Rattle.bpfdb_jobs.proofs.listing.disasm_job.Goals as goal
 
 pub returns-in-Ok-clause-does : goal.returns-in-Ok-clause-does

@@ -4,7 +4,7 @@ use Rattle.bpfdb_jobs.specs.Jobs.{IsTable}
 use Rattle.bpfdb_jobs.specs.Refusals.{RefusesLines}
 use Rattle.bpfdb_faults.specs.declared.refusal.JobRefusal.TheVariants.{Listing}
 use Rattle.bpfdb_jobs.proofs.Printing.{out-printed}
-use Rattle.bpfdb_options.specs.declared.subcommand.Subcommand.TheVariants.{Lines}
+use Rattle.bpfdb_options.specs.declared.ask.Ask.TheVariants.{Lines}
 use Rattle.bpfdb_jobs.proofs.listing.lines_job.Goals as goal
 
 pub returns-in-Ok-clause-does : goal.returns-in-Ok-clause-does

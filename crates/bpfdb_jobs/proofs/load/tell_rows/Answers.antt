@@ -3,7 +3,7 @@ use Rattle.std.proofs.lemmas.List.{append-nil}
 use Rattle.counted_io.proofs.Appending.{Writes-text}
 use Rattle.bpfdb_jobs.specs.Programs.{program_text}
 use Rattle.bpfdb_jobs.proofs.Printing.{out-printed}
-use Rattle.bpfdb_options.specs.declared.subcommand.Subcommand.TheVariants.{Load}
+use Rattle.bpfdb_options.specs.declared.ask.Ask.TheVariants.{Load}
 use Rattle.bpfdb_jobs.proofs.load.tell_rows.Goals as goal
 
 pub returns-clause-does : goal.returns-clause-does

@@ -5,7 +5,7 @@ use Rattle.bpfdb_jobs.specs.Endings.{Refused}
 use Rattle.bpfdb_jobs.specs.Jobs.{table_by}
 use Rattle.bpfdb_jobs.proofs.Printing.{out-printed}
 use Rattle.bpfdb_jobs.proofs.Tables.{prints-table, refuses-table}
-use Rattle.bpfdb_options.specs.declared.subcommand.Subcommand.TheVariants.{Lines}
+use Rattle.bpfdb_options.specs.declared.ask.Ask.TheVariants.{Lines}
 use Rattle.bpfdb_jobs.proofs.object_lines.put_lines.Goals as goal
 
 pub returns-in-Err-clause-does : goal.returns-in-Err-clause-does

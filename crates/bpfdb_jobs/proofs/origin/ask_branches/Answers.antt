@@ -10,12 +10,12 @@ pub tell-requires : goal.tell-requires
 tell-requires g c =
     let s = c.requires.asked in
     rw c.as_slice.ensures.value
-    (branches-behind c.args.job.now _ c.args.arrived.timeline c.args.arrived.moves c.args.parts.now c.args.question s c.in-Ok.found c.requires.branches
+    (branches-behind c.args.origin.now c.args.job.now _ c.args.arrived.timeline c.args.arrived.moves c.args.parts.now c.args.question s c.in-Ok.found c.requires.branches
     (c.in-Ok.ensures s.arrived.at.point.history s.arrived.held))
 
 pub returns-in-Err-clause-does : goal.returns-in-Err-clause-does
 returns-in-Err-clause-does g c =
     let job = c.args.job.now in
     let a = c.requires.asked.arrived in
-    Refused (Journal OutOfMemory) (arrival-origin job (Journal OutOfMemory) (session-arrival job (Journal OutOfMemory) (no-places job (Journal OutOfMemory) a.opens.opens.short a.opens.sized refl)))
+    Refused (Journal OutOfMemory) (arrival-origin c.args.origin.now job (Journal OutOfMemory) (session-arrival job (Journal OutOfMemory) (no-places job (Journal OutOfMemory) a.opens.opens.short a.opens.sized refl)))
     refl c.give_up.ensures.told c.give_up.ensures.value

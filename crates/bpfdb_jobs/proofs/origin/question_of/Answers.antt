@@ -4,5 +4,5 @@ use Rattle.bpfdb_jobs.proofs.origin.question_of.Goals as goal
 
 pub returns : goal.returns
 returns c = λ h stands.
-    let q : Question = record { addresses = c.args.job.now.options.addresses; lines = c.args.job.now.options.lines; opening = c.len.result == c.args.arrived.now.moves; places = c.args.places } in
+    let q : Question = record { addresses = c.args.scope.now.addresses; lines = c.args.scope.now.lines; opening = c.len.result == c.args.arrived.now.moves; places = c.args.places } in
     ap (λ (m : ℕ). record q { opening = m == c.args.arrived.now.moves }) (c.len.ensures h stands)

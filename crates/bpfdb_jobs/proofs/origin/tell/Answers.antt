@@ -17,7 +17,7 @@ returns-in-Err-clause-does g c =
     let at = c.args.arrived in
     let told = c.refuse.ensures.told in
     Refused (Object c.in-Err.why told.0)
-    (names-refuse c.args.job.now _ at.timeline at.moves c.args.parts.now c.args.question c.requires.asked c.in-Err.why told.0
+    (names-refuse c.args.origin.now c.args.job.now _ at.timeline at.moves c.args.parts.now c.args.question c.requires.asked c.in-Err.why told.0
     (rw c.bytes_of.ensures at told.1, c.in-Err.ensures.err))
     refl told.2 c.refuse.ensures.value
 
@@ -33,7 +33,7 @@ returns-in-Ok-written-clause-does g c =
     let w = rw (c.in-Ok-written.is, c.as_ref.ensures.value) at c.in-Ok-put_told.ensures.text h s.arrived.held in
     let extent = c.in-Ok-put_told.ensures.extent h s.arrived.held in
     Printed (named_print c.in-Ok.names x (followed_by (answer_about q c.args.parts.now h x) tail))
-    (origin-prints job _ at.timeline at.moves c.args.parts.now q s tail c.requires.is c.in-Ok.names c.in-Ok.ensures.ok)
+    (origin-prints c.args.origin.now job _ at.timeline at.moves c.args.parts.now q s tail c.requires.is c.in-Ok.names c.in-Ok.ensures.ok)
     (w.ok, w.same) refl (c.status_of.ensures ∙ ap status_of_extent (c.both_of.ensures ∙ ap (λ (e : Extent). both_extents e c.args.tail.extent) extent))
 
 pub returns-in-Ok-put_told-clause-does : goal.returns-in-Ok-put_told-clause-does
@@ -47,12 +47,12 @@ returns-in-Ok-put_told-clause-does g c =
     let tail : Answer = record { text = c.args.tail.text.now; extent = c.args.tail.extent } in
     let w = rw (c.in-Err-written.is, c.as_ref.ensures.value) at c.in-Ok-put_told.ensures.text h s.arrived.held in
     OutLost (named_print c.in-Ok.names x (followed_by (answer_about q c.args.parts.now h x) tail))
-    (origin-prints job _ at.timeline at.moves c.args.parts.now q s tail c.requires.is c.in-Ok.names c.in-Ok.ensures.ok)
+    (origin-prints c.args.origin.now job _ at.timeline at.moves c.args.parts.now q s tail c.requires.is c.in-Ok.names c.in-Ok.ensures.ok)
     (w.err, w.fault) c.give_up.ensures.told c.give_up.ensures.value
 
 pub returns-clause-does : goal.returns-clause-does
 returns-clause-does g c =
     let job = c.args.job.now in
     let a = c.requires.asked.arrived in
-    Refused (Journal OutOfMemory) (arrival-origin job (Journal OutOfMemory) (session-arrival job (Journal OutOfMemory) (no-places job (Journal OutOfMemory) a.opens.opens.short a.opens.sized refl)))
+    Refused (Journal OutOfMemory) (arrival-origin c.args.origin.now job (Journal OutOfMemory) (session-arrival job (Journal OutOfMemory) (no-places job (Journal OutOfMemory) a.opens.opens.short a.opens.sized refl)))
     c.in-Err-put_told.ensures.same c.give_up-in-Err-put_told.ensures.told c.give_up-in-Err-put_told.ensures.value

@@ -12,7 +12,7 @@ pub returns-then-is_empty-clause-ok : goal.returns-then-is_empty-clause-ok
 returns-then-is_empty-clause-ok c =
     let asked = rw c.cpu.ensures at c.asked_at-asked.ensures in
     c.new.ensures.items
-    ∙ nothing-told _ c.args.job.now.options (value_of c.args.values) _ c.in-Ok.arrived.timeline c.in-Ok.arrived.moves c.in-Ok.ensures.ok _ refl _ asked
+    ∙ nothing-told _ c.args.run.places c.args.scope.now c.args.job.now.options (value_of c.args.values) _ c.in-Ok.arrived.timeline c.in-Ok.arrived.moves c.in-Ok.ensures.ok _ refl _ asked
     (sym c.is_empty.ensures ∙ c.if-is_empty.true)
 
 pub returns-in-Ok-written-clause-ok : goal.returns-in-Ok-written-clause-ok
@@ -26,5 +26,5 @@ returns-in-Ok-written-clause-ok c =
     (asked_text c.question_of-question.result c.asked_at-asked.result.items history c.in-Ok.arrived.timeline.state []) =
     rw c.into_inner.ensures (rw (c.new-writer.ensures, c.new-2.ensures.items) at written.ok) in
     text
-    ∙ something-told _ c.args.job.now.options (value_of c.args.values) _ c.in-Ok.arrived.timeline c.in-Ok.arrived.moves ran
+    ∙ something-told _ c.args.run.places c.args.scope.now c.args.job.now.options (value_of c.args.values) _ c.in-Ok.arrived.timeline c.in-Ok.arrived.moves ran
     c.question_of-question.result (c.question_of-question.ensures _ ran.held) _ asked (sym c.is_empty.ensures ∙ c.if-is_empty.false)

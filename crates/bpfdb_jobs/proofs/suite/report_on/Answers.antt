@@ -6,6 +6,7 @@ use Rattle.bpf_suite.specs.declared.fault.FileFault.TheVariants as file
 use Rattle.bpfdb_faults.specs.Streams.{Stream}
 use Rattle.bpfdb_jobs.specs.Suites.{BrokenOff, Exhausted, Refused, Reported, Reports, fault_of_file, status_of}
 use Rattle.bpfdb_jobs.specs.declared.job.Job.{Job}
+use Rattle.bpfdb_options.specs.declared.ask.TestAsk.{TestAsk}
 use Rattle.bpfdb_jobs.specs.Refusals.{LacksName}
 use Rattle.bpfdb_faults.specs.declared.fault.JobFault.TheVariants as fault
 use Rattle.bpfdb_faults.specs.declared.refusal.JobRefusal.{JobRefusal}
@@ -13,43 +14,43 @@ use Rattle.bpfdb_faults.specs.declared.refusal.JobRefusal.TheVariants.{OtherMap,
 use Rattle.bpfdb_jobs.proofs.suite.report_on.Goals as goal
 
 -- a file of which no test is run
-not-run : {W : Type 0} {writer : Stream W} (job : Job) (why : FileFault) → writer.new ≡ writer.old → IsFaultOf job.file.now why
-    → Reports job writer (Err (fault_of_file why))
-not-run job (file.Line fault line) same is = Refused (Tests fault line) is same refl
-not-run job file.Memory same is = Exhausted same refl
+not-run : {W : Type 0} {writer : Stream W} (ask : TestAsk) (job : Job) (why : FileFault) → writer.new ≡ writer.old → IsFaultOf job.file.now why
+    → Reports ask job writer (Err (fault_of_file why))
+not-run ask job (file.Line fault line) same is = Refused (Tests fault line) is same refl
+not-run ask job file.Memory same is = Exhausted same refl
 
 pub returns-in-Err-clause-reports : goal.returns-in-Err-clause-reports
-returns-in-Err-clause-reports g c = rw c.fault_of_file.ensures (not-run c.args.job.now c.in-Err.fault refl c.in-Err.ensures.err)
+returns-in-Err-clause-reports g c = rw c.fault_of_file.ensures (not-run c.args.ask.now c.args.job.now c.in-Err.fault refl c.in-Err.ensures.err)
 
 -- a name that no test of a sound file has
-no-test : {W : Type 0} {writer : Stream W} (job : Job) (refusal : JobRefusal) → writer.new ≡ writer.old → file_fault job.file.now ≡ None
-    → LacksName job.options.only (tests (sections job.file.now)) refusal → Reports job writer (Err (fault.Refused refusal))
-no-test job (NoTest name) same sound lacks = Refused (NoTest name) (sound, lacks) same refl
-no-test job (Maps fault) same sound lacks = absurd lacks
-no-test job (Listing fault) same sound lacks = absurd lacks
-no-test job (Load fault) same sound lacks = absurd lacks
-no-test job (Opening fault) same sound lacks = absurd lacks
-no-test job (Open fault) same sound lacks = absurd lacks
-no-test job (Journal fault) same sound lacks = absurd lacks
-no-test job (OtherRun fault) same sound lacks = absurd lacks
-no-test job (TraceLine fault line) same sound lacks = absurd lacks
-no-test job (Script refusal) same sound lacks = absurd lacks
-no-test job (What fault) same sound lacks = absurd lacks
-no-test job (Goal fault) same sound lacks = absurd lacks
-no-test job (NoPlace name) same sound lacks = absurd lacks
-no-test job (Object fault name) same sound lacks = absurd lacks
-no-test job (Functions fault index name) same sound lacks = absurd lacks
-no-test job (Tests fault line) same sound lacks = absurd lacks
-no-test job ManyTests same sound lacks = absurd lacks
-no-test job (Kind why) same sound lacks = absurd lacks
-no-test job (OtherMap number) same sound lacks = absurd lacks
-no-test job (OtherObject why name) same sound lacks = absurd lacks
+no-test : {W : Type 0} {writer : Stream W} (ask : TestAsk) (job : Job) (refusal : JobRefusal) → writer.new ≡ writer.old → file_fault job.file.now ≡ None
+    → LacksName ask.only (tests (sections job.file.now)) refusal → Reports ask job writer (Err (fault.Refused refusal))
+no-test ask job (NoTest name) same sound lacks = Refused (NoTest name) (sound, lacks) same refl
+no-test ask job (Maps fault) same sound lacks = absurd lacks
+no-test ask job (Listing fault) same sound lacks = absurd lacks
+no-test ask job (Load fault) same sound lacks = absurd lacks
+no-test ask job (Opening fault) same sound lacks = absurd lacks
+no-test ask job (Open fault) same sound lacks = absurd lacks
+no-test ask job (Journal fault) same sound lacks = absurd lacks
+no-test ask job (OtherRun fault) same sound lacks = absurd lacks
+no-test ask job (TraceLine fault line) same sound lacks = absurd lacks
+no-test ask job (Script refusal) same sound lacks = absurd lacks
+no-test ask job (What fault) same sound lacks = absurd lacks
+no-test ask job (Goal fault) same sound lacks = absurd lacks
+no-test ask job (NoPlace name) same sound lacks = absurd lacks
+no-test ask job (Object fault name) same sound lacks = absurd lacks
+no-test ask job (Functions fault index name) same sound lacks = absurd lacks
+no-test ask job (Tests fault line) same sound lacks = absurd lacks
+no-test ask job ManyTests same sound lacks = absurd lacks
+no-test ask job (Kind why) same sound lacks = absurd lacks
+no-test ask job (OtherMap number) same sound lacks = absurd lacks
+no-test ask job (OtherObject why name) same sound lacks = absurd lacks
 
 pub returns-in-Err-asked_tests-clause-reports : goal.returns-in-Err-asked_tests-clause-reports
 returns-in-Err-asked_tests-clause-reports g c =
     let s = c.in-Ok.ensures.ok in
     let ts : c.in-Ok-tests.tests ≡ tests (sections c.args.job.now.file.now) = c.in-Ok-tests.ensures ∙ ap tests s.0 in
-    no-test c.args.job.now c.in-Err-asked_tests.refusal refl s.1 (rw ts at c.in-Err-asked_tests.ensures.none)
+    no-test c.args.ask.now c.args.job.now c.in-Err-asked_tests.refusal refl s.1 (rw ts at c.in-Err-asked_tests.ensures.none)
 
 pub returns-in-Ok-run_suite-clause-reports : goal.returns-in-Ok-run_suite-clause-reports
 returns-in-Ok-run_suite-clause-reports g c =

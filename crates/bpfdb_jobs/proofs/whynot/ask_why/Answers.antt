@@ -15,7 +15,7 @@ pub returns-in-Err-clause-does : goal.returns-in-Err-clause-does
 returns-in-Err-clause-does g c =
     let at = c.args.arrived.now in
     Refused c.in-Err.refusal
-    (whynot-refuses c.args.job.now _ c.args.known c.requires.known at.timeline at.moves c.requires.arrived c.in-Err.refusal (rw (c.program.ensures, c.cpu.ensures) at c.in-Err.ensures.err))
+    (whynot-refuses c.args.why.now c.args.job.now _ c.args.known c.requires.known at.timeline at.moves c.requires.arrived c.in-Err.refusal (rw (c.program.ensures, c.cpu.ensures) at c.in-Err.ensures.err))
     refl c.give_up.ensures.told c.give_up.ensures.value
 
 pub returns-in-Err-names_of-clause-does : goal.returns-in-Err-names_of-clause-does
@@ -23,8 +23,8 @@ returns-in-Err-names_of-clause-does g c =
     let at = c.args.arrived.now in
     let asked = rw (c.program.ensures, c.cpu.ensures) at c.in-Ok.ensures.ok in
     let told = c.refuse.ensures.told in
-    Refused (Object c.in-Err-names_of.why told.0)
-    (names-lack c.args.job.now _ c.args.known c.requires.known at.timeline at.moves c.requires.arrived asked.2.goals (asked.0, asked.1, asked.2.named) c.in-Err-names_of.why told.0
+    Refused (Object c.in-Err-names_of.fault told.0)
+    (names-lack c.args.why.now c.args.job.now _ c.args.known c.requires.known at.timeline at.moves c.requires.arrived asked.2.goals (asked.0, asked.1, asked.2.named) c.in-Err-names_of.fault told.0
     (rw c.bytes_of.ensures at told.1, c.in-Err-names_of.ensures.err))
     refl told.2 c.refuse.ensures.value
 
@@ -39,15 +39,15 @@ returns-in-Ok-written-clause-does g c =
     let can = told_by c.in-Ok.aim.reach in
     let q : Query = record {
       goals = p.goals;
-      question = record { addresses = job.options.addresses; lines = job.options.lines; opening = c.len.result == at.moves; places = c.args.known.places };
-      alone = job.options.alone;
+      question = record { addresses = c.args.why.now.scope.addresses; lines = c.args.why.now.scope.lines; opening = c.len.result == at.moves; places = c.args.known.places };
+      alone = c.args.why.now.alone;
     } in
     let as-asked = ap (λ (m : ℕ). record q { question = record q.question { opening = m == at.moves } }) (c.len.ensures h c.requires.arrived.held) in
     let flags = subst (λ (flags : List Bool). AreGoals x.program p.goals flags) (sym c.as_slice.ensures.value) p.flags in
     let w = rw (c.in-Ok-written.is, c.as_ref.ensures.value) at c.in-Ok-put_told.ensures.text x.program p.goals h flags c.requires.arrived.held in
     let extent = c.in-Ok-put_told.ensures.extent x.program p.goals h flags c.requires.arrived.held in
     Printed (named_print c.in-Ok-names_of.names x (why_not can q h x))
-    (whynot-prints job _ c.args.known c.requires.known at.timeline at.moves c.requires.arrived q p.goals can as-asked (asked.0, asked.1, p.named) p.tells c.in-Ok-names_of.names c.in-Ok-names_of.ensures.ok)
+    (whynot-prints c.args.why.now job _ c.args.known c.requires.known at.timeline at.moves c.requires.arrived q p.goals can as-asked (asked.0, asked.1, p.named) p.tells c.in-Ok-names_of.names c.in-Ok-names_of.ensures.ok)
     (w.ok, w.same) refl (c.status_of.ensures ∙ ap status_of_extent extent)
 
 pub returns-in-Ok-put_told-clause-does : goal.returns-in-Ok-put_told-clause-does
@@ -61,19 +61,19 @@ returns-in-Ok-put_told-clause-does g c =
     let can = told_by c.in-Ok.aim.reach in
     let q : Query = record {
       goals = p.goals;
-      question = record { addresses = job.options.addresses; lines = job.options.lines; opening = c.len.result == at.moves; places = c.args.known.places };
-      alone = job.options.alone;
+      question = record { addresses = c.args.why.now.scope.addresses; lines = c.args.why.now.scope.lines; opening = c.len.result == at.moves; places = c.args.known.places };
+      alone = c.args.why.now.alone;
     } in
     let as-asked = ap (λ (m : ℕ). record q { question = record q.question { opening = m == at.moves } }) (c.len.ensures h c.requires.arrived.held) in
     let flags = subst (λ (flags : List Bool). AreGoals x.program p.goals flags) (sym c.as_slice.ensures.value) p.flags in
     let w = rw (c.in-Err-written.is, c.as_ref.ensures.value) at c.in-Ok-put_told.ensures.text x.program p.goals h flags c.requires.arrived.held in
     OutLost (named_print c.in-Ok-names_of.names x (why_not can q h x))
-    (whynot-prints job _ c.args.known c.requires.known at.timeline at.moves c.requires.arrived q p.goals can as-asked (asked.0, asked.1, p.named) p.tells c.in-Ok-names_of.names c.in-Ok-names_of.ensures.ok)
+    (whynot-prints c.args.why.now job _ c.args.known c.requires.known at.timeline at.moves c.requires.arrived q p.goals can as-asked (asked.0, asked.1, p.named) p.tells c.in-Ok-names_of.names c.in-Ok-names_of.ensures.ok)
     (w.err, w.fault) c.give_up-in-Err-written.ensures.told c.give_up-in-Err-written.ensures.value
 
 pub returns-clause-does : goal.returns-clause-does
 returns-clause-does g c =
     let job = c.args.job.now in
     let a = c.requires.arrived in
-    Refused (Journal OutOfMemory) (arrival-whynot job (Journal OutOfMemory) (session-arrival job (Journal OutOfMemory) (no-places job (Journal OutOfMemory) a.opens.opens.short a.opens.sized refl)))
+    Refused (Journal OutOfMemory) (arrival-whynot c.args.why.now job (Journal OutOfMemory) (session-arrival job (Journal OutOfMemory) (no-places job (Journal OutOfMemory) a.opens.opens.short a.opens.sized refl)))
     c.in-Err-put_told.ensures.same c.give_up-in-Err-put_told.ensures.told c.give_up-in-Err-put_told.ensures.value

@@ -4,4 +4,4 @@ use Rattle.bpfdb_jobs.proofs.Refusing.{arrival-whynot}
 use Rattle.bpfdb_jobs.proofs.whynot.whynot_job.Goals as goal
 
 pub returns-in-Err-clause-does : goal.returns-in-Err-clause-does
-returns-in-Err-clause-does g c = Refused c.in-Err.refusal (arrival-whynot c.args.job.now c.in-Err.refusal c.in-Err.ensures.err) refl c.give_up.ensures.told c.give_up.ensures.value
+returns-in-Err-clause-does g c = Refused c.in-Err.refusal (arrival-whynot c.args.why.now c.args.job.now c.in-Err.refusal c.in-Err.ensures.err) refl c.give_up.ensures.told c.give_up.ensures.value

@@ -5,7 +5,7 @@ use Rattle.std.specs.Prelude.{◌&&◌, unwrap_or}
 use Rattle.clap.proofs.WalkLemmas.{raw_values-rows}
 use Rattle.clap.specs.Words.{Text, all_of, found_of, rows_of}
 use Rattle.bpfdb_cli.specs.Plans.{has_offset}
-use Rattle.bpfdb_cli.proofs.planner.entries_fit.Goals as goal
+use Rattle.bpfdb_cli.proofs.misfit.entries_fit.Goals as goal
 
 -- texts and what they hold
 of_texts : (texts : List (Bor Text)) → list_all (λ text. has_offset text.now) texts ≡ list_all has_offset (map (λ text. text.now) texts)

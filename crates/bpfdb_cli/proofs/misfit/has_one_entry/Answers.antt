@@ -6,7 +6,7 @@ use Rattle.clap.proofs.WalkLemmas.{raw_values-rows}
 use Rattle.clap.specs.Words.{Text, all_of, found_of, rows_of}
 use Rattle.input_texts.specs.Turns.{has_place}
 use Rattle.bpfdb_cli.specs.Plans.{names_one}
-use Rattle.bpfdb_cli.proofs.planner.has_one_entry.Goals as goal
+use Rattle.bpfdb_cli.proofs.misfit.has_one_entry.Goals as goal
 
 -- texts and what they hold
 as-many : (texts : List (Bor Text)) → length texts ≡ length (map (λ text. text.now) texts)

@@ -3,7 +3,7 @@ use Rattle.std.specs.Prelude.{unwrap_or}
 use Rattle.clap.proofs.WalkLemmas.{raw_values-rows}
 use Rattle.clap.specs.Words.{Text, all_of, found_of, rows_of}
 use Rattle.input_texts.specs.Counts.{are_counts}
-use Rattle.bpfdb_cli.proofs.planner.counts_fit.Goals as goal
+use Rattle.bpfdb_cli.proofs.misfit.counts_fit.Goals as goal
 
 pub returns-in-Some : goal.returns-in-Some
 returns-in-Some c =

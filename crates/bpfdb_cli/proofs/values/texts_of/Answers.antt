@@ -4,7 +4,7 @@ use Rattle.std.specs.Prelude.{IfNone, unwrap_or}
 use Rattle.clap.proofs.WalkLemmas.{raw_values-rows}
 use Rattle.clap.specs.Words.{Row, Text, all_of, found_of, rows_of}
 use Rattle.bpfdb_cli.specs.Plans.{most_texts, texts_in}
-use Rattle.bpfdb_cli.proofs.planner.texts_of.Goals as goal
+use Rattle.bpfdb_cli.proofs.values.texts_of.Goals as goal
 
 in_rows : (id : Text) (rows : List Row) (texts : List (Bor Text)) → Some (map (λ text. text.now) texts) ≡ all_of id rows
     → map (λ text. text.now) texts ≡ texts_in id rows
