@@ -129,9 +129,9 @@ class Run {
     return map ? map[0] : 0;
   }
 
-  // What a step changes: registers, bytes, words, and calls that begin or end.
-  changesOf(instruction, line, by, isLast) {
-    const changes = [];
+  // What a step changes: registers, bytes, words, and calls that begin or end. Its place in C may follow.
+  changesOf(instruction, said, by, isLast) {
+    const changes = [], line = said.split("; in ", 1)[0];
     let calls = false;
     for (let start = line.indexOf("; "), end; start >= 0; start = end) {
       end = line.indexOf("; ", start + 2);

@@ -1,4 +1,4 @@
-# The branches that decided that a value came about and that a program came to where it stands (`origin --branches`): each kind of answer, values through
+# The branches that decided that a value came about and that a program came to where it stands, and those that kept a value (`origin --branches`): each kind of answer, values through
 # copies and calls, loops, recursion, edits, what the journal dropped, and answers that are cut. What is wanted was worked out by hand from the jumps, calls and returns of each listing. Then programs at
 # random, held against a model (tests/trials/branches.py).
 
@@ -39,7 +39,7 @@ tells 0 "exited at 7: r0 0x10\n-2 r0 = 0x10; 6: lsh r0, 4; from r0\n-3 r0 = 0x1;
 listing added.s 'mov r0, 1;jeq r2, 0, on;add r0, 5;on: exit'
 tells 0 "exited at 3: r0 0x6\n-2 r0 = 0x6; 2: add r0, 5; from r0\n-4 r0 = 0x1; 0: mov r0, 1\n-3 1: jeq r2, 0, L3; r2 = 0x6; went on\nno other branch$start" \
     origin --branches -m six --listing added.s
-tells 0 "exited at 3: r0 0x1\n-3 r0 = 0x1; 0: mov r0, 1\nno other branch$start" origin --branches --listing added.s
+tells 0 "exited at 3: r0 0x1\n-3 r0 = 0x1; 0: mov r0, 1\nkept: -2 1: jeq r2, 0, L3; r2 = 0x0; jumped to 3\nno other branch$start" origin --branches --listing added.s
 listing two.s 'mov r3, 1;mov r4, 1;jeq r2, 0, a;mov r3, 2;a: jeq r1, 0, b;mov r4, 2;b: mov r0, r3;add r0, r4;exit'
 sum='exited at 8: r0 0x4\n-2 r0 = 0x4; 7: add r0, r4; from r0 r4\n'
 tells 0 "$sum-3 r0 = 0x2; 6: mov r0, r3; from r3\n-4 r4 = 0x2; 5: mov r4, 2\n-6 r3 = 0x2; 3: mov r3, 2\n-5 4: jeq r1, 0, L6; r1 = 0x100000000; went on\n-7 2: jeq r2, 0, L4; r2 = 0x6; went on\nno other branch$start" \
@@ -70,6 +70,58 @@ tells 0 "exited at 6: r0 0x2\n-2 r1 = 0x1; 5: mov r1, 1\n-3 1: jeq r0, 2, L5; r0
 # (A loop that never ends is no way past it.)
 listing ever.s 'jeq r1, 0, on;ever: ja ever;on: exit'
 tells 0 "exited at 2: r0 0x0\nleft r0 = 0x0$start-2 0: jeq r1, 0, L2; r1 = 0x0; jumped to 2\nno other branch$start" origin --branches --listing ever.s
+
+# What kept a value: the branch that skipped the instruction that would have written it before it was read, at -O0 and -O2, each of two in a row, and of a
+# chain of them the one that failed; a value at the opening, two values that one branch kept, and one that decided as well (nest.s).
+listing verdict.s 'mov r0, 2;jne r1, 7, out;jne r2, 7, out;mov r0, 1;out: exit'
+tells 0 "exited at 4: r0 0x2\n-3 r0 = 0x2; 0: mov r0, 2\nkept: -2 1: jne r1, 7, L4; r1 = 0x0; jumped to 4\nno other branch$start" origin --branches --listing verdict.s
+printf 'set reg r1 7\ncontinue\n' > seventh
+tells 0 "exited at 4: r0 0x2\n-4 r0 = 0x2; 0: mov r0, 2\nkept: -2 2: jne r2, 7, L4; r2 = 0x0; jumped to 4\nno other branch$start" \
+    origin --branches --script seventh --listing verdict.s
+printf 'set reg r1 7\nset reg r2 7\ncontinue\n' > both
+tells 0 "exited at 4: r0 0x1\n-2 r0 = 0x1; 3: mov r0, 1\n-3 2: jne r2, 7, L4; r2 = 0x7; went on\n-4 1: jne r1, 7, L4; r1 = 0x7; went on\nno other branch$start" \
+    origin --branches --script both --listing verdict.s
+listing row.s 'mov r0, 1;jeq r1, 0, a;mov r0, 2;a: jeq r2, 0, b;mov r0, 3;b: exit'
+row='exited at 5: r0 0x1\n-4 r0 = 0x1; 0: mov r0, 1\nkept: -2 3: jeq r2, 0, L5; r2 = 0x0; jumped to 5\n'
+tells 0 "${row}kept: -3 1: jeq r1, 0, L3; r1 = 0x0; jumped to 3\nno other branch$start" origin --branches --listing row.s
+tells 1 "${row}cut: there are more lines\n" origin --branches --lines 1 --listing row.s
+listing opening.s 'jeq r1, 0, out;add r0, 0;out: jeq r2, 0, on;mov r2, 1;on: exit'
+tells 0 "exited at 4: r0 0x0\nleft r0 = 0x0${start}kept: -3 0: jeq r1, 0, L2; r1 = 0x0; jumped to 2\nno other branch$start" origin --branches --listing opening.s
+listing pair.s 'mov r3, 1;mov r4, 2;jeq r1, 0, on;mov r3, 5;mov r4, 5;on: add r3, r4;mov r0, r3;exit'
+tells 0 "exited at 7: r0 0x3\n-2 r0 = 0x3; 6: mov r0, r3; from r3\n-3 r3 = 0x3; 5: add r3, r4; from r3 r4\n-5 r4 = 0x2; 1: mov r4, 2\n-6 r3 = 0x1; 0: mov r3, 1\nkept: -4 2: jeq r1, 0, L5; r1 = 0x0; jumped to 5\nno other branch$start" \
+    origin --branches --listing pair.s
+# Bytes of the frame, of which some would have been written; not by another register, nor by a function that was called, of its own frame.
+listing stack.s 'stdw [r10-8], 1;jeq r1, 0, on;stw [r10-4], 1;on: ldxdw r0, [r10-8];exit'
+frame='r0 = 0x1; 3: ldxdw r0, [r10-8]; from 0x2000001f8:8\n'
+tells 0 "exited at 4: r0 0x1\n-2 ${frame}-4 0x2000001f8:8 = 0x1; 0: stdw [r10-8], 1\nkept: -3 1: jeq r1, 0, L3; r1 = 0x0; jumped to 3\nno other branch$start" \
+    origin --branches --listing stack.s
+listing beside.s 'stdw [r10-8], 1;jeq r1, 0, on;stw [r10-12], 1;on: ldxdw r0, [r10-8];exit'
+tells 0 "exited at 4: r0 0x1\n-2 ${frame}-4 0x2000001f8:8 = 0x1; 0: stdw [r10-8], 1\nno other branch$start" origin --branches --listing beside.s
+listing other.s 'stdw [r10-8], 1;jeq r1, 0, on;stw [r2-4], 1;on: ldxdw r0, [r10-8];exit'
+tells 0 "exited at 4: r0 0x1\n-2 ${frame}-4 0x2000001f8:8 = 0x1; 0: stdw [r10-8], 1\nno other branch$start" origin --branches --listing other.s
+listing inner.s 'stdw [r10-8], 1;callf f;ja on;on: ldxdw r0, [r10-8];exit;f: jeq r1, 0, out;stdw [r10-8], 2;out: exit'
+tells 0 "exited at 4: r0 0x1\n-2 ${frame}-7 0x2000001f8:8 = 0x1; 0: stdw [r10-8], 1\nno other branch$start" origin --branches --listing inner.s
+# In a function that returned: its verdict, an edit in it, r0 of its caller, not one of its own registers; and what is handed to a function.
+listing returned.s 'callf f;exit;f: mov r0, 5;jeq r1, 0, out;mov r0, 6;out: exit'
+tells 0 "exited at 1: r0 0x5\n-4 r0 = 0x5; 2: mov r0, 5\nkept: -3 3: jeq r1, 0, L5; r1 = 0x0; jumped to 5\nno other branch$start" origin --branches --listing returned.s
+printf 'stepi 2\nset pc 5\ncontinue\n' > skipped
+tells 0 "exited at 1: r0 0x5\n-4 r0 = 0x5; 2: mov r0, 5\nkept: -3 edit; then at 5\nno other branch$start" origin --branches --script skipped --listing returned.s
+listing shared.s 'mov r0, 1;callf f;exit;f: jeq r1, 0, out;mov r0, 2;out: exit'
+tells 0 "exited at 2: r0 0x1\n-5 r0 = 0x1; 0: mov r0, 1\nkept: -3 3: jeq r1, 0, L5; r1 = 0x0; jumped to 5\nno other branch$start" origin --branches --listing shared.s
+listing own.s 'mov r6, 1;callf f;mov r0, r6;exit;f: jeq r1, 0, out;mov r6, 2;out: exit'
+tells 0 "exited at 3: r0 0x1\n-2 r0 = 0x1; 2: mov r0, r6; from r6\n-6 r6 = 0x1; 0: mov r6, 1\nno other branch$start" origin --branches --listing own.s
+listing given.s 'mov r6, 1;jeq r1, 0, on;mov r6, 2;on: callf f;exit;f: mov r0, r6;exit'
+tells 0 "exited at 4: r0 0x1\n-3 r0 = 0x1; 5: mov r0, r6; from r6 at depth 1\n-6 r6 = 0x1; 0: mov r6, 1\nkept: -5 1: jeq r1, 0, L3; r1 = 0x0; jumped to 3\nno other branch$start" \
+    origin --branches --listing given.s
+# Loops: the branch that left one kept the value from its next turn, which would have read it itself; each of its turns may have kept it.
+listing turns.s 'loop: mov r3, 0;jeq r2, 0, use;mov r3, 1;use: mov r0, r3;add r1, 1;jlt r1, 2, loop;exit'
+tells 0 "exited at 6: r0 0x0\n-4 r0 = 0x0; 3: mov r0, r3; from r3\n-6 r3 = 0x0; 0: mov r3, 0\nkept: -2 5: jlt r1, 2, L0; r1 = 0x2; went on\nkept: -5 1: jeq r2, 0, L3; r2 = 0x0; jumped to 3\n-7 5: jlt r1, 2, L0; r1 = 0x1; jumped to 0\nno other branch$start" \
+    origin --branches --listing turns.s
+listing search.s 'loop: add r1, 1;jeq r1, 7, found;jlt r1, 2, loop;ja out;found: mov r0, 1;out: exit'
+tells 0 "exited at 5: r0 0x0\nleft r0 = 0x0${start}kept: -3 2: jlt r1, 2, L0; r1 = 0x2; went on\nkept: -4 1: jeq r1, 7, L4; r1 = 0x2; went on\nkept: -7 1: jeq r1, 7, L4; r1 = 0x1; went on\nno other branch$start" \
+    origin --branches --listing search.s
+tells 0 "exited at 2: r0 0x3\n-3 r0 = 0x3; 0: add r0, 1; from r0\n-5 r0 = 0x2; 0: add r0, 1; from r0\n-7 r0 = 0x1; 0: add r0, 1; from r0\nleft r0 = 0x0${start}kept: -2 1: jlt r0, 3, L0; r0 = 0x3; went on\n-4 1: jlt r0, 3, L0; r0 = 0x2; jumped to 0\n-6 1: jlt r0, 3, L0; r0 = 0x1; jumped to 0\nno other branch$start" \
+    origin --branches --listing until.s
 
 # Calls: what a function decides doesn't count for its caller; in it the branches of its caller follow. Recursion; seven calls deep.
 listing calls.s 'jeq r1, 0, skip;exit;skip: callf f;exit;f: jeq r0, 0, in;exit;in: mov r0, 7;exit'

@@ -55,7 +55,7 @@ way() {
     grep -q "^sed '$2s/.*' $1\.c | " shown/command-* || complain "examples/README.md: no mend of line $2 of $1.c"
     verdict_of "$1" > wrong
     verdict_of "$1-mended" > right
-    [ "$(cat wrong right | grep -c -x '0x[0-9a-f]*')" -eq 2 ] && ! cmp -s wrong right || complain "examples/README.md: the verdicts of $1.c"
+    [ "$(cat wrong right | grep -c -x '0x[0-9a-f]* [A-Z_]*')" -eq 2 ] && ! cmp -s wrong right || complain "examples/README.md: the verdicts of $1.c"
 }
 
 # six_bugs: those of the section '## bugs of XDP and tc', whose commands are typed in order in one folder.

@@ -504,7 +504,9 @@ tells_maps() {
     shift 2
     : > script
     run diff "$@"
-    grep -e ' ends otherwise: ' -e '^[<>].* in [a-z]*\[[0-9]\]$' -e '^[<>] not written$' -e '^same ' found/out | sed 's/; [0-9]*: \(call 2\|stxdw\)[^;]*;.* in / in /; s/^same for [0-9]* steps$/same steps/; s/^\([<>]\) -1 \(r0 = 0x0; \)*/\1 /' > told
+    # (without places in C)
+    sed 's/; in entry ([a-z]*\.c:[0-9]*)$//' found/out > bare
+    grep -e ' ends otherwise: ' -e '^[<>].* in [a-z]*\[[0-9]\]$' -e '^[<>] not written$' -e '^same ' bare | sed 's/; [0-9]*: \(call 2\|stxdw\)[^;]*;.* in / in /; s/^same for [0-9]* steps$/same steps/; s/^\([<>]\) -1 \(r0 = 0x0; \)*/\1 /' > told
     mv told found/out
     compare "bpfdb diff $*"
 }

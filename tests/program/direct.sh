@@ -33,7 +33,7 @@ session 'debug --object' 'stepi 13\nx 0x300000000 8\nundo\n' \
     '13 forward; done; at 1: ldmapval r2, 0, 0\n0x300000000: 0100000000000000\n13 back; done; at 0: ja32 L12\n' debug --object point.o
 
 # alike SUBCOMMAND OPTIONS LINK OBJECT [WHAT]: the subcommand with these options does of the object, linked with the options LINK, what it does of the linked words.
-# (Only `origin` tells more of an object, the name of a place in a map at the end of a line, which the part `names` looks at.)
+# (Only `origin` and `trace` tell more of an object: the name of a place in a map, which the part `names` looks at, and where a line stands in C.)
 alike() {
     subcommand=$1 options=$2 asked=$3 object=$4
     shift 4
@@ -42,7 +42,9 @@ alike() {
     "$program" $subcommand $options $(grep '^--maps ' told) linked.bin "$@" < script > wanted/out 2> wanted/err
     echo $? > wanted/status
     run $subcommand $options --object $asked $object "$@"
-    [ "$subcommand" != origin ] || sed -i 's/; in [^;]*$//; s/; initial value of [^;]*$//' found/out
+    case $subcommand in
+    origin | trace) sed -i 's/; in [^;]*$//; s/; initial value of [^;]*$//' found/out ;;
+    esac
     compare "bpfdb $subcommand $options --object $asked $object $*"
 }
 

@@ -77,6 +77,11 @@ tells 0 '{"kind":"exited","slot":2,"r0":"0x9"}
 {"kind":"left","byte":0,"since":"opening","parts":[{"part":"0x100000000:1","value":"0x9"}]}
 {"kind":"move","moves":3,"slot":0,"insn":"jeq r1, 0, L3","way":"went on","parts":[{"part":"r1","value":"0x100000000"}]}
 {"kind":"text","text":"no other branch; at the opening"}\n' origin --json --branches -m context --listing first.s
+listing kept.s 'mov r0, 1;jeq r2, 0, on;mov r0, 2;on: exit'
+tells 0 '{"kind":"exited","slot":3,"r0":"0x1"}
+{"kind":"move","moves":3,"slot":0,"insn":"mov r0, 1","parts":[{"part":"r0","value":"0x1"}]}
+{"kind":"kept","moves":2,"slot":1,"insn":"jeq r2, 0, L3","way":"jumped","to":3,"parts":[{"part":"r2","value":"0x0"}]}
+{"kind":"text","text":"no other branch; at the opening"}\n' origin --json --branches --listing kept.s
 # Bytes of the first frame, and of one that a call entered, that nothing wrote.
 listing unset.s 'ldxw r0, [r10-4];exit'
 tells 0 '{"kind":"exited","slot":1,"r0":"0x0"}

@@ -45,7 +45,8 @@ lacks() {
         'out of memory' | 'refused A7: out of memory' | 'refused C13: out of memory' | 'refused O2: out of memory' | \
             'refused J2: out of memory' | 'refused E26: out of memory' | 'refused E26: out of memory (--with)' | \
             'refused E26: out of memory (--with, object 2)' | 'refused E26: out of memory (the object in line 1)' | \
-            'refused A7: out of memory (the other run)' | 'refused C13: out of memory (the other run)' | 'refused O2: out of memory (the other run)')
+            'refused A7: out of memory (the other run)' | 'refused C13: out of memory (the other run)' | 'refused O2: out of memory (the other run)' | \
+            'refused E26: out of memory (the other run)')
             echo "$line" >> met ;;
         *) line='out of memory' more=none ;;
     esac
@@ -195,7 +196,7 @@ wants "$plain$e26$c13" 0 'mov r0, 7\nexit\n' '' disasm --object text.o
 wants "$plain$e26" 0 '0 - entry\n1 - entry\n' '' lines --object text.o
 wants "$plain$e26$c13$o2" 0 '1 0: mov r0, 7; r0 = 0x7\n2 1: exit\nexited at 1: r0 0x7\n' '' trace --object text.o
 wants "$plain$e26$c13$o2$j2" 0 'exited at 1: r0 0x7\n-2 r0 = 0x7; 0: mov r0, 7\n' '' origin --object text.o
-wants "$plain$e26$c13$o2$others" 0 'same for 2 steps\nexited at 1: r0 0x7\n' '' diff --object --other-mem context text.o
+wants "$plain$e26$c13$o2${others}refused E26: out of memory (the other run)\n" 0 'same for 2 steps\nexited at 1: r0 0x7\n' '' diff --object --other-mem context text.o
 wants "$plain$e26$c13$o2$j2" 0 'exited at 1: r0 0x7\nit was reached 2 moves back\n' '' whynot --object text.o 0
 wants "$plain$e26$c13$o2$j2" 0 'exited at 1: r0 0x7\nit was reached 2 moves back\n' '' whynot --object text.o entry
 wants "$plain$e26$c13$o2$j2" 0 '' '' debug --journal 1024 --object text.o
@@ -212,11 +213,18 @@ if has_clang 'link --with where memory is refused'; then
     wants "$plain$e26${of_functions}refused E26: out of memory (--with, object 2)\n" 0 "$(text table)" '' \
         lines --object --with functions.o --with twice.o --section time program.o
 fi
-# The places of branches in C, which are looked up before the run.
-if has_clang 'trace --branches --object where memory is refused'; then
+# Places in C, which are looked up before the run.
+if has_clang 'trace --object where memory is refused'; then
     clang -g -O2 -target bpf -c "$parts/places/branches.c" -o branches.o 2> found/err || complain "branches.c: $(cat found/err)"
-    "$program" trace --branches --object --entry entry -m context branches.o > table
-    wants "$plain$e26$c13$o2" 0 "$(text table)" '' trace --branches --object --entry entry -m context branches.o
+    for asked in trace 'trace --branches' 'trace --profile'; do
+        # (words without blanks)
+        # shellcheck disable=SC2086
+        "$program" $asked --object --entry entry -m context branches.o > table
+        # shellcheck disable=SC2086
+        wants "$plain$e26$c13$o2" 0 "$(text table)" '' $asked --object --entry entry -m context branches.o
+    done
+    "$program" diff --alone --object --entry entry -m context --other-mem context branches.o > table
+    wants "$plain$e26$c13$o2${others}refused E26: out of memory (the other run)\n" 0 "$(text table)" '' diff --alone --object --entry entry -m context --other-mem context branches.o
 fi
 # Programs in turn.
 if has_clang 'link --entry where memory is refused'; then

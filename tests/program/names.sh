@@ -103,14 +103,14 @@ for compiler in $compilers; do
     "$compiler" -g -O2 -target bpf -c "$parts/names/parted.c" -o parted.o 2> found/err || complain "parted.c: $(cat found/err)"
     "$program" diff --object -m four --other-mem five parted.o > found/out 2> found/err
     count=$((count + 4))
-    grep -q '^< -1 0x300000018:8 = 0x1; [0-9]*: stxdw .*; from r[0-9]; in totals\[1\]\.length$' found/out || complain "what a run gave a variable: $(cat found/out found/err)"
-    grep -q '^> -1 0x300000018:8 = 0x2; [0-9]*: stxdw .*; from r[0-9]; in totals\[1\]\.length$' found/out || complain "what the other run gave it: $(cat found/out)"
+    grep -q '^< -1 0x300000018:8 = 0x1; [0-9]*: stxdw .*; from r[0-9]; in totals\[1\]\.length; in entry (parted\.c:9)$' found/out || complain "what a run gave a variable: $(cat found/out found/err)"
+    grep -q '^> -1 0x300000018:8 = 0x2; [0-9]*: stxdw .*; from r[0-9]; in totals\[1\]\.length; in entry (parted\.c:9)$' found/out || complain "what the other run gave it: $(cat found/out)"
     "$program" diff --writes --object -m four --other-mem five parted.o > found/out 2> found/err
-    grep -q '^< -1 0x300000000:8 = 0x4; [0-9]*: stxdw .*; from r[0-9]; in totals\[0\]\.first$' found/out || complain "what a run left: $(cat found/out found/err)"
-    grep -q '^> -1 0x300000000:8 = 0x5; [0-9]*: stxdw .*; from r[0-9]; in totals\[0\]\.first$' found/out || complain "what the other run left: $(cat found/out)"
+    grep -q '^< -1 0x300000000:8 = 0x4; [0-9]*: stxdw .*; from r[0-9]; in totals\[0\]\.first; in entry (parted\.c:10)$' found/out || complain "what a run left: $(cat found/out found/err)"
+    grep -q '^> -1 0x300000000:8 = 0x5; [0-9]*: stxdw .*; from r[0-9]; in totals\[0\]\.first; in entry (parted\.c:10)$' found/out || complain "what the other run left: $(cat found/out)"
     "$program" diff --json --object -m four --other-mem five parted.o > found/out 2> found/err
     count=$((count + 1))
-    grep -q '^{"kind":"move","side":"<","moves":1,.*,"name":"totals\[1\]\.length","parts":\[{"part":"0x300000018:8","value":"0x1"}\]}$' found/out || complain "a name of a run as JSON: $(cat found/out found/err)"
+    grep -q '^{"kind":"move","side":"<","moves":1,.*,"name":"totals\[1\]\.length","function":"entry","file":"parted.c","line":9,"parts":\[{"part":"0x300000018:8","value":"0x1"}\]}$' found/out || complain "a name of a run as JSON: $(cat found/out found/err)"
     "$compiler" -O2 -target bpf -c "$parts/names/parted.c" -o parted-plain.o 2> found/err || complain "parted.c: $(cat found/err)"
     "$program" diff --object -m four --other-mem five parted-plain.o > found/out 2> found/err
     count=$((count + 1))

@@ -76,7 +76,7 @@ struct xdp_md { unsigned data, data_end, data_meta, ingress_ifindex, rx_queue_in
 __attribute__((section("xdp"))) int length(struct xdp_md *packet) { return packet->data_end - packet->data; }
 C
     clang -g -O2 -target bpf -c -o length.o length.c 2> found/err || complain "length.c: $(cat found/err)"
-    result '0x3\n' run --struct xdp --regs r3=5 -m three length.o
+    result '0x3 XDP_TX\n' run --struct xdp --regs r3=5 -m three length.o
 fi
 
 # A trace: the values are there, and no step wrote them.

@@ -24,9 +24,23 @@ everywhere() {
     done
     alike "$1" 'whynot --alone' 0
     context=''
-    for subcommand in check load lines disasm 'load --json'; do
+    for subcommand in check lines disasm; do
         alike "$1" "$subcommand"
     done
+    loads "$1" ''
+    loads "$(printf '%b' "$1" | sed 's/^other than Linux: \([^ ]*\) \(.*\)/{"kind":"differs","name":"\1","how":"\2"}\\n/')" --json
+}
+
+# loads NOTE OPTION: `load` has the note in its answer, behind the maps, and says nothing on standard error.
+loads() {
+    # (words without blanks)
+    # shellcheck disable=SC2086
+    BPFDB_LINUX='' "$program" load $2 $said "$object" > wanted/made 2> wanted/err
+    echo $? > wanted/status
+    awk -v note="$(printf '%b' "$1")" '!told && !/^(ok|map) / && !/^\{"kind":"(ok|map)"/ { told = 1; if (note != "") print note } { print }' wanted/made > wanted/out
+    # shellcheck disable=SC2086
+    run load $2 $by_itself "$object"
+    compare "load $2 $by_itself $object"
 }
 
 # linked WANTED OPTION..: `link` writes these words, and says the same.
@@ -55,27 +69,48 @@ for compiler in $compilers; do
 
     # A type that wasn't seen before: XDP_DROP, 1; a frame that ends before it: XDP_ABORTED, 0.
     object=seen.o by_itself='--entry first' said='--entry first --struct xdp --with library.o'
-    result '0x1\n' run --entry first -m frame seen.o
-    result '0x0\n' run --entry first -m other seen.o
+    result '0x1 XDP_DROP\n' run --entry first -m frame seen.o
+    result '0x0 XDP_ABORTED\n' run --entry first -m other seen.o
     everywhere ''
     linked --entry first
     # In turn, on one packet: the second one finds what the first one stored, XDP_PASS, 2.
-    result '0x2\n' run --entry first --entry first --struct xdp -m frame seen.o
+    result '0x2 XDP_PASS\n' run --entry first --entry first --struct xdp -m frame seen.o
     # The struct may be said; none is refused as before.
-    result '0x1\n' run --entry first --struct xdp -m frame seen.o
+    result '0x1 XDP_DROP\n' run --entry first --struct xdp -m frame seen.o
     refused "refused E55: entry takes the kernel's own struct of a packet: --struct, in tests -- struct, gives it one of the machine's: first" run --entry first --struct none -m frame seen.o
 
     # A helper that answers otherwise is told wherever the program calls it, and there alone; --faithful refuses it.
     by_itself='--entry routed' said='--entry routed --struct xdp --with library.o'
-    row 'a route' 0 '' '0x4\n' "$note" run --entry routed -m frame seen.o
+    row 'a route' 0 '' '0x4 XDP_REDIRECT\n' "$note" run --entry routed -m frame seen.o
     everywhere "$note"
     faithful='refused F4: what it calls answers otherwise than in Linux: leave --faithful out\n'
     for subcommand in run trace debug origin gdb check load link disasm lines; do
         row "$subcommand --faithful" 2 '' '' "$note$faithful" $subcommand --entry routed --faithful seen.o
     done
-    result '0x1\n' run --entry first --faithful -m frame seen.o
+    result '0x1 XDP_DROP\n' run --entry first --faithful -m frame seen.o
     # It is the library's own table: of an object of --with nothing is told.
-    result '0x4\n' run --entry routed --with library.o -m frame seen.o
+    result '0x4 XDP_REDIRECT\n' run --entry routed --with library.o -m frame seen.o
+
+    # A verdict is told by its name, if it has one: programs that answer the packet's first four bytes.
+    "$compiler" -g -O2 -target bpf -c "$parts/road/verdicts.c" -o verdicts.o 2> found/err || complain "$compiler: verdicts.c: $(cat found/err)"
+    for row in 'xdp 00 0x0 XDP_ABORTED' 'xdp 01 0x1 XDP_DROP' 'xdp 02 0x2 XDP_PASS' 'xdp 03 0x3 XDP_TX' 'xdp 04 0x4 XDP_REDIRECT' 'xdp 05 0x5' \
+        'tc 00 0x0 TC_ACT_OK' 'tc 01 0x1 TC_ACT_RECLASSIFY' 'tc 02 0x2 TC_ACT_SHOT' 'tc 03 0x3 TC_ACT_PIPE' 'tc 04 0x4 TC_ACT_STOLEN' \
+        'tc 05 0x5 TC_ACT_QUEUED' 'tc 06 0x6 TC_ACT_REPEAT' 'tc 08 0x8 TC_ACT_TRAP' 'tc 09 0x9' 'tc 07 0x7 TC_ACT_REDIRECT'; do
+        # shellcheck disable=SC2086
+        set -- $row
+        bytes verdict "$2" 00 00 00
+        result "$3${4:+ $4}\n" run --entry "$1_word" -m verdict verdicts.o
+    done
+    result '{"kind":"result","r0":"0x7","verdict":"TC_ACT_REDIRECT"}\n' run --json --entry tc_word -m verdict verdicts.o
+    bytes verdict ff ff ff ff
+    result '0xffffffffffffffff TC_ACT_UNSPEC\n' run --entry tc_word -m verdict verdicts.o
+    result '0xffffffffffffffff\n' run --entry xdp_word -m verdict verdicts.o
+    result '{"kind":"result","r0":"0xffffffffffffffff"}\n' run --json --entry xdp_word -m verdict verdicts.o
+    # (words don't tell that they take a struct, and a program that stops has no verdict)
+    "$program" link --entry xdp_word verdicts.o > verdicts.bin 2> told
+    bytes verdict 02 00 00 00
+    result '0x2\n' run -m verdict verdicts.bin
+    row 'a limit' 1 '' '' 'step limit 3 reached at 3\n' run --steps 3 --entry xdp_word -m verdict verdicts.o
 
     # A loop that reads the end of the packet anew in each round, over orders to four maps. r0's digits are their answers: wholes[1] is 1, and 2 when it was
     # added to, deleted, and then isn't there (-2, the digit e); words[1] is 6. table[2] is 1, and there is no table[9] (9); recent[3] is 4, there is no
@@ -106,6 +141,27 @@ for compiler in $compilers; do
     linked
     everywhere ''
 
+    # In a file of tests it is joined, too, unless what the program calls answers otherwise.
+    # tested ENTRY HEADS RESULT: such a file.
+    tested() {
+        printf -- "-- object seen.o\n-- entry $1\n$2-- mem-file frame\n-- result\n$3\n" > seen.test
+    }
+    tested first '' 1
+    result '1..1\nok 1\n' test seen.test
+    tested first '' 2
+    row 'a test of another verdict' 1 '' "1..1\nnot ok 1\n# the test in line 1\n# came: exited at 12: r0 0x1\n# wanted: result 2\n# debug: bpfdb-show '' 'seen.test'\n" '' test seen.test
+    tested routed '' 4
+    run test seen.test
+    count=$((count + 1))
+    grep -q '^refused E25 at slot [0-9]*: unknown helper 69 (bpf_fib_lookup): .* (the object in line 1)$' found/err || complain "a test of a helper that answers otherwise: $(cat found/out found/err)"
+    tested routed '-- with library.o\n' 4
+    result '1..1\nok 1\n' test seen.test
+    tested first '' 1
+    for BPFDB_LINUX in '' nowhere.o; do
+        row "a test with the library '$BPFDB_LINUX'" 2 '' '' 'refused E50: map is a hash, and no array: seen (the object in line 1)\n' test seen.test
+    done
+    BPFDB_LINUX=$PWD/library.o
+
     # Where it isn't joined: it isn't wanted, or isn't there, or can't be read. Who needs it not doesn't miss it.
     lacks='refused E50: map is a hash, and no array: seen\n'
     row 'without Linux' 2 '' '' "$lacks" run --entry first --no-linux -m frame seen.o
@@ -125,12 +181,12 @@ for compiler in $compilers; do
     row 'beside nothing' 2 '' '' "$missing$lacks" run --entry first -m frame seen.o
     result '0x3\n' run -m word plain.o
     cp library.o place/share/bpfdb/bpfdb-linux.o
-    result '0x1\n' run --entry first -m frame seen.o
+    result '0x1 XDP_DROP\n' run --entry first -m frame seen.o
     mv place/share/bpfdb/bpfdb-linux.o place/bin/bpfdb-linux.o
-    result '0x1\n' run --entry first -m frame seen.o
+    result '0x1 XDP_DROP\n' run --entry first -m frame seen.o
     (cd place/bin && ln -s "$own" linked && PATH=$PWD:$PATH && bpfdb run --entry first -m ../../frame ../../seen.o) > found/out 2>&1
     count=$((count + 1))
-    [ "$(cat found/out)" = 0x1 ] || complain "by the name on the PATH: $(cat found/out)"
+    [ "$(cat found/out)" = '0x1 XDP_DROP' ] || complain "by the name on the PATH: $(cat found/out)"
     program=$own
     rm -r place
 
@@ -152,7 +208,7 @@ for compiler in $compilers; do
         "$objcopy" --update-section .bpfdb.differs=table hostile.o 2> found/err || complain "objcopy: $(cat found/err)"
         BPFDB_LINUX=hostile.o "$program" run --entry routed -m frame seen.o > found/out 2> found/err
         count=$((count + 1))
-        { [ "$(cat found/out)" = 0x4 ] && ! grep -q "$(printf '\033')" found/err; } || complain "a table of $size bytes: $(cat -v found/out found/err)"
+        { [ "$(cat found/out)" = '0x4 XDP_REDIRECT' ] && ! grep -q "$(printf '\033')" found/err; } || complain "a table of $size bytes: $(cat -v found/out found/err)"
     done
 done
 export BPFDB_LINUX=

@@ -1,10 +1,11 @@
-"""The branches that decided that the value of r0 came about, and that a program came to where it stands: small programs at random, each run or
-script, against a model.
+"""The branches that decided that the value of r0 came about, and that a program came to where it stands, and those that kept r0 as it was: small
+programs at random, each run or script, against a model.
 
 branches.py BPFDB COUNT [SEED]: so many programs of two to six slots. Tells where an answer is another than the model's; the last line counts. The
 model lists each way of a function that comes to no slot twice, from both ways out of a branch, and sees which of them come to the slot. It gathers
 what is to be explained, as a set: where the program stands, each move of the value, and of each of these the latest branch of its call that decided
-it, or else what explains the call. It asks bpfdb for nothing but what it compares."""
+it, or else what explains the call. A branch kept r0 if from the other side of it a way leads to an instruction that writes r0 and comes first to no
+slot that is told next of the same call, and from where it went none does. It asks bpfdb for nothing but what it compares."""
 import os
 import sys
 import tempfile
@@ -91,6 +92,40 @@ def branches(machine):
     return sorted(found, reverse=True)
 
 
+def comes_to_write(program, slot, wall, before=()):
+    """A way without a slot that comes twice leads to an instruction that writes r0, and not over the wall."""
+    if slot in before or slot == wall:
+        return False
+    kind = program.insns[slot][0]
+    return kind in ('mov', 'add', 'load', 'wide') or any(comes_to_write(program, on, wall, before + (slot,)) for on in ways_on(program, slot))
+
+
+def kept(machine, decided):
+    """The moves that kept r0, by their numbers from 0. Of each call the wall is the oldest slot that is told."""
+    program, moves = machine.program, machine.moves
+    states = [before for before, _, _ in moves] + [machine.state]
+    call = calls(states)
+    wall, found, made = {call[-1]: states[-1][0]}, [], list(values(machine))
+    last = made[-1] if made and not adds(machine, made[-1]) else -1
+    for number in range(len(moves) - 1, -1, -1):
+        slot, went, here = states[number][0], states[number + 1][0], call[number]
+        begins = call[number + 1] == number + 1 and call[number + 1] in wall
+        others = [slot] if not moves[number][1] else [on for on in ways_on(program, slot) if on != went] if program.insns[slot][0] in CONDITIONS else []
+        keeps = (number > last and any(comes_to_write(program, on, wall.get(here)) for on in others)
+                 and not comes_to_write(program, went, wall.get(here)))
+        if number in made or begins or number in decided:
+            wall[here] = slot
+        elif keeps:
+            found.append(number)
+            wall[here] = slot
+    return found
+
+
+def adds(machine, number):
+    (slot, _, _, _), is_step, _ = machine.moves[number]
+    return is_step and machine.program.insns[slot][0] == 'add'
+
+
 def text(machine, number):
     slot, _, r0, _ = machine.moves[number][0]
     after = machine.moves[number + 1][0] if number + 1 < len(machine.moves) else machine.state
@@ -108,9 +143,11 @@ def main():
         words, path = os.path.join(folder, 'words'), os.path.join(folder, 'script')
         for seed, chance in trials(sys.argv):
             machine, how, _ = some_machine(chance, words, path, 0.6)
-            found = branches(machine)
-            told += len(found)
-            wanted = run(bpfdb, 'origin', *how, words, 'r0') + ''.join(text(machine, number) for number in found) + 'no other branch; at the opening\n'
+            decided = branches(machine)
+            lines = {number: text(machine, number) for number in decided} | {number: 'kept: ' + text(machine, number) for number in kept(machine, decided)}
+            told += len(lines)
+            branches_told = ''.join(lines[number] for number in sorted(lines, reverse=True))
+            wanted = run(bpfdb, 'origin', *how, words, 'r0') + branches_told + 'no other branch; at the opening\n'
             answer = run(bpfdb, 'origin', '--branches', *how, words, 'r0')
             if answer != wanted:
                 failed += 1

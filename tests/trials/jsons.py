@@ -51,7 +51,7 @@ REPORT = [
     row("missed", r"# never (?P<never>ran|jumped|went on): (?P<slot>\d+): (?P<insn>.*)"),
 ]
 TABLES = {
-    "run": [row("result", r"(?P<r0>.*)")],
+    "run": [row("result", r"(?P<r0>[^ ]*) (?P<verdict>.*)"), row("result", r"(?P<r0>.*)")],
     "profile": [row("ran", r"(?P<count>\d+) (?P<slot>\d+): (?P<insn>.*)")] + PLACES,
     "check": [row("ok", r"ok (?P<instructions>\d+) instructions in (?P<slots>\d+) slots")],
     "disasm": [row("label", r"(?P<label>L\d+):"), row("insn", r"(?P<insn>.*)")],
@@ -110,6 +110,8 @@ def of_run(line):
         return {"kind": "step", "step": int(m[1]), "slot": int(m[2]), "insn": m[3], **moved(m[4])}
     if m := re.fullmatch(r"-(\d+) (.*)", line):
         return {"kind": "move", "moves": int(m[1]), **moved(m[2])}
+    if m := re.fullmatch(r"kept: -(\d+) (.*)", line):
+        return {"kind": "kept", "moves": int(m[1]), **moved(m[2])}
     if m := re.fullmatch(r"left (.*)", line):
         return {"kind": "left", **moved(m[1])}
     if m := re.fullmatch(r"(\d+) (.*)", line):
