@@ -370,8 +370,23 @@ ROWS
 cat stacks
 
 # Little memory of all kinds: the work is done, or one line says that memory ran out.
-# squeezed ROOMS ARGUMENT..: so it is in each of these address spaces, in kB, with `script` as input. 50,000 are enough. (Where it is below 4,100 the system
-# may not be able to load the program, which then has status 127.)
+# loads ROOM: the system can load the program in an address space of so many kB. What it can't load has status 127.
+loads() {
+    (
+        ulimit -v "$1"
+        exec "$program" --version
+    ) > found/out 2> found/err
+    [ $? -ne 127 ]
+}
+# least_room: the least one of those, by steps of 25 kB. It grows with the program.
+least_room() {
+    for room in $(seq 3000 25 6000); do
+        loads "$room" && break
+    done
+    echo "$room"
+}
+least_room=$(least_room)
+# squeezed ROOMS ARGUMENT..: so it is in each of these address spaces, in kB, with `script` as input. 50,000 are enough.
 squeezed() {
     rooms=$1
     shift
@@ -387,7 +402,7 @@ squeezed() {
         line=$(cat found/err)
         case $found,$room,$line in
             "$wanted",*,) cmp -s whole found/out && continue ;;
-            127,3???,* | 127,40??,*) continue ;;
+            127,*) [ "$room" -ge "$least_room" ] || continue ;;
             2,50000,*) ;;
             2,*,'out of memory' | 2,*,'refused '[ACEOJ]*': out of memory' | 2,*,'refused '[ACO]*': out of memory (the other run)')
                 [ -s found/out ] || continue ;;
@@ -400,7 +415,7 @@ squeezed() {
 # takes address space, too: what needs more of it than is left would be ended by a signal, between where the program can be loaded and where all fits.)
 printf 'loop: add r0, 2\njlt r0, 3, loop\nexit\n' > further.s
 printf 'continue\n' > path
-little=$(seq 3000 25 4100)
+little=$(seq $((least_room - 100)) 25 $((least_room + 50)))
 # (the stacks of gdb and of origin behind a script grow by more than the others', and what is left of some 4,500 kB, more or less by what the system's own
 # libraries take, hasn't room for that)
 grown=$(seq 5000 25 5125)
