@@ -9,3 +9,4 @@ mod tracefile;
 
 pub use coverage::Coverage;
 pub use places::is_table;
+pub use texts::Texts;

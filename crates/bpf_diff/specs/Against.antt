@@ -11,6 +11,7 @@ use Rattle.bpf_trace.specs.Runs.{steps_of}
 use Rattle.bpf_trace.specs.Traces.{end_line, step_line}
 use Rattle.bpfdb_script.specs.Shown.{shown}
 use Rattle.input_texts.specs.TraceForms.{is_told, number, words_of}
+use Rattle.bpf_diff.specs.Differences.{heading}
 use Rattle.bpf_diff.specs.Writers.{behind}
 use Rattle.input_texts.specs.declared.trace_form.Form.{Form}
 use Rattle.input_texts.specs.declared.trace_form.Form.TheVariants.{Steps, Registers}
@@ -84,9 +85,6 @@ details Steps before x line = []
 details Registers before x line = differences before x 0 (entries_of line)
 
 -- What is told behind n steps that agree: of the next one, if the run takes it, and the next line, if there is one; else of the end.
-unfoldable pub heading : ℕ → List ℕ → List ℕ
-heading k what = codes "step " ++ decimal k ++ what
-
 abbrev pub end_here : ℕ → State → List ℕ
 end_here limit y = codes "< " ++ end_line limit y
 

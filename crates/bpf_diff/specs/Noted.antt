@@ -11,7 +11,8 @@ use Rattle.bpf_origin.specs.declared.place.Place.TheVariants as place
 use Rattle.bpf_trace.specs.Runs.{steps_of}
 use Rattle.bpf_trace.specs.Taken.{Took}
 use Rattle.bpf_trace.specs.declared.taken.Taken.{Taken}
-use Rattle.bpf_diff.specs.Against.{agreed, details, heading, here, says, there}
+use Rattle.bpf_diff.specs.Against.{agreed, details, here, says, there}
+use Rattle.bpf_diff.specs.Differences.{heading}
 use Rattle.bpf_diff.specs.Writers.{last_step, last_writer, no_step}
 use Rattle.input_texts.specs.declared.trace_form.Form.{Form}
 use Rattle.input_texts.specs.declared.trace_form.Form.TheVariants.{Steps as Lines}

@@ -8,7 +8,7 @@ use Rattle.bpf_origin.specs.Places.{depth_for}
 use Rattle.bpf_origin.specs.Writes.{came_from, writes}
 use Rattle.bpf_origin.specs.declared.place.Place.{Place}
 use Rattle.bpf_origin.specs.declared.place.Place.TheVariants as place
-use Rattle.bpf_trace.specs.Texts.{slot_text}
+use Rattle.bpf_cover.specs.Texts.{slot_text}
 use Rattle.bpf_diff.specs.declared.told_writers.Writer.{Writer}
 
 -- A step by its number and its slot; 0 is the number of none.

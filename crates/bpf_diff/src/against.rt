@@ -12,10 +12,10 @@ ghost use Rattle.bpf_diff.specs.Noted.{AreNotes, Leaves, next_lines, otherwise_t
 ghost use Rattle.input_texts.specs.declared.trace_form.Form.TheVariants as form;
 
 use crate::against_ending::{
-    put_differences, put_end_here, put_heading, put_more, put_registers_here, put_same,
-    put_step_here, put_there,
+    put_differences, put_end_here, put_more, put_registers_here, put_same, put_step_here, put_there,
 };
 use crate::along::{Halt, follow_registers, follow_steps, is_line};
+use crate::lines::put_heading;
 use crate::told_writers::Notes;
 use bpf_machine::Cpu;
 use bpf_trace::{Taken, put_end};

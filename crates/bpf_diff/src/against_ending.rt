@@ -6,7 +6,7 @@ ghost use Rattle.bpf_steps.specs.State.{State, register};
 ghost use Rattle.bpf_trace.specs.Taken.{Took};
 ghost use Rattle.input_texts.specs.TraceForms.{is_told as is_told_of, number as number_told};
 ghost use Rattle.counted_io.specs.Writing.{WritesAfter, hexadecimal};
-ghost use Rattle.bpf_diff.specs.Against.{difference, differences, end_here, entries_of, entry as entry_of, entry_text, goes_on, heading, here, other_text, registers_from, same_text, there};
+ghost use Rattle.bpf_diff.specs.Against.{difference, differences, end_here, entries_of, entry as entry_of, entry_text, goes_on, here, other_text, registers_from, same_text, there};
 ghost use Rattle.bpf_diff.specs.Noted.{AreNotes};
 ghost use Rattle.bpf_diff.specs.Writers.{behind, writer_of};
 ghost use Rattle.input_texts.specs.declared.trace_form.Form.TheVariants.{Registers, Steps};
@@ -19,21 +19,6 @@ use bpfdb_script::{number_in, put_shown};
 use counted_io::{Counted, WriteFault, put, put_decimal, put_hexadecimal};
 use input_texts::{Words, is_told, number_of};
 use std::io::Write;
-
-/// Writes what happened at the step with a number.
-pub fn put_heading<W: Write>(
-    writer: &mut Counted<W>,
-    so_far: Result<(), WriteFault>,
-    number: u64,
-    what: &[u8],
-) -> Result<(), WriteFault>
-    ensures { WritesAfter W.contents writer.old so_far writer.new result
-        (heading number what.now) }
-{
-    let begun = put(writer, so_far, b"step ");
-    let counted = put_decimal(writer, begun, number);
-    put(writer, counted, what)
-}
 
 /// Writes the line of a step here that led to where a machine stands, as `trace` has it.
 pub fn put_step_here<W: Write>(

@@ -1,15 +1,14 @@
 //! Two machines that go forward in step.
 ghost use Rattle.std.specs.Prelude.{◌≡◌, false};
 ghost use Rattle.bpf_entries.specs.Status.{has_ended};
-ghost use Rattle.bpf_steps.specs.Next.{next};
 ghost use Rattle.bpf_steps.specs.State.{State};
 ghost use Rattle.bpf_trace.specs.Taken.{Took};
 ghost use Rattle.bpf_diff.specs.Alike.{same_slot, same_writes};
 ghost use Rattle.bpf_diff.specs.Following.{Goes, Parts, are_together as are_together_of};
 
 use crate::wrote::{same_all, wrote_by};
-use bpf_machine::{Cpu, Ended};
-use bpf_trace::Taken;
+use bpf_machine::Cpu;
+use bpf_trace::{Taken, step_on};
 
 /// A step that both took.
 #[derive(Clone, Copy)]
@@ -62,8 +61,8 @@ pub fn go_together(first: &mut Cpu, second: &mut Cpu, most: u64) -> u64
         if !are_together(first, second) {
             return k;
         }
-        step(first);
-        step(second);
+        step_on(first);
+        step_on(second);
     }
     most
 }
@@ -86,17 +85,6 @@ pub fn take_step(cpu: &mut Cpu) -> Taken
     let change = cpu.look_on();
     cpu.commit(&change);
     Taken { slot, change }
-}
-
-/// Takes a step.
-fn step(cpu: &mut Cpu)
-    requires { has_ended cpu.old.status ≡ false }
-    ensures { cpu.new ≡ next cpu.old }
-{
-    match cpu.advance() {
-        Ok(()) => {}
-        Err(Ended) => unreachable!(),
-    }
 }
 
 /// Whether both machines, after a step that they took, wrote the same.

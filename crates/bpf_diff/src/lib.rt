@@ -26,6 +26,6 @@ pub use against::{Against, put_against};
 pub use diff::{Compared, put_diff};
 pub use marked::put_marked;
 pub use outputs::put_writes;
-pub use start::Start;
+pub use start::{Runs, Start};
 pub use texts::BothTexts;
 pub use values::Values;

@@ -16,7 +16,7 @@ use crate::diff::Compared;
 use crate::end::same_status;
 use crate::lines::put_ends;
 use crate::seen::{first_place, seen};
-use crate::start::Start;
+use crate::start::Runs;
 use crate::texts::BothTexts;
 use crate::values::value_left;
 use crate::writer::{find_writer, put_writer};
@@ -48,34 +48,35 @@ pub fn put_writes<W: Write>(
     texts: BothTexts<'_>,
     first: &mut Cpu,
     second: &mut Cpu,
-    start: &Start<'_>,
-    other: &Start<'_>,
-    limit: u64,
+    runs: &Runs<'_>,
 ) -> Result<Compared, AllocError>
-    requires first { Starts start.now first.old }
-    requires second { Starts other.now second.old }
+    requires first { Starts runs.now.first first.old }
+    requires second { Starts runs.now.second second.old }
     ensures text { IfOk result (λ compared. WritesAfter W.contents writer.old so_far writer.new
         compared.written
-        (by_writes texts.entry limit start.now.context.now other.now.context.now first.old second.old).text) }
+        (by_writes texts.entry runs.now.limit runs.now.first.context.now runs.now.second.context.now
+        first.old second.old).text) }
     ensures finds { IfOk result (λ compared. Finds compared
-        (by_writes texts.entry limit start.now.context.now other.now.context.now first.old second.old)) }
+        (by_writes texts.entry runs.now.limit runs.now.first.context.now runs.now.second.context.now
+        first.old second.old)) }
     ensures programs { IfOk result (λ compared. (first.new.program ≡ first.old.program)
         × (second.new.program ≡ second.old.program)) }
     ensures err { IfErr result (λ fault. writer.new ≡ writer.old) }
 {
+    let limit = runs.limit;
     let _one = first.run(limit);
     let _another = second.run(limit);
-    let place = match first_place(first, second, start.context, other.context) {
+    let place = match first_place(first, second, runs.first.context, runs.second.context) {
         Some(place) => place,
         None => return Ok(put_same(writer, so_far, first, second, limit)),
     };
     let value = seen(first, place);
     let other_value = seen(second, place);
-    let one = match find_writer(alloc, first, start, place, limit) {
+    let one = match find_writer(alloc, first, &runs.first, place, limit) {
         Ok(number) => number,
         Err(fault) => return Err(fault),
     };
-    let another = match find_writer(alloc, second, other, place, limit) {
+    let another = match find_writer(alloc, second, &runs.second, place, limit) {
         Ok(number) => number,
         Err(why) => return Err(why),
     };

@@ -5,7 +5,7 @@ ghost use Rattle.bpf_diff.specs.Writers.{last_step, no_step, register_writer, wr
 ghost use Rattle.bpf_origin.specs.Places.{depth_for};
 ghost use Rattle.bpf_steps.specs.State.{State, depth};
 ghost use Rattle.bpf_trace.specs.Taken.{Took};
-ghost use Rattle.bpf_trace.specs.Texts.{slot_text};
+ghost use Rattle.bpf_cover.specs.Texts.{slot_text};
 ghost use Rattle.counted_io.specs.Writing.{WritesAfter};
 
 use bpf_isa::Program;

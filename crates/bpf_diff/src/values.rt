@@ -6,9 +6,9 @@ ghost use Rattle.bpf_diff.specs.Alike.{wrote};
 ghost use Rattle.bpf_diff.specs.Following.{part_of, parts_of};
 ghost use Rattle.bpf_diff.specs.Values.{part_at, value_left, value_of};
 
-use crate::wrote::{Piece, Wrote, depth_in, wrote_by};
+use crate::wrote::{Piece, Wrote, wrote_by};
 use bpf_machine::Cpu;
-use bpf_origin::{Part, Parts, Place};
+use bpf_origin::{Part, Parts, Place, depth_for};
 use bpf_trace::Taken;
 
 /// Values of a run.
@@ -53,7 +53,7 @@ fn part_in(cpu: &Cpu, piece: Piece) -> Part
 {
     match piece {
         Piece::Register(number) => Part::Register {
-            depth: depth_in(cpu, number),
+            depth: depth_for(cpu.depth(), number),
             number,
         },
         Piece::Bytes { address, len } => Part::Bytes { address, len },

@@ -17,10 +17,10 @@ ghost use Rattle.counted_io.specs.Writing.{WritesAfter};
 use crate::follow::take_step;
 use crate::parting::put_rest;
 use crate::start::Start;
-use crate::wrote::{Piece, Wrote, depth_in, wrote_by};
+use crate::wrote::{Piece, Wrote, wrote_by};
 use bpf_machine::Cpu;
 use bpf_opening::reopen;
-use bpf_origin::Place;
+use bpf_origin::{Place, depth_for};
 use bpf_trace::Taken;
 use bpfdb_script::SlotTexts;
 use counted_io::{Counted, WriteFault, put};
@@ -112,7 +112,7 @@ fn is_in(cpu: &Cpu, piece: Piece, place: Place) -> bool
 {
     match (piece, place) {
         (Piece::Register(register), Place::Register { depth, number }) => {
-            depth_in(cpu, register) == depth && register == number
+            depth_for(cpu.depth(), register) == depth && register == number
         }
         (Piece::Bytes { address, len }, Place::Byte { address: at }) => is_within(address, len, at),
         (Piece::Word(word), Place::Word { index }) => word == index,

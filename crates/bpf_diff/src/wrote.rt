@@ -1,16 +1,13 @@
 //! What a step wrote, and whether another one wrote the same.
-ghost use Rattle.std.specs.Prelude.{◌≡◌, ◌-◌, length, slice_index};
+ghost use Rattle.std.specs.Prelude.{◌≡◌, ◌-◌, length};
 ghost use lib.Pointwise.{pointwise};
-ghost use Rattle.bpf_steps.specs.State.{depth};
-ghost use Rattle.bpf_origin.specs.Places.{depth_for, value};
-ghost use Rattle.bpf_origin.specs.declared.place.Place.TheVariants as place;
 ghost use Rattle.bpf_trace.specs.Taken.{parts_by};
 ghost use Rattle.bpf_diff.specs.Alike.{bytes_at, same_part};
 ghost use Rattle.bpf_diff.specs.Following.{part_of, parts_of};
 
 use bpf_entries::{FRAME_LEN, frame_base};
 use bpf_machine::{Change, Cpu};
-use bpfdb_script::number_in;
+use bpf_origin::{depth_for, register_at, word_at};
 
 /// A part that a step wrote.
 #[derive(Clone, Copy)]
@@ -120,41 +117,10 @@ fn same_register(first: &Cpu, second: &Cpu, one: u8, other: u8) -> bool
     ensures { result ≡ same_part first.now second.now (part_of first.now (Piece.Register one))
         (part_of second.now (Piece.Register other)) }
 {
-    let same = depth_in(first, one) == depth_in(second, other) && one == other;
-    same && value_in(first, one) == value_in(second, other)
-}
-
-/// The depth that a register of the present function counts as.
-pub fn depth_in(cpu: &Cpu, number: u8) -> usize
-    ensures { result ≡ depth_for (depth cpu.now) number }
-{
-    if number < 6 { 0 } else { cpu.depth() }
-}
-
-/// The number in a register of the present function.
-fn value_in(cpu: &Cpu, number: u8) -> u64
-    ensures { result ≡ value cpu.now (place.Register (depth_for (depth cpu.now) number) number) }
-{
-    present_at(cpu, number)
-}
-
-/// One of the present r0 to r9; 0 for another number.
-fn present_at(cpu: &Cpu, number: u8) -> u64
-    ensures { result ≡ slice_index cpu.now.registers number }
-{
-    cpu.invariant();
-    if number < 10 {
-        number_in(cpu, number)
-    } else {
-        0
-    }
-}
-
-/// The word at an index, 0 past the end.
-fn word_at(words: &[u64], index: usize) -> u64
-    ensures { result ≡ slice_index words.now index }
-{
-    words.get(index).copied().unwrap_or(0)
+    let depth = depth_for(first.depth(), one);
+    let other_depth = depth_for(second.depth(), other);
+    let same = depth == other_depth && one == other;
+    same && register_at(first, depth, one) == register_at(second, other_depth, other)
 }
 
 /// The bytes of memory from an address on, none where some of them aren't present.

@@ -9,7 +9,7 @@ use Rattle.bpf_lines.specs.Functions.{function_at}
 use Rattle.bpf_lines.specs.LineInfo.{line_at, line_entry, record_place}
 use Rattle.bpf_lines.specs.Passed.{said_by}
 use Rattle.bpf_lines.specs.Rows.{entry_word, line_word, row_by, row_text, with_row, word_of}
-use Rattle.bpf_lines.specs.Slots.{last_said}
+use Rattle.bpf_lines.specs.Slots.{last_said, line_since, said_of}
 use Rattle.bpf_lines.specs.declared.line_info.LineEntry.{LineEntry}
 use Rattle.bpf_lines.specs.declared.part_lines.PartLines.{PartLines}
 use Rattle.bpf_lines.specs.declared.rows.Said.{Said}
@@ -39,14 +39,18 @@ line_is strings listed block line b i entry e f g =
 pub row_parts : (front a b c d e f : List ℕ) → (((((front ++ a) ++ b) ++ c) ++ d) ++ e) ++ f ≡ front ++ (a ++ b ++ c ++ d ++ e ++ f)
 row_parts front a b c d e f = simp append_assoc refl
 
+-- the row of an instruction
+pub row_is : (plan : Plan) (told : PartLines) (words : List ℕ) (number : ℕ) (said : Said) → (slice_index words (8 * number) == 0) ≡ false
+    → row_text plan told number said ≡ row_by plan told words number said
+row_is plan told words number said e = sym (ap (λ b. if b then [] else row_text plan told number said) e)
+
 -- the row of what is said
-pub row_is : (plan : Plan) (told : PartLines) (words : List ℕ) (number : ℕ) (function line : Option ℕ) (said : Said)
-    → (slice_index words (8 * number) == 0) ≡ false → function ≡ said.function → line ≡ said.line
-    → row_text plan told number (record { function = function; line = line }) ≡ row_by plan told words number said
-row_is plan told words number function line said e f l =
-    ap (λ x. row_text plan told number (record { function = x; line = line })) f
-    ∙ ap (λ x. row_text plan told number (record { function = said.function; line = x })) l
-    ∙ sym (ap (λ b. if b then [] else row_text plan told number said) e)
+pub row_said : (plan : Plan) (part : Part) (told : PartLines) (words : List ℕ) (number : ℕ) (said last : Said)
+    → said.function ≡ said_of (function_at plan part.section) last.function → said.line ≡ line_since (line_at told.listed told.block) last.line last.function
+    → row_by plan told words number said ≡ row_by plan told words number (said_by plan part told last)
+row_said plan part told words number said last f l =
+    ap (λ x. row_by plan told words number (record { function = x; line = said.line })) f
+    ∙ ap (λ x. row_by plan told words number (record { function = said_of (function_at plan part.section) last.function; line = x })) l
 
 -- one more row
 pub row_more : (plan : Plan) (part : Part) (told : PartLines) (words : List ℕ) (first slot n : ℕ) (function line : Option ℕ) → n ≡ suc slot

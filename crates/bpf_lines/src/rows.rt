@@ -4,9 +4,9 @@ ghost use Rattle.counted_io.specs.Writing.{WritesAfter};
 ghost use Rattle.bpf_link.specs.Parts.{part_of, slots_in};
 ghost use Rattle.bpf_lines.specs.Marks.{AreMarks};
 ghost use Rattle.bpf_lines.specs.Parts.{ArePartLines};
-ghost use Rattle.bpf_lines.specs.Passed.{AreLast, said_by};
-ghost use Rattle.bpf_lines.specs.Rows.{entry_word, function_word, line_word, row_by, row_text, rows, word_of};
-ghost use Rattle.bpf_lines.specs.Slots.{line_since};
+ghost use Rattle.bpf_lines.specs.Passed.{AreLast};
+ghost use Rattle.bpf_lines.specs.Rows.{entry_word, function_word, line_word, row_by, rows, word_of};
+ghost use Rattle.bpf_lines.specs.Slots.{line_since, said_of};
 
 use crate::fields::byte_at;
 use crate::line_info::{LineEntry, line_entry, record_place};
@@ -98,20 +98,24 @@ fn put_entry<W: Write>(
     put_decimal(writer, parted, u64::from(entry.line))
 }
 
-/// Writes the row of a slot of the program, by what is said of it.
+/// Writes the row of a slot of the program, by what is said of it, if an instruction begins there.
 fn put_row<W: Write>(
     writer: &mut Counted<W>,
     so_far: Result<(), WriteFault>,
     plan: &Plan<'_>,
     told: &PartLines<'_>,
+    words: &[u8],
     number: usize,
     said: Said,
 ) -> Result<(), WriteFault>
     requires block { IfSome told.now.block (λ at. at < length told.now.listed) }
     requires symbol { IfSome said.function (λ i. i < length plan.now.symbols) }
     ensures { WritesAfter W.contents writer.old so_far writer.new result
-        (row_text plan.now told.now number said) }
+        (row_by plan.now told.now words.now number said) }
 {
+    if first_byte(words, number) == 0 {
+        return put(writer, so_far, b"");
+    }
     let numbered = put_decimal(writer, so_far, number as u64);
     let parted = put(writer, numbered, b" ");
     let lined = put_line(writer, parted, told, said.line);
@@ -143,32 +147,18 @@ fn first_byte(words: &[u8], number: usize) -> u8
     byte_at(words, 8 * number)
 }
 
-/// Writes the row of a slot, by the last slots up to it that say something, if an instruction
-/// begins there.
-fn put_slot<W: Write>(
-    writer: &mut Counted<W>,
-    so_far: Result<(), WriteFault>,
-    plan: &Plan<'_>,
-    side: Side,
-    told: &PartLines<'_>,
-    words: &[u8],
-    number: usize,
-    last: Said,
-) -> Result<(), WriteFault>
-    requires told { ArePartLines plan.now (part_of plan.now.parts side) told.now }
-    requires last { AreLast told.now last }
-    ensures { WritesAfter W.contents writer.old so_far writer.new result
-        (row_by plan.now told.now words.now number
-        (said_by plan.now (part_of plan.now.parts side) told.now last)) }
+/// What is said of a slot, by the last slots up to it that say something.
+fn said_since(told: &PartLines<'_>, last: Said) -> Said
+    requires { AreLast told.now last }
+    ensures function { (says : ℕ → Option ℕ) → AreMarks says told.now.functions.items
+        → result.function ≡ said_of says last.function }
+    ensures line { (says : ℕ → Option ℕ) → AreMarks says told.now.lines.items
+        → result.line ≡ line_since says last.line last.function }
 {
-    if first_byte(words, number) == 0 {
-        return put(writer, so_far, b"");
-    }
-    let said = Said {
+    Said {
         function: said_of(&told.functions, last.function),
         line: line_since(&told.lines, last.line, last.function),
-    };
-    put_row(writer, so_far, plan, told, number, said)
+    }
 }
 
 /// Writes the rows of a part, whose first slot is one of the program's words.
@@ -194,8 +184,8 @@ pub fn put_rows<W: Write>(
     for slot in 0..part.len() {
         function = with_slot(&told.functions, function, slot);
         line = with_slot(&told.lines, line, slot);
-        let last = Said { function, line };
-        all = put_slot(writer, all, plan, side, told, words, first + slot, last);
+        let said = said_since(told, Said { function, line });
+        all = put_row(writer, all, plan, told, words, first + slot, said);
     }
     all
 }

@@ -14,6 +14,7 @@ mod past;
 mod place;
 mod question;
 mod reads;
+mod value;
 mod wanted;
 mod what;
 mod writes;
@@ -26,7 +27,10 @@ pub use origin::put_origin;
 pub use past::Past;
 pub use place::{Part, Place};
 pub use question::{Extent, Question, Told};
-pub use reads::{MOST_PARTS, Parts, asked, followed, register_part};
+pub use reads::{
+    MOST_PARTS, Parts, address_of, asked, followed, load_len, register_part, width_len,
+};
+pub use value::{depth_for, register_at, word_at};
 pub use wanted::{MOST_PLACES, Wanted};
-pub use what::{What, parts_asked};
+pub use what::{What, number_in, parts_asked};
 pub use writes::written;

@@ -1,55 +1,22 @@
 //! The text of an answer's lines.
-ghost use Rattle.std.specs.Prelude.{◌≡◌, ◌<◌, [], flat_map, slice_index};
+ghost use Rattle.std.specs.Prelude.{◌≡◌, ◌<◌, [], flat_map};
 ghost use Rattle.std.specs.Option.{option_map_or};
 ghost use Rattle.counted_io.specs.Writing.{WritesAfter};
 ghost use Rattle.bpf_journal.specs.Histories.{is_step as is_step_of};
 ghost use Rattle.bpf_isa.specs.Programs.{insn_at};
 ghost use Rattle.bpfdb_script.specs.Texts.{text_at};
 ghost use Rattle.bpf_machine.specs.declared.moves.Move.{Move};
-ghost use Rattle.bpf_origin.specs.Places.{value};
 ghost use Rattle.bpf_origin.specs.Texts as spec;
-ghost use Rattle.bpf_origin.specs.declared.place.Place.TheVariants as place;
 
 use crate::place::Part;
+use crate::value::{register_at, word_at};
 use bpf_isa::Insn;
 use bpf_machine::Cpu;
 use bpf_text::put_insn;
-use bpfdb_script::{SlotTexts, number_in, text_of_slot};
+use bpfdb_script::{SlotTexts, text_of_slot};
 use byteorder::{ByteOrder, LittleEndian};
 use counted_io::{Counted, Piece, WriteFault, put, put_all, put_decimal};
 use std::io::Write;
-
-/// A register of the function at a depth. A pushed frame keeps r6 to r9 of the one that called.
-fn register_at(cpu: &Cpu, depth: usize, number: u8) -> u64
-    ensures { result ≡ value cpu.now (place.Register depth number) }
-{
-    if number < 6 || cpu.depth() <= depth {
-        return present_at(cpu, number);
-    }
-    match cpu.frame(cpu.depth() - 1 - depth) {
-        Some(frame) => word_at(&frame.saved, usize::from(number - 6)),
-        None => present_at(cpu, number),
-    }
-}
-
-/// One of the present r0 to r9; 0 for another number.
-fn present_at(cpu: &Cpu, number: u8) -> u64
-    ensures { result ≡ slice_index cpu.now.registers number }
-{
-    cpu.invariant();
-    if number < 10 {
-        number_in(cpu, number)
-    } else {
-        0
-    }
-}
-
-/// The word at an index, 0 past the end.
-fn word_at(words: &[u64], index: usize) -> u64
-    ensures { result ≡ slice_index words.now index }
-{
-    words.get(index).copied().unwrap_or(0)
-}
 
 /// Writes the name of a register, by the depth of its function unless that is 0.
 #[tactic(auto, unfolding(crate::specs::Texts::register_name))]

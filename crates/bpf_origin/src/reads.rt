@@ -13,6 +13,7 @@ ghost use Rattle.bpf_origin.specs.Places.{depth_for};
 ghost use Rattle.bpf_origin.specs.Reads as spec;
 
 use crate::place::Part;
+use crate::value::depth_for;
 use arrayvec::ArrayVec;
 use bpf_isa::{Address, AtomicOp, BinaryOp, Helper, Insn, LoadSize, Reg, Source, Width};
 use bpf_machine::{Change, Cpu, Fault, Status};
@@ -152,10 +153,9 @@ pub fn register_part(depth: usize, register: Reg) -> Part
 pub(crate) fn numbered_part(depth: usize, number: u8) -> Part
     ensures { result ≡ Part.Register (depth_for depth number) number }
 {
-    if number < 6 {
-        Part::Register { depth: 0, number }
-    } else {
-        Part::Register { depth, number }
+    Part::Register {
+        depth: depth_for(depth, number),
+        number,
     }
 }
 
@@ -282,7 +282,7 @@ fn add_pointers(cpu: &Cpu, number: u32, parts: &mut Parts)
 }
 
 /// The address that an access begins at; addresses wrap.
-fn address_of(cpu: &Cpu, at: Address) -> u64
+pub fn address_of(cpu: &Cpu, at: Address) -> u64
     ensures { result ≡ address_in cpu.now at }
 {
     cpu.reg(at.base)
@@ -290,7 +290,7 @@ fn address_of(cpu: &Cpu, at: Address) -> u64
 }
 
 /// How many bytes a load reads.
-fn load_len(size: LoadSize) -> usize
+pub fn load_len(size: LoadSize) -> usize
     ensures { result ≡ spec.load_len size }
 {
     match size {
@@ -300,7 +300,7 @@ fn load_len(size: LoadSize) -> usize
 }
 
 /// How many bytes an atomic operation replaces.
-fn width_len(width: Width) -> usize
+pub fn width_len(width: Width) -> usize
     ensures { result ≡ size_len (size_of width) }
 {
     match width {

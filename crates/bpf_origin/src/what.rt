@@ -116,7 +116,7 @@ fn bytes_in(text: &[u8]) -> Option<What>
 }
 
 /// The number that a text is.
-fn number_in(text: &[u8]) -> Option<u64>
+pub fn number_in(text: &[u8]) -> Option<u64>
     ensures { result ≡ spec.number text.now }
 {
     natural(text)?.to_u64()

@@ -39,10 +39,10 @@ pub fitting-named : {A E T : Type 0} (items : A → List ℕ) (r : Result A E) (
 fitting-named items (Ok a) shown names P answer is e t p = subst (λ (v : List ℕ). FitsNamed names v shown) (e t p) is
 fitting-named items (Err fault) shown names P answer is e t p = inl (inr is)
 
-pub without-names : {A E : Type 0} (r : Result A E) (text shown : List ℕ) → MatchResult r (λ _. shown ≡ text) (λ _. shown ≡ too_long)
-    → MatchResult r (λ _. FitsNamed None text shown) (λ _. shown ≡ too_long)
-without-names (Ok a) text shown is = inr is
-without-names (Err fault) text shown is = is
+pub without-names : {A E : Type 0} (r : Result A E) (names : Option (Bor Names)) (text shown : List ℕ) → MatchResult r (λ _. shown ≡ text) (λ _. shown ≡ too_long)
+    → MatchResult r (λ _. FitsNamed names text shown) (λ _. shown ≡ too_long)
+without-names (Ok a) names text shown is = inr is
+without-names (Err fault) names text shown is = is
 
 pub with-names : (names : Bor Names) (text shown : List ℕ) → (shown ≡ named_text names.now text) ⊎ (shown ≡ text) → FitsNamed (Some names) text shown
 with-names names text shown (inl is) = inl (inl is)

@@ -1,10 +1,11 @@
 -- Numbers and bytes, as bodies write them.
-use Rattle.std.specs.Prelude.{ℕ, ◌+◌, List, [], ◌∷◌, ◌++◌, length, take, drop, position, ◌==◌, if◌then◌else◌, Option, Some, None}
+use Rattle.std.specs.Prelude.{ℕ, List, [], ◌∷◌, ◌++◌, length, take, drop, if◌then◌else◌, Option, Some, None}
 use Rattle.std.specs.Option.{option_map, option_and_then, unwrap_or}
 use Rattle.std.specs.Result.{result_ok}
 use Rattle.std.specs.Str.{bytes_eq}
 use Rattle.byteorder.specs.Endian.{big_bytes, little_bytes, little_number}
 use Rattle.hex.specs.Hex.{decode_sized}
+use Rattle.counted_io.specs.Cuts.{cut}
 use Rattle.counted_io.specs.Numerals.{as_u64, numeral}
 use Rattle.bpf_remote.specs.Packets.{two_digits}
 
@@ -32,10 +33,6 @@ word s = option_map (λ bytes. little_number 8 bytes) (result_ok (decode_sized s
 -- What is behind a name, None where the text doesn't begin with it.
 abbrev pub behind : List ℕ → List ℕ → Option (List ℕ)
 behind name s = if bytes_eq (take (length name) s) name then Some (drop (length name) s) else None
-
--- What stands before the first of these bytes, and what behind it.
-abbrev pub cut : ℕ → List ℕ → Option (List ℕ × List ℕ)
-cut mark s = option_map (λ at. (take at s, drop (at + 1) s)) (position (λ byte. byte == mark) s)
 
 -- What stands before the first of these bytes, or all where there is none.
 abbrev pub before : ℕ → List ℕ → List ℕ

@@ -3,6 +3,7 @@ use Rattle.std.specs.Prelude.{◌≡◌, ◌<◌, ◌≤◌, ◌+◌, ◌*◌, �
 use Rattle.std.specs.List.{list_all, sum}
 use Rattle.std.specs.Char.{digit_value, is_digit}
 use Rattle.std.specs.Fmt.{digit_glyph}
+pub use Rattle.bpfdb_script.specs.ReadLines.{Buffer}
 use Rattle.bpf_remote.specs.declared.stream.Item.{Item}
 use Rattle.bpf_remote.specs.declared.stream.Item.TheVariants.{Packet, Damaged, Again, End}
 
@@ -25,11 +26,6 @@ framed body = 36 ∷ (body ++ 35 ∷ two_digits (sum_of body))
 -- Two digits of either case say a body's sum.
 abbrev pub is_sum : ℕ → ℕ → List ℕ → Bool
 is_sum high low body = is_digit high 16 && is_digit low 16 && 16 * digit_value high + digit_value low == sum_of body
-
--- A buffer for a body: its bytes, up to the longest, and whether there are more.
-pub record Buffer : Type 0 where
-  pub bytes : List ℕ
-  pub is_long : Bool
 
 -- The buffer holds the body, or the body is longer than the buffer.
 abbrev pub Holds : Buffer → List ℕ → Type 0

@@ -12,7 +12,8 @@ use Rattle.bpfdb_script.specs.declared.command.Goal.TheVariants as goal
 use Rattle.bpfdb_script.specs.declared.command.Stop.TheVariants as stop
 use Rattle.bpfdb_script.specs.declared.command.Target.TheVariants as target
 use Rattle.bpf_session.specs.WatchRuns.{run_of}
-use Rattle.bpf_remote.specs.Numbers.{before, behind, cut, number, pair, word}
+use Rattle.counted_io.specs.Cuts.{cut}
+use Rattle.bpf_remote.specs.Numbers.{before, behind, number, pair, word}
 use Rattle.bpf_remote.specs.declared.request.Request.{Request}
 use Rattle.bpf_remote.specs.declared.request.Request.TheVariants as request
 

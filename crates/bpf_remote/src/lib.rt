@@ -19,6 +19,7 @@ mod remark;
 mod request;
 mod serving;
 mod stream;
+mod talk;
 mod target;
 mod ways;
 mod whynot;

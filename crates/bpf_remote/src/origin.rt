@@ -1,19 +1,18 @@
 //! `monitor origin`: where a value came from, asked of the session as it stands.
-ghost use Rattle.std.specs.Prelude.{◌≡◌, ◌≤◌, ◌⊎◌, ◌∷◌, ℕ, IfOk, List, MatchResult, Ok, Some, length};
+ghost use Rattle.std.specs.Prelude.{◌≡◌, ◌≤◌, ◌⊎◌, ◌∷◌, ℕ, IfOk, List, MatchResult, Some, length};
 ghost use Rattle.std.specs.Option.{option_map};
 ghost use Rattle.std.specs.Result.{result_ok};
 ghost use Rattle.bpf_journal.specs.Tracks.{Track};
 ghost use Rattle.bpf_lines.specs.NamedTexts.{named_text};
 ghost use Rattle.bpf_origin.specs.Asked.{answer_about, parts_asked};
 ghost use Rattle.bpf_remote.specs.Numbers.{hex_text};
-ghost use Rattle.bpf_remote.specs.Origins.{ComesBack, Fits, FitsNamed, Shows, TellsOrigin, asked_in, longest_part, most_lines, named_in, question_of, refused_line, too_long};
+ghost use Rattle.bpf_remote.specs.Origins.{ComesBack, Fits, FitsNamed, Shows, asked_in, longest_part, most_lines, named_in, question_of, refused_line, too_long};
 ghost use Rattle.bpf_remote.specs.Packets.{framed, longest_body};
 ghost use Rattle.bpf_session.specs.Sessions.{HasPast};
 ghost use Rattle.counted_io.specs.Writing.{WritesAfter};
 ghost use Rattle.hex.specs.Hex.{decode_of};
 
 use crate::body::{Body, LONGEST_BODY};
-use crate::manners::Manners;
 use crate::number::behind;
 use crate::packet::put_packet;
 use crate::parser::is;
@@ -102,7 +101,7 @@ fn named_in(cpu: &Cpu, text: &[u8]) -> Result<Option<What>, WhatFault>
 /// Writes the answer about what is asked, before whose state so many moves lie, into a text. The
 /// session stands then where it stood, but for the moves that its keeper refused to keep again.
 #[inline(never)]
-fn answer_text<K: Keeper>(
+pub(crate) fn answer_text<K: Keeper>(
     session: &mut Session<K>,
     wanted: &mut Wanted,
     what: Option<What>,
@@ -155,65 +154,9 @@ fn put_refused<W: Write>(
     put(writer, told, b"\n")
 }
 
-/// Shows gdb's user what is asked. The session stands then where it stood, but for the moves that its
-/// keeper refused to keep again: it answers how many.
-pub(crate) fn show_origin<K: Keeper, W: Write>(
-    alloc: Global,
-    session: &mut Session<K>,
-    wanted: &mut Wanted,
-    asked: Result<Option<What>, WhatFault>,
-    manners: Manners<'_>,
-    body: &mut Body,
-    writer: &mut Counted<W>,
-    so_far: Result<(), WriteFault>,
-) -> (Result<(), WriteFault>, u64)
-    ensures { (text told : List ℕ) × Shows text told
-        × TellsOrigin K.holds K.refused K.room manners.entry asked session.old session.new result.1 text
-        × WritesAfter W.contents writer.old so_far writer.new result.0 told }
-{
-    match asked {
-        Ok(what) => show_answer(alloc, session, wanted, what, manners, body, writer, so_far),
-        Err(fault) => {
-            let told = show_refused(
-                b"refused V",
-                fault.number(),
-                fault.text(),
-                body,
-                writer,
-                so_far,
-            );
-            (told, 0)
-        }
-    }
-}
-
-/// Shows the answer about what is asked, as `show_origin` does.
-#[inline(never)]
-fn show_answer<K: Keeper, W: Write>(
-    alloc: Global,
-    session: &mut Session<K>,
-    wanted: &mut Wanted,
-    what: Option<What>,
-    manners: Manners<'_>,
-    body: &mut Body,
-    writer: &mut Counted<W>,
-    so_far: Result<(), WriteFault>,
-) -> (Result<(), WriteFault>, u64)
-    ensures { (text told : List ℕ) × Shows text told
-        × TellsOrigin K.holds K.refused K.room manners.entry (Ok what) session.old session.new result.1 text
-        × WritesAfter W.contents writer.old so_far writer.new result.0 told }
-{
-    show_answered(
-        alloc,
-        manners.target.names,
-        answer_text(session, wanted, what, manners.moves, manners.target.places),
-        body,
-        writer,
-        so_far,
-    )
-}
-
-/// Shows gdb's user an answer, and says how many moves the session's keeper refused to keep again.
+/// Shows gdb's user an answer, if it was written whole, with the names of the places that it tells
+/// where these are known; or that it is too long. Says how many moves the session's keeper refused to
+/// keep again.
 #[inline(never)]
 pub(crate) fn show_answered<W: Write>(
     alloc: Global,
@@ -229,40 +172,11 @@ pub(crate) fn show_answered<W: Write>(
         × WritesAfter W.contents writer.old so_far writer.new result.0 told }
     ensures left { result.1 ≡ answered.left }
 {
-    let told = show_told(
-        alloc,
-        names,
-        answered.text.as_slice(),
-        &answered.written,
-        body,
-        writer,
-        so_far,
-    );
-    (told, answered.left)
-}
-
-/// Shows gdb's user a text, if it was written whole, with the names of the places that it tells where
-/// these are known; or that it is too long.
-fn show_told<W: Write>(
-    alloc: Global,
-    names: Option<&Names<'_>>,
-    text: &[u8],
-    written: &Result<(), WriteFault>,
-    body: &mut Body,
-    writer: &mut Counted<W>,
-    so_far: Result<(), WriteFault>,
-) -> Result<(), WriteFault>
-    ensures { (shown told : List ℕ) × Shows shown told
-        × MatchResult written.now (λ _. FitsNamed names.entry text.now shown)
-        (λ _. shown ≡ too_long)
-        × WritesAfter W.contents writer.old so_far writer.new result told }
-{
-    match names {
-        None => show_text(text, written, body, writer, so_far),
-        Some(names) => match written {
-            Ok(()) => show_named(alloc, names, text, body, writer, so_far),
-            Err(_) => show_text(text, written, body, writer, so_far),
-        },
+    let left = answered.left;
+    let text = answered.text.as_slice();
+    match (names, &answered.written) {
+        (Some(names), Ok(())) => (show_named(alloc, names, text, body, writer, so_far), left),
+        (_, written) => (show_text(text, written, body, writer, so_far), left),
     }
 }
 

@@ -7,11 +7,12 @@ ghost use Rattle.std.specs.Str.{bytes_eq};
 ghost use Rattle.bpfdb_script.specs.Commands.{bytes_of};
 ghost use Rattle.bpf_remote.specs.Requests.{action, actions, begun_request, condition_behind, condition_of, contains, delete, description, edit_of, memory, question, range, register, request_of, set_break, set_memory, set_register, slot_of, stop_request, supported, watch, with_signal, word_request};
 
-use crate::number::{before, behind, cut, number, pair, word};
+use crate::number::{before, behind, number, pair, word};
 use crate::request::Request;
 use bpf_isa::Reg;
 use bpf_machine::{ByteString, Edit};
 use bpf_session::{Command, Count, Goal, Run, Stop, Target};
+use counted_io::cut;
 
 /// The most bytes that an edit writes.
 const LONGEST_BYTES: usize = 256;
@@ -153,7 +154,7 @@ fn register(rest: &[u8]) -> Request
 fn set_register(rest: &[u8]) -> Request
     ensures { result ≡ set_register rest.now }
 {
-    let Some((left, right)) = cut(b'=', rest) else {
+    let Some((left, right)) = cut(rest, b'=') else {
         return Request::Wrong;
     };
     let (Some(n), Some(value)) = (number(left), word(right)) else {
@@ -198,7 +199,7 @@ fn memory(rest: &[u8]) -> Request
 fn set_memory(rest: &[u8]) -> Request
     ensures { result ≡ set_memory rest.now }
 {
-    let Some((left, right)) = cut(b':', rest) else {
+    let Some((left, right)) = cut(rest, b':') else {
         return Request::Wrong;
     };
     let (Some((address, count)), Some(bytes)) = (pair(b',', left), bytes_of(right)) else {
@@ -264,7 +265,7 @@ fn set_break(rest: &[u8]) -> Request
 fn condition_behind(rest: &[u8]) -> Option<ByteString>
     ensures { result ≡ condition_behind rest.now }
 {
-    match cut(b';', rest) {
+    match cut(rest, b';') {
         Some((_, list)) => condition_of(list),
         None => None,
     }
@@ -275,7 +276,7 @@ fn condition_of(list: &[u8]) -> Option<ByteString>
     ensures { result ≡ condition_of list.now }
 {
     let rest = behind("X", list)?;
-    let (len, digits) = cut(b',', rest)?;
+    let (len, digits) = cut(rest, b',')?;
     let (len, code) = (number(len)?, bytes_of(digits)?);
     if code.as_slice().len() as u64 == len {
         Some(code)

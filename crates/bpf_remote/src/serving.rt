@@ -1,5 +1,5 @@
 //! Connections: the items of a stream, answered one after another.
-ghost use Rattle.std.specs.Prelude.{◌≡◌, ◌≤◌, Bool, IfErr, IfOk, List, None, OnOk, Some, length, ℕ};
+ghost use Rattle.std.specs.Prelude.{◌≡◌, ◌≤◌, ◌-◌, Bool, IfErr, IfOk, List, None, OnOk, Some, codes, length, ℕ};
 ghost use Rattle.counted_io.specs.Counted.{Tally};
 ghost use Rattle.counted_io.specs.Writing.{Writes, WritesAfter};
 ghost use Rattle.bpf_remote.specs.Answers.{sent};
@@ -18,13 +18,14 @@ use crate::obeying::{
     append_remark, goes_on, heed_line, is_answered, keep_conditions, manners_after, obey,
     with_moves,
 };
-use crate::origin::{asked_in, show_origin};
+use crate::origin::{answer_text, asked_in, show_answered, show_refused};
 use crate::packet::put_packet;
 use crate::parser::request_of;
 use crate::remark::{Remark, remark_of};
 use crate::stream::{Item, next_item};
+use crate::talk::Talk;
 use crate::target::Target;
-use crate::whynot::{aim_in, show_why};
+use crate::whynot::{aim_in, show_aim_refusal, why_text};
 use bpf_agent::Conditions;
 use bpf_journal::Keeper;
 use bpf_machine::Cpu;
@@ -68,15 +69,17 @@ pub fn serve<K: Keeper, R: Read, W: Write>(
           writer' = writer.new;
         })) }
 {
-    let mut manners = Manners {
-        acknowledges: true,
-        swbreak: false,
-        target: gdb,
-        moves: 0,
+    let mut talk = Talk {
+        manners: Manners {
+            acknowledges: true,
+            swbreak: false,
+            target: gdb,
+            moves: 0,
+        },
+        conditions: Conditions::new(),
+        answer: Body::new(),
     };
-    let mut conditions = Conditions::new();
     let mut request = Body::new();
-    let mut answer = Body::new();
     'items: loop {
         let item = match next_item(reader, &mut request) {
             Err(_) => return Err(RunFault::Read),
@@ -85,17 +88,7 @@ pub fn serve<K: Keeper, R: Read, W: Write>(
         if item.is_end() {
             return Ok(());
         }
-        let on = match take_turn(
-            alloc,
-            session,
-            wanted,
-            &mut manners,
-            &mut conditions,
-            item,
-            &request,
-            &mut answer,
-            writer,
-        ) {
+        let on = match take_turn(alloc, session, wanted, &mut talk, item, &request, writer) {
             Err(_) => return Err(RunFault::Write),
             Ok(on) => on,
         };
@@ -110,35 +103,17 @@ fn take_turn<K: Keeper, W: Write>(
     alloc: Global,
     session: &mut Session<K>,
     wanted: &mut Wanted,
-    manners: &mut Manners<'_>,
-    conditions: &mut Conditions,
+    talk: &mut Talk<'_>,
     item: Item,
     request: &Body,
-    answer: &mut Body,
     writer: &mut Counted<W>,
 ) -> Result<bool, WriteFault>
     ensures { (on : Bool) × IfOk result (λ more. more ≡ on)
         × TakesTurn K.holds K.refused K.room W.contents
-        (record {
-          old = record {
-            session = session.old;
-            manners = manners.old;
-            answer = answer.old;
-            writer = writer.old;
-          };
-          new = record {
-            session = session.new;
-            manners = manners.new;
-            answer = answer.new;
-            writer = writer.new;
-          };
-          conditions = conditions.old;
-          conditions' = conditions.new;
-        }) (result, on) item request.now }
+        (record { session = session.old; talk = talk.old; writer = writer.old })
+        (record { session = session.new; talk = talk.new; writer = writer.new }) (result, on) item request.now }
 {
-    let (told, on) = answer_item(
-        alloc, session, wanted, manners, conditions, item, request, answer, writer,
-    );
+    let (told, on) = answer_item(alloc, session, wanted, talk, item, request, writer);
     flush(writer, told, on)
 }
 
@@ -168,288 +143,209 @@ fn answer_item<K: Keeper, W: Write>(
     alloc: Global,
     session: &mut Session<K>,
     wanted: &mut Wanted,
-    manners: &mut Manners<'_>,
-    conditions: &mut Conditions,
+    talk: &mut Talk<'_>,
     item: Item,
     request: &Body,
-    answer: &mut Body,
     writer: &mut Counted<W>,
 ) -> (Result<(), WriteFault>, bool)
     ensures { TakesTurn K.holds K.refused K.room W.contents
-        (record {
-          old = record {
-            session = session.old;
-            manners = manners.old;
-            answer = answer.old;
-            writer = writer.old;
-          };
-          new = record {
-            session = session.new;
-            manners = manners.new;
-            answer = answer.new;
-            writer = writer.new;
-          };
-          conditions = conditions.old;
-          conditions' = conditions.new;
-        }) result item request.now }
+        (record { session = session.old; talk = talk.old; writer = writer.old })
+        (record { session = session.new; talk = talk.new; writer = writer.new }) result item request.now }
 {
     match item {
         Item::Packet => match request.bytes() {
-            Some(body) => answer_body(
-                alloc, session, wanted, manners, conditions, body, answer, writer,
-            ),
+            Some(body) => answer_body(alloc, session, wanted, talk, body, writer),
             None => (Ok(()), true),
         },
         Item::Damaged => (write_text(writer, b"-"), true),
-        Item::Again => (put_sent(writer, Ok(()), answer), true),
+        Item::Again => (put_sent(writer, Ok(()), &talk.answer), true),
         Item::End => (Ok(()), true),
     }
 }
 
-/// Answers a packet with this body.
+/// Answers a packet with this body. Behind a line no condition is kept.
 fn answer_body<K: Keeper, W: Write>(
     alloc: Global,
     session: &mut Session<K>,
     wanted: &mut Wanted,
-    manners: &mut Manners<'_>,
-    conditions: &mut Conditions,
+    talk: &mut Talk<'_>,
     body: &[u8],
-    answer: &mut Body,
     writer: &mut Counted<W>,
 ) -> (Result<(), WriteFault>, bool)
     requires { length body.now ≤ longest_body }
     ensures { AnswersBody K.holds K.refused K.room W.contents
-        (record {
-          old = record {
-            session = session.old;
-            manners = manners.old;
-            answer = answer.old;
-            writer = writer.old;
-          };
-          new = record {
-            session = session.new;
-            manners = manners.new;
-            answer = answer.new;
-            writer = writer.new;
-          };
-          conditions = conditions.old;
-          conditions' = conditions.new;
-        }) result.0 result.1 body.now }
+        (record { session = session.old; talk = talk.old; writer = writer.old })
+        (record { session = session.new; talk = talk.new; writer = writer.new }) result body.now }
 {
     match behind("qRcmd,", body) {
         Some(digits) => {
-            conditions.clear();
-            (
-                answer_line(alloc, session, wanted, manners, digits, answer, writer),
-                true,
-            )
+            let told = answer_line(alloc, session, wanted, talk, digits, writer);
+            talk.conditions.clear();
+            (told, true)
         }
-        None => answer_request(session, manners, conditions, body, answer, writer),
+        None => answer_request(session, talk, body, writer),
     }
 }
 
-/// Answers a line, which hexadecimal digits spell.
+/// Answers a line, which hexadecimal digits spell: why the program did not come to some slots, where
+/// a value came from, or as a script's line.
 fn answer_line<K: Keeper, W: Write>(
     alloc: Global,
     session: &mut Session<K>,
     wanted: &mut Wanted,
-    manners: &mut Manners<'_>,
+    talk: &mut Talk<'_>,
     digits: &[u8],
-    answer: &mut Body,
     writer: &mut Counted<W>,
 ) -> Result<(), WriteFault>
     requires { length digits.now ≤ longest_body }
     ensures { AnswersLine K.holds K.refused K.room W.contents
-        (record {
-          session = session.old;
-          manners = manners.old;
-          answer = answer.old;
-          writer = writer.old;
-        })
-        (record {
-          session = session.new;
-          manners = manners.new;
-          answer = answer.new;
-          writer = writer.new;
-        }) result digits.now }
+        (record { session = session.old; talk = talk.old; writer = writer.old })
+        (record { session = session.new; talk = talk.new; writer = writer.new }) result digits.now }
 {
     match aim_in(alloc, session.cpu().program(), digits) {
-        Some(aimed) => answer_why(alloc, session, wanted, manners, &aimed, answer, writer),
-        None => answer_other(alloc, session, wanted, manners, digits, answer, writer),
+        Some(aimed) => answer_why(alloc, session, wanted, talk, &aimed, writer),
+        None => match asked_in(session.cpu(), digits) {
+            Some(asked) => answer_asked(alloc, session, wanted, talk, asked, writer),
+            None => answer_script(session, talk, digits, writer),
+        },
     }
 }
 
-/// Answers why the program did not come to some slots.
+/// Answers why the program did not come to what is asked about, or why there is no answer. The session
+/// stands then where it stood, but for the moves that its keeper refused to keep again.
+#[inline(never)]
 fn answer_why<K: Keeper, W: Write>(
     alloc: Global,
     session: &mut Session<K>,
     wanted: &mut Wanted,
-    manners: &mut Manners<'_>,
+    talk: &mut Talk<'_>,
     aimed: &Result<Aim, AimFault>,
-    answer: &mut Body,
     writer: &mut Counted<W>,
 ) -> Result<(), WriteFault>
     ensures { (asked digits : List ℕ) →
         IsAimed session.old.moment.state.program asked aimed.now →
         AnswersWhy K.holds K.refused K.room W.contents
-        (record {
-          session = session.old;
-          manners = manners.old;
-          answer = answer.old;
-          writer = writer.old;
-        })
-        (record {
-          session = session.new;
-          manners = manners.new;
-          answer = answer.new;
-          writer = writer.new;
-        }) result (Some asked, digits) }
+        (record { session = session.old; talk = talk.old; writer = writer.old })
+        (record { session = session.new; talk = talk.new; writer = writer.new }) result (Some asked, digits) }
 {
-    let begun = acknowledge(*manners, writer);
-    let (told, left) = show_why(
-        alloc, session, wanted, aimed, *manners, answer, writer, begun,
-    );
-    let moves = manners.moves.saturating_sub(left);
-    *manners = with_moves(moves, *manners);
-    answer.clear();
-    answer.append(b"OK");
-    put_sent(writer, told, answer)
-}
-
-/// Answers a line that doesn't ask that, which hexadecimal digits spell.
-fn answer_other<K: Keeper, W: Write>(
-    alloc: Global,
-    session: &mut Session<K>,
-    wanted: &mut Wanted,
-    manners: &mut Manners<'_>,
-    digits: &[u8],
-    answer: &mut Body,
-    writer: &mut Counted<W>,
-) -> Result<(), WriteFault>
-    requires { length digits.now ≤ longest_body }
-    ensures { AnswersWhy K.holds K.refused K.room W.contents
-        (record {
-          session = session.old;
-          manners = manners.old;
-          answer = answer.old;
-          writer = writer.old;
-        })
-        (record {
-          session = session.new;
-          manners = manners.new;
-          answer = answer.new;
-          writer = writer.new;
-        }) result (None, digits.now) }
-{
-    match asked_in(session.cpu(), digits) {
-        Some(asked) => answer_asked(alloc, session, wanted, manners, asked, answer, writer),
-        None => answer_script(session, manners, digits, answer, writer),
+    let manners = talk.manners;
+    let begun = acknowledge(manners, writer);
+    match aimed {
+        Ok(aim) => {
+            let (told, left) = show_answered(
+                alloc,
+                manners.target.names,
+                why_text(session, wanted, aim, manners.moves, manners.target.places),
+                &mut talk.answer,
+                writer,
+                begun,
+            );
+            put_done(talk, left, writer, told)
+        }
+        Err(fault) => {
+            let told = show_aim_refusal(*fault, &mut talk.answer, writer, begun);
+            put_done(talk, 0, writer, told)
+        }
     }
 }
 
-/// Answers where a value came from.
+/// Answers where what is asked came from, or why there is no answer, as `answer_why` does.
+#[inline(never)]
 fn answer_asked<K: Keeper, W: Write>(
     alloc: Global,
     session: &mut Session<K>,
     wanted: &mut Wanted,
-    manners: &mut Manners<'_>,
+    talk: &mut Talk<'_>,
     asked: Result<Option<What>, WhatFault>,
-    answer: &mut Body,
     writer: &mut Counted<W>,
 ) -> Result<(), WriteFault>
-    ensures { (digits : List ℕ) →
-        AnswersAsked K.holds K.refused K.room W.contents
-        (record {
-          session = session.old;
-          manners = manners.old;
-          answer = answer.old;
-          writer = writer.old;
-        })
-        (record {
-          session = session.new;
-          manners = manners.new;
-          answer = answer.new;
-          writer = writer.new;
-        }) result (Some asked, digits) }
+    ensures { (digits : List ℕ) → AnswersAsked K.holds K.refused K.room W.contents
+        (record { session = session.old; talk = talk.old; writer = writer.old })
+        (record { session = session.new; talk = talk.new; writer = writer.new }) result (Some asked, digits) }
 {
-    let begun = acknowledge(*manners, writer);
-    let (told, left) = show_origin(
-        alloc, session, wanted, asked, *manners, answer, writer, begun,
-    );
-    *manners = with_moves(manners.moves.saturating_sub(left), *manners);
-    answer.clear();
-    answer.append(b"OK");
-    put_sent(writer, told, answer)
+    let manners = talk.manners;
+    let begun = acknowledge(manners, writer);
+    match asked {
+        Ok(what) => {
+            let (told, left) = show_answered(
+                alloc,
+                manners.target.names,
+                answer_text(session, wanted, what, manners.moves, manners.target.places),
+                &mut talk.answer,
+                writer,
+                begun,
+            );
+            put_done(talk, left, writer, told)
+        }
+        Err(fault) => {
+            let (number, text) = (fault.number(), fault.text());
+            let answer = &mut talk.answer;
+            let told = show_refused(b"refused V", number, text, answer, writer, begun);
+            put_done(talk, 0, writer, told)
+        }
+    }
+}
+
+/// Writes the packet that ends what was shown, behind which so many moves fewer lie before the state.
+fn put_done<W: Write>(
+    talk: &mut Talk<'_>,
+    left: u64,
+    writer: &mut Counted<W>,
+    told: Result<(), WriteFault>,
+) -> Result<(), WriteFault>
+    ensures manners { talk.new.manners ≡ record talk.old.manners { moves = talk.old.manners.moves - left } }
+    ensures held { Holds talk.new.answer (codes "OK") }
+    ensures written { WritesAfter W.contents writer.old told writer.new result (framed (sent (codes "OK"))) }
+{
+    talk.manners = with_moves(talk.manners.moves.saturating_sub(left), talk.manners);
+    talk.answer.clear();
+    talk.answer.append(b"OK");
+    put_sent(writer, told, &talk.answer)
 }
 
 /// Answers a line of a script, which hexadecimal digits spell.
 fn answer_script<K: Keeper, W: Write>(
     session: &mut Session<K>,
-    manners: &mut Manners<'_>,
+    talk: &mut Talk<'_>,
     digits: &[u8],
-    answer: &mut Body,
     writer: &mut Counted<W>,
 ) -> Result<(), WriteFault>
     requires { length digits.now ≤ longest_body }
     ensures { AnswersAsked K.holds K.refused K.room W.contents
-        (record {
-          session = session.old;
-          manners = manners.old;
-          answer = answer.old;
-          writer = writer.old;
-        })
-        (record {
-          session = session.new;
-          manners = manners.new;
-          answer = answer.new;
-          writer = writer.new;
-        }) result (None, digits.now) }
+        (record { session = session.old; talk = talk.old; writer = writer.old })
+        (record { session = session.new; talk = talk.new; writer = writer.new }) result (None, digits.now) }
 {
-    let begun = acknowledge(*manners, writer);
-    answer.clear();
-    let moves = heed_line(session, digits, manners.moves, answer);
-    *manners = with_moves(moves, *manners);
-    put_sent(writer, begun, answer)
+    let manners = talk.manners;
+    let begun = acknowledge(manners, writer);
+    talk.answer.clear();
+    let moves = heed_line(session, digits, manners.moves, &mut talk.answer);
+    talk.manners = with_moves(moves, manners);
+    put_sent(writer, begun, &talk.answer)
 }
 
 /// Answers a request.
 fn answer_request<K: Keeper, W: Write>(
     session: &mut Session<K>,
-    manners: &mut Manners<'_>,
-    conditions: &mut Conditions,
+    talk: &mut Talk<'_>,
     body: &[u8],
-    answer: &mut Body,
     writer: &mut Counted<W>,
 ) -> (Result<(), WriteFault>, bool)
     ensures { AnswersRequest K.holds K.refused K.room W.contents
-        (record {
-          old = record {
-            session = session.old;
-            manners = manners.old;
-            answer = answer.old;
-            writer = writer.old;
-          };
-          new = record {
-            session = session.new;
-            manners = manners.new;
-            answer = answer.new;
-            writer = writer.new;
-          };
-          conditions = conditions.old;
-          conditions' = conditions.new;
-        }) result.0 result.1 body.now }
+        (record { session = session.old; talk = talk.old; writer = writer.old })
+        (record { session = session.new; talk = talk.new; writer = writer.new }) result body.now }
 {
-    let begun = acknowledge(*manners, writer);
+    let manners = talk.manners;
+    let begun = acknowledge(manners, writer);
     let request = request_of(body);
-    let (told, moves) = obey(session, &request, conditions, manners.moves);
-    keep_conditions(&request, told, conditions);
+    let (told, moves) = obey(session, &request, &talk.conditions, manners.moves);
+    keep_conditions(&request, told, &mut talk.conditions);
     let dropped = moves.saturating_sub(session.kept() as u64);
     let remark = remark_of(&request, told, session.cpu(), session.limit(), dropped);
-    let remarked = put_console(writer, begun, remark, session.cpu(), answer);
-    answer.clear();
-    *manners = manners_after(&request, moves, *manners);
-    append_answer(told, session.cpu(), *manners, answer);
-    let wrote = put_answer(writer, remarked, answer, is_answered(&request));
+    let remarked = put_console(writer, begun, remark, session.cpu(), &mut talk.answer);
+    talk.answer.clear();
+    talk.manners = manners_after(&request, moves, manners);
+    append_answer(told, session.cpu(), talk.manners, &mut talk.answer);
+    let wrote = put_answer(writer, remarked, &talk.answer, is_answered(&request));
     (wrote, goes_on(&request))
 }
 

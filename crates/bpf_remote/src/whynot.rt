@@ -4,7 +4,7 @@ ghost use Rattle.std.specs.Result.{result_ok};
 ghost use Rattle.bpf_journal.specs.Tracks.{Track};
 ghost use Rattle.bpf_remote.specs.Origins.{ComesBack, Fits, Shows};
 ghost use Rattle.bpf_remote.specs.Packets.{longest_body};
-ghost use Rattle.bpf_remote.specs.Whynots.{IsAimed, TellsWhynot, aim_refusal, asks_whynot, query_of};
+ghost use Rattle.bpf_remote.specs.Whynots.{IsAimed, aim_refusal, asks_whynot, query_of};
 ghost use Rattle.bpf_session.specs.Sessions.{HasPast};
 ghost use Rattle.bpf_whynot.specs.Aims.{IsAim};
 ghost use Rattle.bpf_whynot.specs.Answers.{why_not};
@@ -13,9 +13,8 @@ ghost use Rattle.counted_io.specs.Writing.{WritesAfter};
 ghost use Rattle.hex.specs.Hex.{decode_of};
 
 use crate::body::{Body, LONGEST_BODY};
-use crate::manners::Manners;
 use crate::number::behind;
-use crate::origin::{Answered, most_lines, show_answered, show_refused};
+use crate::origin::{Answered, most_lines, show_refused};
 use crate::parser::is;
 use arrayvec::ArrayVec;
 use bpf_isa::Program;
@@ -66,32 +65,8 @@ fn aim_by(alloc: Global, program: &Program, digits: &[u8]) -> Option<Result<Aim,
     }
 }
 
-/// Shows gdb's user why the program did not come to what is asked about, or why there is no answer.
-/// The session stands then where it stood, but for the moves that its keeper refused to keep again:
-/// it answers how many.
-pub(crate) fn show_why<K: Keeper, W: Write>(
-    alloc: Global,
-    session: &mut Session<K>,
-    wanted: &mut Wanted,
-    aimed: &Result<Aim, AimFault>,
-    manners: Manners<'_>,
-    body: &mut Body,
-    writer: &mut Counted<W>,
-    so_far: Result<(), WriteFault>,
-) -> (Result<(), WriteFault>, u64)
-    ensures { (asked : List ℕ) → IsAimed session.old.moment.state.program asked aimed.now →
-        (text told : List ℕ) × Shows text told
-        × TellsWhynot K.holds K.refused K.room manners.entry asked session.old session.new result.1 text
-        × WritesAfter W.contents writer.old so_far writer.new result.0 told }
-{
-    match aimed {
-        Ok(aim) => show_goals(alloc, session, wanted, aim, manners, body, writer, so_far),
-        Err(fault) => (show_aim_refusal(*fault, body, writer, so_far), 0),
-    }
-}
-
 /// Shows why there is no answer.
-fn show_aim_refusal<W: Write>(
+pub(crate) fn show_aim_refusal<W: Write>(
     fault: AimFault,
     body: &mut Body,
     writer: &mut Counted<W>,
@@ -120,37 +95,10 @@ fn show_aim_refusal<W: Write>(
     }
 }
 
-/// Shows the answer about some slots, as `show_why` does.
-#[inline(never)]
-fn show_goals<K: Keeper, W: Write>(
-    alloc: Global,
-    session: &mut Session<K>,
-    wanted: &mut Wanted,
-    aim: &Aim,
-    manners: Manners<'_>,
-    body: &mut Body,
-    writer: &mut Counted<W>,
-    so_far: Result<(), WriteFault>,
-) -> (Result<(), WriteFault>, u64)
-    ensures { (asked : List ℕ) → IsAim session.old.moment.state.program asked aim.now →
-        (text told : List ℕ) × Shows text told
-        × TellsWhynot K.holds K.refused K.room manners.entry asked session.old session.new result.1 text
-        × WritesAfter W.contents writer.old so_far writer.new result.0 told }
-{
-    show_answered(
-        alloc,
-        manners.target.names,
-        why_text(session, wanted, aim, manners.moves, manners.target.places),
-        body,
-        writer,
-        so_far,
-    )
-}
-
 /// Writes the answer about some slots, before whose state so many moves lie, into a text. The session
 /// stands then where it stood, but for the moves that its keeper refused to keep again.
 #[inline(never)]
-fn why_text<K: Keeper>(
+pub(crate) fn why_text<K: Keeper>(
     session: &mut Session<K>,
     wanted: &mut Wanted,
     aim: &Aim,

@@ -1,6 +1,5 @@
 pub mod Stepping
 pub mod Lines
-pub mod Making
 pub mod Steps
 pub mod Branching
 pub mod Counting

@@ -20,10 +20,10 @@ use Rattle.bpf_origin.specs.Writes.{written}
 use Rattle.bpf_origin.specs.declared.place.Part.TheVariants as part
 use Rattle.bpfdb_script.specs.Texts.{text_at}
 use Rattle.bpf_trace.specs.Taken.{Took, parts_by, register_by}
-use Rattle.bpf_trace.specs.Texts.{slot_text, texts_of}
+use Rattle.bpf_cover.specs.Texts.{slot_text, texts_of}
 use Rattle.bpf_trace.specs.Traces.{step_line, written_text}
 use Rattle.bpf_trace.specs.declared.taken.Taken.{Taken}
-use Rattle.bpf_trace.proofs.Making.{text_there}
+use Rattle.bpf_cover.proofs.Making.{text_there}
 use Rattle.bpf_trace.proofs.Stepping.{next-program}
 
 -- how many bytes a run that is present has

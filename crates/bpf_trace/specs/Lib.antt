@@ -3,7 +3,6 @@ pub mod Traces
 pub mod Profiles
 pub mod Laws
 pub mod Branches
-pub mod Texts
 pub mod Lines
 pub mod Tellings
 pub mod Taken

@@ -3,16 +3,17 @@ ghost use Rattle.std.specs.Prelude.{◌≡◌, ◌≤◌, ◌+◌, ◌==◌, ◌
 ghost use Rattle.bpf_entries.specs.Status.{has_ended};
 ghost use Rattle.bpf_steps.specs.Next.{next};
 ghost use Rattle.bpf_trace.specs.Branches.{branch_line, compared_by, compared_text, is_branch as is_branch_of, source_text};
-ghost use Rattle.bpf_trace.specs.Texts.{texts_of};
+ghost use Rattle.bpf_cover.specs.Texts.{texts_of};
 ghost use Rattle.counted_io.specs.Writing.{WritesAfter};
 
 use crate::head::put_head;
 use crate::line::Line;
 use crate::line_end::put_ended;
 use crate::parts::add_value;
-use crate::texts::Texts;
+use crate::taken::step_on;
+use bpf_cover::Texts;
 use bpf_isa::{Insn, Reg, Source};
-use bpf_machine::{Cpu, Ended};
+use bpf_machine::Cpu;
 use bpfdb_script::{SlotTexts, text_of_slot};
 use counted_io::{Counted, WriteFault};
 use std::io::Write;
@@ -39,13 +40,13 @@ pub fn put_branch<W: Write>(
     match cpu.program().insn_at(slot) {
         Some(insn) => {
             if !is_branch(&insn) {
-                step(cpu);
+                step_on(cpu);
                 return so_far;
             }
             let from = cpu.pc();
             let told = put_head(line, number, texts.at(slot), writer, so_far);
             add_operands(line, cpu, &insn);
-            step(cpu);
+            step_on(cpu);
             add_way(line, from, cpu.pc());
             put_ended(line, text_of_slot(places, slot), writer, told)
         }
@@ -72,17 +73,6 @@ fn add_operands(line: &mut Line, cpu: &Cpu, insn: &Insn)
             add_source(line, cpu, source);
         }
         _ => {}
-    }
-}
-
-/// Takes a step.
-fn step(cpu: &mut Cpu)
-    requires { has_ended cpu.old.status ≡ false }
-    ensures { cpu.new ≡ next cpu.old }
-{
-    match cpu.advance() {
-        Ok(()) => {}
-        Err(Ended) => unreachable!(),
     }
 }
 

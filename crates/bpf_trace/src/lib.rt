@@ -16,15 +16,14 @@ mod step;
 mod strict_run;
 mod strict_trace;
 mod taken;
-mod texts;
 mod trace;
 mod unwritten;
 
+pub use bpf_cover::Texts;
 pub use ending::{put_end, put_limit};
 pub use profile::{Profile, put_profile};
 pub use strict_run::{Unwritten, find_unwritten};
 pub use strict_trace::write_trace_until;
-pub use taken::{Taken, put_taken};
-pub use texts::Texts;
+pub use taken::{Taken, put_taken, step_on};
 pub use trace::{Shown, TraceFault, put_lines, write_trace};
 pub use unwritten::put_unwritten;

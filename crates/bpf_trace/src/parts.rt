@@ -1,17 +1,14 @@
 //! What a step wrote, as its line tells it.
-ghost use Rattle.std.specs.Prelude.{◌≡◌, ◌≤◌, ◌+◌, ◌-◌, ◌++◌, ◌<◌, flat_map, length, slice_index};
-ghost use Rattle.bpf_steps.specs.State.{depth};
-ghost use Rattle.bpf_origin.specs.Places.{depth_for, value};
+ghost use Rattle.std.specs.Prelude.{◌≡◌, ◌≤◌, ◌+◌, ◌-◌, ◌++◌, flat_map, length};
 ghost use Rattle.bpf_origin.specs.Texts.{bytes_value, register_name, value_text};
 ghost use Rattle.bpf_origin.specs.declared.place.Part.TheVariants as part;
-ghost use Rattle.bpf_origin.specs.declared.place.Place.TheVariants as place;
 ghost use Rattle.bpf_trace.specs.Taken.{parts_by, register_by};
 ghost use Rattle.bpf_trace.specs.Traces.{written_text};
 
 use crate::line::Line;
 use bpf_entries::{FRAME_LEN, frame_base};
 use bpf_machine::{Change, Cpu};
-use bpfdb_script::number_in;
+use bpf_origin::{depth_for, register_at, word_at};
 use byteorder::{ByteOrder, LittleEndian};
 
 /// Adds each part that the step with this change wrote, in the machine after it.
@@ -58,16 +55,10 @@ fn add_register(line: &mut Line, cpu: &Cpu, number: u8)
     ensures text { line.new ≡ line.old ++ written_text cpu.now (register_by cpu.now number) }
     ensures short { length line.new ≤ length line.old + 80 }
 {
+    let depth = depth_for(cpu.depth(), number);
     line.add(b"; ");
-    add_register_name(line, depth_in(cpu, number), number);
-    add_value(line, value_in(cpu, number));
-}
-
-/// The depth that a register of the present function counts as.
-fn depth_in(cpu: &Cpu, number: u8) -> usize
-    ensures { result ≡ depth_for (depth cpu.now) number }
-{
-    if number < 6 { 0 } else { cpu.depth() }
+    add_register_name(line, depth, number);
+    add_value(line, register_at(cpu, depth, number));
 }
 
 /// Adds the name of a register, by the depth of its function unless that is 0.
@@ -85,25 +76,6 @@ fn add_register_name(line: &mut Line, depth: usize, number: u8)
     }
 }
 
-/// The number in a register of the present function.
-fn value_in(cpu: &Cpu, number: u8) -> u64
-    ensures { result ≡ value cpu.now (place.Register (depth_for (depth cpu.now) number) number) }
-{
-    present_at(cpu, number)
-}
-
-/// One of the present r0 to r9; 0 for another number.
-fn present_at(cpu: &Cpu, number: u8) -> u64
-    ensures { result ≡ slice_index cpu.now.registers number }
-{
-    cpu.invariant();
-    if number < 10 {
-        number_in(cpu, number)
-    } else {
-        0
-    }
-}
-
 /// Adds the newest word of the trace.
 fn add_word(line: &mut Line, cpu: &Cpu)
     requires { length line.old ≤ 400 }
@@ -115,13 +87,6 @@ fn add_word(line: &mut Line, cpu: &Cpu)
     line.add(b"; word ");
     line.add_decimal(index as u64);
     add_value(line, word_at(cpu.trace(), index));
-}
-
-/// The word at an index, 0 past the end.
-fn word_at(words: &[u64], index: usize) -> u64
-    ensures { result ≡ slice_index words.now index }
-{
-    words.get(index).copied().unwrap_or(0)
 }
 
 /// Adds a run of bytes, with the number that they make.

@@ -1,17 +1,14 @@
 //! The first byte that a step reads of the stack where nothing was written.
 ghost use Rattle.std.specs.Prelude.{◌≡◌, List};
-ghost use Rattle.bpf_isa.specs.Sizes.{size_len};
-ghost use Rattle.bpf_origin.specs.Reads.{load_len as load_len_of};
-ghost use Rattle.bpf_steps.specs.Access.{address as address_in};
-ghost use Rattle.bpf_steps.specs.Atomics.{size_of};
 ghost use Rattle.bpf_steps.specs.Next.{change as change_in};
 ghost use Rattle.bpf_steps.specs.State.{State};
 ghost use Rattle.bpf_trace.specs.Marks.{IsMarked, first_by, first_of_call, first_of_value, first_with};
 ghost use Rattle.bpf_trace.specs.Written.{is_stop as is_stop_of, read_unwritten};
 
 use crate::marks::{ROOM, first_unwritten};
-use bpf_isa::{Address, Helper, Insn, LoadSize, Width};
+use bpf_isa::{Helper, Insn};
 use bpf_machine::{Change, Cpu};
+use bpf_origin::{address_of, load_len, width_len};
 use bpfdb_script::number_in;
 
 /// The address of the first such byte that the next step reads, which does this.
@@ -91,33 +88,5 @@ fn first_in_value(cpu: &Cpu, marks: &[bool; ROOM], change: &Change) -> Option<u6
             first_unwritten(marks, number_in(cpu, 3), usize::from(length))
         }
         _ => None,
-    }
-}
-
-/// The address that an access begins at; addresses wrap.
-fn address_of(cpu: &Cpu, at: Address) -> u64
-    ensures { result ≡ address_in cpu.now at }
-{
-    cpu.reg(at.base)
-        .wrapping_add(i64::from(at.offset).cast_unsigned())
-}
-
-/// How many bytes a load reads.
-fn load_len(size: LoadSize) -> usize
-    ensures { result ≡ load_len_of size }
-{
-    match size {
-        LoadSize::Plain(size) => size.len(),
-        LoadSize::Signed(size) => size.len(),
-    }
-}
-
-/// How many bytes an atomic operation replaces.
-fn width_len(width: Width) -> usize
-    ensures { result ≡ size_len (size_of width) }
-{
-    match width {
-        Width::Bits32 => 4,
-        Width::Bits64 => 8,
     }
 }

@@ -2,7 +2,7 @@
 ghost use Rattle.std.specs.Prelude.{◌≡◌, ◌<◌, ◌++◌, codes, false, length};
 ghost use Rattle.bpf_entries.specs.Status.{has_ended};
 ghost use Rattle.bpf_steps.specs.Next.{next};
-ghost use Rattle.bpf_trace.specs.Texts.{texts_of};
+ghost use Rattle.bpf_cover.specs.Texts.{texts_of};
 ghost use Rattle.bpf_trace.specs.Traces.{step_line};
 ghost use Rattle.counted_io.specs.Writing.{WritesAfter};
 
@@ -10,10 +10,18 @@ use crate::head::put_head;
 use crate::line::Line;
 use crate::line_end::put_ended;
 use crate::parts::add_parts;
-use crate::texts::Texts;
+use bpf_cover::Texts;
 use bpf_machine::{Cpu, Ended};
 use counted_io::{Counted, WriteFault, put};
 use std::io::Write;
+
+/// What the line of a step tells besides the step: it begins with a number, and ends with what is told
+/// of the slot.
+#[derive(Clone, Copy)]
+pub struct Row<'a> {
+    pub number: u64,
+    pub place: &'a [u8],
+}
 
 /// Takes a step, and writes its line: its number, its slot and its instruction, what it wrote, and
 /// what is told of its slot. The line is put together in memory, by the program's texts, and written
@@ -21,9 +29,8 @@ use std::io::Write;
 pub fn put_step<W: Write>(
     cpu: &mut Cpu,
     texts: &Texts,
-    place: &[u8],
+    row: &Row<'_>,
     line: &mut Line,
-    number: u64,
     writer: &mut Counted<W>,
     so_far: Result<(), WriteFault>,
 ) -> Result<(), WriteFault>
@@ -31,16 +38,16 @@ pub fn put_step<W: Write>(
     requires texts { texts.now ≡ texts_of cpu.old.program }
     ensures next { cpu.new ≡ next cpu.old }
     ensures text { WritesAfter W.contents writer.old so_far writer.new result
-        (step_line place.now number cpu.old) }
+        (step_line row.now.place.now row.now.number cpu.old) }
 {
     cpu.invariant();
     let slot = usize::from(cpu.pc());
     match cpu.look() {
         Ok(change) => {
             cpu.commit(&change);
-            let told = put_head(line, number, texts.at(slot), writer, so_far);
+            let told = put_head(line, row.number, texts.at(slot), writer, so_far);
             add_parts(line, cpu, &change);
-            put_told(line, place, writer, told)
+            put_told(line, row.place, writer, told)
         }
         Err(Ended) => unreachable!(),
     }

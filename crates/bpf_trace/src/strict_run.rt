@@ -9,8 +9,9 @@ ghost use Rattle.bpf_trace.specs.Written.{read_unwritten, unwritten_of};
 use crate::Taken;
 use crate::marks::{ROOM, note};
 use crate::reads::first_read;
+use crate::taken::step_on;
 use bpf_isa::Insn;
-use bpf_machine::{Cpu, Ended};
+use bpf_machine::Cpu;
 
 /// A step that would read a byte of the stack which no step wrote since its frame was entered.
 #[derive(Clone, Copy)]
@@ -63,7 +64,7 @@ fn go_on(cpu: &mut Cpu, marks: &mut [bool; ROOM]) -> Option<u64>
 {
     cpu.invariant();
     if !may_touch(cpu) {
-        step(cpu);
+        step_on(cpu);
         return None;
     }
     let taken = Taken {
@@ -105,17 +106,5 @@ fn insn_touches(insn: &Insn) -> bool
         | Insn::JumpLong { .. }
         | Insn::LoadWide { .. } => false,
         _ => true,
-    }
-}
-
-/// Takes a step.
-#[inline(always)]
-fn step(cpu: &mut Cpu)
-    requires { has_ended cpu.old.status ≡ false }
-    ensures { cpu.new ≡ next cpu.old }
-{
-    match cpu.advance() {
-        Ok(()) => {}
-        Err(Ended) => unreachable!(),
     }
 }

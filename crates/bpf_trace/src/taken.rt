@@ -1,6 +1,8 @@
-//! The line of a step that was taken.
-ghost use Rattle.std.specs.Prelude.{flat_map};
+//! Steps that are taken, and the line of one.
+ghost use Rattle.std.specs.Prelude.{◌≡◌, false, flat_map};
+ghost use Rattle.bpf_entries.specs.Status.{has_ended};
 ghost use Rattle.bpf_isa.specs.Programs.{IsStart};
+ghost use Rattle.bpf_steps.specs.Next.{next};
 ghost use Rattle.bpf_steps.specs.State.{State};
 ghost use Rattle.bpf_trace.specs.Taken.{Took, parts_by};
 ghost use Rattle.bpf_trace.specs.Traces.{step_line, written_text};
@@ -8,7 +10,7 @@ ghost use Rattle.counted_io.specs.Writing.{WritesAfter};
 
 use crate::line::Line;
 use crate::parts::add_parts;
-use bpf_machine::{Change, Cpu};
+use bpf_machine::{Change, Cpu, Ended};
 use bpfdb_script::put_at;
 use counted_io::{Counted, WriteFault, put, put_decimal};
 use std::io::Write;
@@ -18,6 +20,18 @@ use std::io::Write;
 pub struct Taken {
     pub slot: u16,
     pub change: Change,
+}
+
+/// Takes a step.
+#[inline(always)]
+pub fn step_on(cpu: &mut Cpu)
+    requires { has_ended cpu.old.status ≡ false }
+    ensures { cpu.new ≡ next cpu.old }
+{
+    match cpu.advance() {
+        Ok(()) => {}
+        Err(Ended) => unreachable!(),
+    }
 }
 
 /// Writes the line of a step that led to where a machine stands, as a trace has it, with what is told

@@ -5,15 +5,15 @@ ghost use Rattle.bpf_steps.specs.Next.{next};
 ghost use Rattle.bpf_session.specs.Plain.{plain_end};
 ghost use Rattle.bpf_trace.specs.Runs.{IsOnTheWay, Takes, steps_of};
 ghost use Rattle.bpf_trace.specs.Tellings.{Tells};
-ghost use Rattle.bpf_trace.specs.Texts.{texts_of};
+ghost use Rattle.bpf_cover.specs.Texts.{texts_of};
 ghost use Rattle.bpf_trace.specs.Traces.{line_of, lines_from, lines_text, told_since, trace_text};
 ghost use Rattle.counted_io.specs.Writing.{WritesAfter};
 
 use crate::branch::put_branch;
 use crate::ending::put_end;
 use crate::line::Line;
-use crate::step::put_step;
-use crate::texts::Texts;
+use crate::step::{Row, put_step};
+use bpf_cover::Texts;
 use bpf_machine::Cpu;
 use bpfdb_script::{SlotTexts, text_of_slot};
 use counted_io::{Counted, WriteFault};
@@ -172,16 +172,11 @@ fn put_steps<W: Write>(
             };
         }
         let place = text_of_slot(shown.places, usize::from(cpu.pc()));
-        told = put_line(
-            cpu,
-            texts,
-            shown,
-            told_since(before, place),
-            &mut line,
-            passed + k + 1,
-            writer,
-            told,
-        );
+        let row = Row {
+            number: passed + k + 1,
+            place: told_since(before, place),
+        };
+        told = put_line(cpu, texts, shown, &row, &mut line, writer, told);
         before = place;
         match told {
             Ok(()) => {}
@@ -211,14 +206,13 @@ fn told_since<'a>(before: &[u8], told: &'a [u8]) -> &'a [u8]
     }
 }
 
-/// Takes a step, and writes its line, if it is shown, with what is told of its slot.
+/// Takes a step, and writes its line, if it is shown.
 fn put_line<W: Write>(
     cpu: &mut Cpu,
     texts: &Texts,
     shown: &Shown<'_>,
-    place: &[u8],
+    row: &Row<'_>,
     line: &mut Line,
-    number: u64,
     writer: &mut Counted<W>,
     so_far: Result<(), WriteFault>,
 ) -> Result<(), WriteFault>
@@ -226,11 +220,11 @@ fn put_line<W: Write>(
     requires texts { texts.now ≡ texts_of cpu.old.program }
     ensures next { cpu.new ≡ next cpu.old }
     ensures text { WritesAfter W.contents writer.old so_far writer.new result
-        (line_of shown.now place.now number cpu.old) }
+        (line_of shown.now row.now.place.now row.now.number cpu.old) }
 {
     if shown.only_branches {
-        put_branch(cpu, texts, shown.places, line, number, writer, so_far)
+        put_branch(cpu, texts, shown.places, line, row.number, writer, so_far)
     } else {
-        put_step(cpu, texts, place, line, number, writer, so_far)
+        put_step(cpu, texts, row, line, writer, so_far)
     }
 }

@@ -5,7 +5,8 @@ use Rattle.std.proofs.lemmas.Bool.Decides.{nat_tests}
 use Rattle.std.proofs.lemmas.List.{get_or-set_same, get_or-set_other}
 use Rattle.bpf_isa.specs.Programs.{Checked, insn_at}
 use Rattle.bpf_isa.specs.declared.instruction.Insn.{Insn}
-use Rattle.bpf_whynot.specs.Asked.{and_goals, goal_in, goals_of, number, start_at, with_goal}
+use Rattle.bpf_origin.specs.Asked.{number}
+use Rattle.bpf_whynot.specs.Asked.{and_goals, goal_in, goals_of, start_at, with_goal}
 use Rattle.bpf_whynot.specs.Reach.{is_goal}
 use Rattle.bpf_whynot.specs.Tables.{AreGoals, is_in}
 use Rattle.bpf_whynot.specs.declared.fault.GoalFault.{GoalFault}

@@ -1,16 +1,11 @@
 -- What is asked about: slots of a program, by their text. bpfdb's own choice.
 use Rattle.std.specs.Prelude.{ℕ, List, [], ◌∷◌, Option, Some, None, Result, Ok, Err, is_some, if◌then◌else◌}
-use Rattle.std.specs.Option.{option_and_then}
-use Rattle.counted_io.specs.Numerals.{natural, as_u64}
 use Rattle.bpf_isa.specs.Maps.{items_of}
 use Rattle.bpf_isa.specs.Programs.{Checked, insn_at}
+use Rattle.bpf_origin.specs.Asked.{number}
 use lib.Chars.{codes}
 use Rattle.bpf_whynot.specs.declared.fault.GoalFault.{GoalFault}
 use Rattle.bpf_whynot.specs.declared.fault.GoalFault.TheVariants.{NoSlot, NoInstruction}
-
--- A number below 2^64, as commands have them.
-abbrev pub number : List ℕ → Option ℕ
-number text = option_and_then as_u64 (natural text)
 
 -- A slot at which an instruction starts.
 abbrev pub start_at : Checked → Option ℕ → Result ℕ GoalFault

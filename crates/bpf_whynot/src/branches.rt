@@ -11,7 +11,7 @@ ghost use Rattle.bpf_steps.specs.State.{State};
 ghost use Rattle.counted_io.specs.Writing.{WritesAfter};
 
 use crate::branch_aim::Aim;
-use crate::hunt::{Hunt, Turn};
+use crate::hunt::{Hunt, Turn, Undone};
 use crate::keep::Keep;
 use crate::turn::{chase, turn};
 use crate::value::{spare_written, want_read};
@@ -106,15 +106,14 @@ fn begin(
 fn take<K: Keeper, W: Write>(
     alloc: Global,
     course: &mut Course<K>,
-    moves: u64,
+    number: u64,
     question: Question<'_>,
     hunt: Hunt,
     wanted: &mut Wanted,
     writer: &mut Counted<W>,
 ) -> Result<Turn, AllocError>
-    requires { 0 < moves }
     ensures takes { IfOk result (λ turn. (k : ℕ) (r : Record) (h f : List Record) →
-        moves ≡ k + 1 → Follows K.holds course.old (record { history = r ∷ h; ahead = f }) →
+        number ≡ k + 1 → Follows K.holds course.old (record { history = r ∷ h; ahead = f }) →
         Knows course.old.state hunt → Takes W.contents question.entry k r h course.old.state
         wanted.old wanted.new writer.old hunt writer.new turn) }
     ensures back { (r : Record) (h f : List Record) →
@@ -133,17 +132,12 @@ fn take<K: Keeper, W: Write>(
         let _all = want_read(cpu, taken.is_step, question.addresses, wanted);
         return follow(alloc, cpu, wanted, hunt);
     }
-    turn(
-        alloc,
-        cpu,
-        taken.is_step,
+    let undone = Undone {
+        number,
+        is_step: taken.is_step,
         after,
-        moves,
-        question,
-        hunt,
-        wanted,
-        writer,
-    )
+    };
+    turn(alloc, cpu, undone, question, hunt, wanted, writer)
 }
 
 /// Whether the answer about values tells a move, with so many more lines.

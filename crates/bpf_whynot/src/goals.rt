@@ -5,7 +5,7 @@ ghost use Rattle.bpf_whynot.specs.Tables.{AreGoals};
 
 use crate::fault::GoalFault;
 use bpf_isa::Program;
-use counted_io::natural;
+use bpf_origin::number_in;
 use std::alloc::{AllocError, Global};
 
 /// One flag a slot, none of them set.
@@ -56,11 +56,4 @@ fn start_at(program: &Program, slot: u64) -> Result<usize, GoalFault>
     } else {
         Err(GoalFault::NoInstruction)
     }
-}
-
-/// The number that a text is.
-fn number_in(text: &[u8]) -> Option<u64>
-    ensures { result ≡ spec.number text.now }
-{
-    natural(text)?.to_u64()
 }

@@ -1,8 +1,8 @@
 //! A pass over a history that looks for branches, as far as it has come.
 
-use crate::Sure;
 use crate::branch_aim::Aim;
 use crate::keep::Keep;
+use crate::{Standing, Sure};
 use counted_io::WriteFault;
 
 /// What is looked for, and what was told so far.
@@ -20,6 +20,17 @@ pub struct Hunt {
     pub told: Result<(), WriteFault>,
     /// What holds the values that are looked for.
     pub keep: Keep,
+}
+
+/// A move that was taken back.
+#[derive(Clone, Copy)]
+pub struct Undone {
+    /// Its number: that of the newest is 1.
+    pub number: u64,
+    /// Whether it was a step.
+    pub is_step: bool,
+    /// Where it led to.
+    pub after: Standing,
 }
 
 /// What became of one move of the pass.

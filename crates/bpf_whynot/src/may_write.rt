@@ -1,14 +1,12 @@
 //! What an instruction may write, of the function that it stands in.
 ghost use Rattle.std.specs.Prelude.{◌≡◌, ◌≤◌, ◌++◌, [], length};
 ghost use Rattle.bpf_isa.specs.Programs.{written_of};
-ghost use Rattle.bpf_isa.specs.Sizes.{size_len};
-ghost use Rattle.bpf_steps.specs.Atomics.{size_of};
 ghost use Rattle.bpf_steps.specs.Platform.{frame_count};
 ghost use Rattle.bpf_whynot.specs.Keeps as spec;
 
 use bpf_entries::{FRAME_LEN, frame_base};
-use bpf_isa::{Address, Insn, Width};
-use bpf_origin::{Part, Parts, register_part};
+use bpf_isa::{Address, Insn};
+use bpf_origin::{Part, Parts, register_part, width_len};
 
 /// What an instruction may write of a function at a depth of calls: the register that it replaces,
 /// and bytes of the function's frame, by r10.
@@ -68,14 +66,4 @@ fn own_address(depth: usize, offset: i16) -> u64
 {
     let pointer = frame_base(depth as u32) + FRAME_LEN as u64;
     pointer.wrapping_add(i64::from(offset).cast_unsigned())
-}
-
-/// How many bytes an atomic operation replaces.
-fn width_len(width: Width) -> usize
-    ensures { result ≡ size_len (size_of width) }
-{
-    match width {
-        Width::Bits32 => 4,
-        Width::Bits64 => 8,
-    }
 }

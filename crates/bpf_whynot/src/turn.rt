@@ -10,13 +10,13 @@ ghost use Rattle.bpf_whynot.specs.Sures.{TellsSure, told_sure};
 ghost use Rattle.bpf_whynot.specs.Standings.{standing};
 ghost use Rattle.bpf_whynot.specs.Branches as spec;
 ghost use Rattle.counted_io.specs.Writing.{WritesAfter};
-ghost use Rattle.bpf_whynot.specs.BranchTurns.{Chases, IsToldAs, Knows, Takes, quest_of};
+ghost use Rattle.bpf_whynot.specs.BranchTurns.{Chases, Knows, Takes, quest_of};
 ghost use Rattle.bpf_machine.specs.Moves.{overwritten};
 ghost use Rattle.bpf_origin.specs.Wanted.{still_wanted};
 ghost use Rattle.bpf_origin.specs.declared.place.Place.{Place};
 
 use crate::branch_aim::Aim;
-use crate::hunt::{Hunt, Turn};
+use crate::hunt::{Hunt, Turn, Undone};
 use crate::keep::Keep;
 use crate::kept::kept_it;
 use crate::{Standing, Sure, put_line, target_slot};
@@ -27,24 +27,21 @@ use counted_io::{Counted, WriteFault, put};
 use std::alloc::{AllocError, Global};
 use std::io::Write;
 
-/// Takes notice of a move that was taken back, the one with this number, from the machine before it
-/// and where it led to.
+/// Takes notice of a move that was taken back, from the machine before it. A branch is told, where
+/// there is room for its line.
 pub fn turn<W: Write>(
     alloc: Global,
     cpu: &Cpu,
-    is_step: bool,
-    after: Standing,
-    moves: u64,
+    undone: Undone,
     question: Question<'_>,
     hunt: Hunt,
     wanted: &Wanted,
     writer: &mut Counted<W>,
 ) -> Result<Turn, AllocError>
-    requires { 0 < moves }
     ensures { IfOk result (λ turn. (k : ℕ) (r : Record) (h : List Record) (y : State)
         (was : List Place) → wanted.now ≡ still_wanted y (overwritten r.before r.move) was →
-        moves ≡ k + 1 → cpu.now ≡ r.before → is_step ≡ is_step_of r.move → after ≡ standing y →
-        Knows r.before hunt → spec.made (quest_of hunt was) r y ≡ false →
+        undone.number ≡ k + 1 → cpu.now ≡ r.before → undone.is_step ≡ is_step_of r.move →
+        undone.after ≡ standing y → Knows r.before hunt → spec.made (quest_of hunt was) r y ≡ false →
         Takes W.contents question.entry k r h y was wanted.now writer.old hunt writer.new turn) }
 {
     let deep = cpu.depth();
@@ -52,15 +49,28 @@ pub fn turn<W: Write>(
     if deep < own {
         return leave(alloc, cpu, wanted, hunt);
     }
+    let (is_step, after) = (undone.is_step, undone.after);
     let decided = decided_it(cpu, is_step, after, &hunt);
     let kept = kept_it(cpu, is_step, after, &hunt.keep);
     let some = either(decided, kept);
-    if some {
-        return tell(
-            alloc, cpu, is_step, after, moves, question, hunt, wanted, decided, writer,
-        );
+    if !some {
+        return Ok(Turn::On(hunt));
     }
-    Ok(Turn::On(hunt))
+    let lines = hunt.lines;
+    if lines == 0 {
+        return Ok(Turn::Cut(put(writer, hunt.told, b"cut: there are more lines\n")));
+    }
+    let begun = put_kept(writer, hunt.told, decided);
+    let told = put_line(
+        writer,
+        begun,
+        question.places,
+        undone.number,
+        cpu,
+        is_step,
+        after,
+    );
+    follow(alloc, cpu, wanted, decided, told_on(hunt, told))
 }
 
 /// Whether one of two holds.
@@ -68,35 +78,6 @@ fn either(first: bool, second: bool) -> bool
     ensures { result ≡ (first || second) }
 {
     first || second
-}
-
-/// Tells a branch, where there is room for its line.
-fn tell<W: Write>(
-    alloc: Global,
-    cpu: &Cpu,
-    is_step: bool,
-    after: Standing,
-    moves: u64,
-    question: Question<'_>,
-    hunt: Hunt,
-    wanted: &Wanted,
-    decided: bool,
-    writer: &mut Counted<W>,
-) -> Result<Turn, AllocError>
-    requires { 0 < moves }
-    ensures { IfOk result (λ turn. (k : ℕ) (r : Record) (h : List Record) (y : State)
-        (was : List Place) → wanted.now ≡ still_wanted y (overwritten r.before r.move) was →
-        moves ≡ k + 1 → cpu.now ≡ r.before → is_step ≡ is_step_of r.move → after ≡ standing y →
-        Knows r.before hunt → IsToldAs decided (quest_of hunt was) r y →
-        Takes W.contents question.entry k r h y was wanted.now writer.old hunt writer.new turn) }
-{
-    let lines = hunt.lines;
-    if lines == 0 {
-        return Ok(Turn::Cut(put(writer, hunt.told, b"cut: there are more lines\n")));
-    }
-    let begun = put_kept(writer, hunt.told, decided);
-    let told = put_line(writer, begun, question.places, moves, cpu, is_step, after);
-    follow(alloc, cpu, wanted, decided, told_on(hunt, told))
 }
 
 /// Writes what stands before the line of a branch that decided nothing.

@@ -7,7 +7,7 @@ ghost use Rattle.counted_io.specs.Writing.{WritesAfter};
 
 use crate::job::Job;
 use crate::opening::opening_for;
-use bpf_diff::{BothTexts, Compared, Start, Values, put_diff, put_writes};
+use bpf_diff::{BothTexts, Compared, Runs, Start, Values, put_diff, put_writes};
 use bpf_machine::Cpu;
 use bpfdb_options::DiffAsk;
 use counted_io::{Counted, WriteFault};
@@ -96,25 +96,18 @@ fn put_compared<W: Write>(
     if diff.compares_writes {
         let one = opening_for(&job.options);
         let another = opening_for(&other.options);
-        let start = Start {
-            context: job.context,
-            opening: &one,
-        };
-        let other_start = Start {
-            context: other.context,
-            opening: &another,
-        };
-        put_writes(
-            alloc,
-            writer,
-            so_far,
-            texts,
-            first,
-            second,
-            &start,
-            &other_start,
+        let runs = Runs {
+            first: Start {
+                context: job.context,
+                opening: &one,
+            },
+            second: Start {
+                context: other.context,
+                opening: &another,
+            },
             limit,
-        )
+        };
+        put_writes(alloc, writer, so_far, texts, first, second, &runs)
     } else {
         Ok(put_diff(writer, so_far, texts, first, second, limit))
     }

@@ -12,7 +12,7 @@ use Rattle.bpf_diff.proofs.outputs.put_writes.Goals as goal
 pub returns-in-None-clause-text : goal.returns-in-None-clause-text
 returns-in-None-clause-text g c =
     WritesAfter-text g.W.Write.contents _ _ _ _ _ _ c.put_same.ensures.text
-    (same-text c.args.limit _ _ c.args.first.now c.args.second.now _ _ c.run-one.ensures c.run-another.ensures _ _ c.args.texts
+    (same-text c.args.runs.now.limit _ _ c.args.first.now c.args.second.now _ _ c.run-one.ensures c.run-another.ensures _ _ c.args.texts
     (sym c.in-None.is ∙ c.first_place.ensures))
 
 pub returns-in-None-clause-finds : goal.returns-in-None-clause-finds
@@ -20,9 +20,9 @@ returns-in-None-clause-finds g c =
     let none = sym c.in-None.is ∙ c.first_place.ensures in
     record {
       same = c.put_same.ensures.same
-          ∙ same-alike c.args.limit _ _ c.args.first.now c.args.second.now _ _ c.run-one.ensures c.run-another.ensures _ _ none;
+          ∙ same-alike c.args.runs.now.limit _ _ c.args.first.now c.args.second.now _ _ c.run-one.ensures c.run-another.ensures _ _ none;
       values = ap pair_of c.put_same.ensures.values
-          ∙ none-left-otherwise c.args.limit _ _ c.args.first.now c.args.second.now _ _ c.run-one.ensures c.run-another.ensures _ _ none;
+          ∙ none-left-otherwise c.args.runs.now.limit _ _ c.args.first.now c.args.second.now _ _ c.run-one.ensures c.run-another.ensures _ _ none;
     }
 
 pub returns-in-None-clause-programs : goal.returns-in-None-clause-programs
@@ -30,10 +30,10 @@ returns-in-None-clause-programs g c = (Steps-program _ _ _ c.run-one.ensures.ste
 
 pub returns-clause-text : goal.returns-clause-text
 returns-clause-text g c =
-    let limit = c.args.limit in
+    let limit = c.args.runs.now.limit in
     let p = c.in-Some.place in
-    let one = again limit _ c.args.start.now c.args.first.now _ c.requires.first c.run-one.ensures in
-    let other = again limit _ c.args.other.now c.args.second.now _ c.requires.second c.run-another.ensures in
+    let one = again limit _ c.args.runs.now.first c.args.first.now _ c.requires.first c.run-one.ensures in
+    let other = again limit _ c.args.runs.now.second c.args.second.now _ c.requires.second c.run-another.ensures in
     let n = c.in-Ok.ensures in
     let m = c.in-Ok-find_writer.ensures in
     WritesAfter-text g.W.Write.contents _ _ _ _ _ _ c.put_difference.ensures.text
@@ -43,10 +43,10 @@ returns-clause-text g c =
 
 pub returns-clause-finds : goal.returns-clause-finds
 returns-clause-finds g c =
-    let limit = c.args.limit in
+    let limit = c.args.runs.now.limit in
     let p = c.in-Some.place in
-    let one = again limit _ c.args.start.now c.args.first.now _ c.requires.first c.run-one.ensures in
-    let other = again limit _ c.args.other.now c.args.second.now _ c.requires.second c.run-another.ensures in
+    let one = again limit _ c.args.runs.now.first c.args.first.now _ c.requires.first c.run-one.ensures in
+    let other = again limit _ c.args.runs.now.second c.args.second.now _ c.requires.second c.run-another.ensures in
     let n = c.in-Ok.ensures in
     let m = c.in-Ok-find_writer.ensures in
     let some = sym c.in-Some.is ∙ c.first_place.ensures in

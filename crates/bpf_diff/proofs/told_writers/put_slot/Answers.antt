@@ -1,5 +1,5 @@
 use Rattle.counted_io.proofs.Appending.{WritesAfter-text}
-use Rattle.bpf_trace.proofs.Making.{text_there}
+use Rattle.bpf_cover.proofs.Making.{text_there}
 use Rattle.bpf_diff.proofs.told_writers.put_slot.Goals as goal
 
 pub returns-in-Some : goal.returns-in-Some

@@ -1,6 +1,6 @@
 use Rattle.std.proofs.Common.{◌++◌, ℕ, ap, codes, decimal, refl}
 use Rattle.counted_io.proofs.Appending.{WritesAfter-WritesAfter}
-use Rattle.bpf_trace.specs.Texts.{slot_text}
+use Rattle.bpf_cover.specs.Texts.{slot_text}
 use Rattle.bpf_diff.specs.Writers.{writer_text}
 use Rattle.bpf_diff.proofs.TraceLines.{not_zero}
 use Rattle.bpf_diff.proofs.told_writers.put_writer.Goals as goal

@@ -11,9 +11,9 @@ use Rattle.bpf_lines.proofs.rows.put_rows.Given as goal
 
 abbrev pub invariant-loop-slot : goal.invariant-loop-slot
 invariant-loop-slot g l = record {
-  function : l.function ≡ last_said (function_at l.plan (part_of l.plan.parts l.side).section) l.slot;
+  function : l.function ≡ last_said (function_at l.plan (part_of l.plan.parts l.fn.side).section) l.slot;
   line : l.line ≡ last_said (line_at l.told.listed l.told.block) l.slot;
   begun : IfSome l.function (λ k. k < l.slot);
   lined : IfSome l.line (λ k. k < l.slot);
-  written : WritesAfter g.W.Write.contents l.fn.writer l.fn.so_far l.writer l.all (built (with_row l.plan (part_of l.plan.parts l.side) l.told l.words l.first) l.slot);
+  written : WritesAfter g.W.Write.contents l.fn.writer l.fn.so_far l.writer l.all (built (with_row l.plan (part_of l.plan.parts l.fn.side) l.told l.words l.first) l.slot);
 }

@@ -7,7 +7,7 @@ returns g c = λ before.
     record {
       last = o.0;
       told = _;
-      done = (c.heed_line-moves.result, o.2, c.with_moves.ensures, refl, refl);
+      done = (c.heed_line-moves.result, o.2, c.with_moves-talk.ensures, refl, refl);
       held = o.1;
       written = c.put_sent.ensures o.0 o.1 _ _ c.acknowledge-begun.ensures;
     }

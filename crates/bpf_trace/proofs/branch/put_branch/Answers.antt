@@ -28,4 +28,4 @@ returns-clause-text g c =
     let way = rw (c.add_operands.ensures.text, c.pc-from.ensures, c.pc-in-Some.ensures) at c.add_way.ensures.text in
     let told = rw slot at c.text_of_slot.ensures in
     WritesAfter-WritesAfter g.W.Write.contents _ _ _ _ _ _ _ _ _ held.written c.put_ended.ensures
-    (whole_branch c.args.places c.args.number x c.step-in-Some.new.cpu c.in-Some.insn held.told _ _ _ (sym here) (sym c.is_branch.ensures ∙ c.if-not-is_branch.false) c.step-in-Some.ensures named held.parts (ended _ _ _ _ way told))
+    (whole_branch c.args.places c.args.number x c.step_on-in-Some.new.cpu c.in-Some.insn held.told _ _ _ (sym here) (sym c.is_branch.ensures ∙ c.if-not-is_branch.false) c.step_on-in-Some.ensures named held.parts (ended _ _ _ _ way told))

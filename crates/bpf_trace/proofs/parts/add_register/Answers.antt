@@ -6,5 +6,5 @@ use Rattle.bpf_trace.proofs.parts.add_register.Goals as goal
 pub returns-clause-text : goal.returns-clause-text
 unfolding written_text part_text
 returns-clause-text c =
-    let whole = rw (c.add_register_name.ensures.text, c.add.ensures, c.value_in.ensures, c.depth_in.ensures) at c.add_value.ensures.text in
+    let whole = rw (c.add_register_name.ensures.text, c.add.ensures, c.register_at.ensures, c.depth_for-depth.ensures, c.depth.ensures) at c.add_value.ensures.text in
     simp append_assoc at whole

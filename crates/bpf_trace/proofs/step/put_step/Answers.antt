@@ -18,4 +18,4 @@ returns-clause-text g c =
     let named = text ∙ text_is x.program c.args.texts.now x.pc c.requires.texts c.invariant.ensures.start in
     let wrote = rw change at c.add_parts.ensures.text in
     WritesAfter-WritesAfter g.W.Write.contents _ _ _ _ _ _ _ _ _ held.written c.put_told.ensures
-    (whole_line c.args.number x c.commit.new.self held.told _ _ _ _ _ c.invariant.ensures c.commit.ensures named held.parts wrote refl)
+    (whole_line c.args.row.now.number x c.commit.new.self held.told _ _ _ _ _ c.invariant.ensures c.commit.ensures named held.parts wrote refl)

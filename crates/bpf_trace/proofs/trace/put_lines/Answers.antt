@@ -1,5 +1,5 @@
 use Rattle.std.proofs.Common.{◌∙◌, ap, sym}
-use Rattle.bpf_trace.specs.Texts.{texts_of}
+use Rattle.bpf_cover.specs.Texts.{texts_of}
 use Rattle.bpf_trace.proofs.Lines.{shown_are}
 use Rattle.bpf_trace.proofs.Stepping.{Steps-program}
 use Rattle.bpf_trace.proofs.trace.put_lines.Goals as goal

@@ -1,6 +1,6 @@
 use Rattle.std.proofs.Common.{◌+◌, ◌∙◌, ap, arith, refl, sym}
 use Rattle.counted_io.proofs.Appending.{WritesAfter-WritesAfter}
-use Rattle.bpf_trace.specs.Texts.{texts_of}
+use Rattle.bpf_cover.specs.Texts.{texts_of}
 use Rattle.bpf_trace.proofs.Lines.{anyway, broken_more, trace_is}
 use Rattle.bpf_trace.proofs.Stepping.{Steps-Steps, Steps-program, whole_run, whole_end, whole_way}
 use Rattle.bpf_trace.proofs.trace.put_trace.Goals as goal
