@@ -3,6 +3,7 @@ pub mod Lines
 pub mod Making
 pub mod Steps
 pub mod Branching
+pub mod Calling
 pub mod Counting
 pub mod TheRuns
 pub mod Telling
