@@ -2,6 +2,7 @@ pub mod Stepping
 pub mod Lines
 pub mod Steps
 pub mod Branching
+pub mod Calling
 pub mod Counting
 pub mod TheRuns
 pub mod Telling

@@ -9,3 +9,6 @@ pub mod Taken
 pub mod Written
 pub mod UnwrittenTexts
 pub mod Marks
+pub mod Prototypes
+pub mod Calls
+pub mod Turns

@@ -3,14 +3,18 @@
 #![tactic(auto)]
 
 mod branch;
+mod call_text;
+mod calls;
 mod ending;
 mod head;
 pub mod laws;
 mod line;
 mod line_end;
 mod marks;
+mod name_list;
 mod parts;
 mod profile;
+mod prototypes;
 mod reads;
 mod step;
 mod strict_run;
@@ -20,6 +24,7 @@ mod trace;
 mod unwritten;
 
 pub use bpf_cover::Texts;
+pub use calls::{Called, Callee, Pending, write_calls};
 pub use ending::{put_end, put_limit};
 pub use profile::{Profile, put_profile};
 pub use strict_run::{Unwritten, find_unwritten};
