@@ -1,7 +1,10 @@
-/* Helpers that answer otherwise here than in Linux: bpfdb tells each that a program calls where it links this library by itself. A row is the
-   helper's number and a text of at most 59 bytes (bpfdb reads them so: 64 bytes a row). docs/LINUX.md says the same. */
+/* Helpers and kinds of maps that answer otherwise here than in Linux: where it links this library by itself, bpfdb tells each helper of them that a
+   program calls, and each kind of which its object has a map. A row is the number, to which a kind's has 65,536 added, and a text of at most 59
+   bytes (bpfdb reads them so: 64 bytes a row). docs/LINUX.md says the same. */
+#define A_MAP(kind) (65536 + (kind))
+
 struct difference {
-	u32 helper;
+	u32 number;
 	char text[60];
 };
 
@@ -61,4 +64,23 @@ static const struct difference differences[] __attribute__((section(".bpfdb.diff
 	{ 178, "bpf_skc_to_unix_sock finds no socket" },
 	{ 193, "bpf_ima_file_hash measures nothing: -95" },
 	{ 196, "bpf_skc_to_mptcp_sock finds no socket" },
+	{ A_MAP(3), "BPF_MAP_TYPE_PROG_ARRAY is always empty" },
+	{ A_MAP(4), "BPF_MAP_TYPE_PERF_EVENT_ARRAY has no reader, and fills" },
+	{ A_MAP(5), "BPF_MAP_TYPE_PERCPU_HASH is of one processor" },
+	{ A_MAP(6), "BPF_MAP_TYPE_PERCPU_ARRAY is of one processor" },
+	{ A_MAP(7), "BPF_MAP_TYPE_STACK_TRACE numbers stacks otherwise" },
+	{ A_MAP(8), "BPF_MAP_TYPE_CGROUP_ARRAY is always empty" },
+	{ A_MAP(9), "BPF_MAP_TYPE_LRU_HASH may lose another entry" },
+	{ A_MAP(10), "BPF_MAP_TYPE_LRU_PERCPU_HASH may lose another entry" },
+	{ A_MAP(10), "BPF_MAP_TYPE_LRU_PERCPU_HASH is of one processor" },
+	{ A_MAP(12), "BPF_MAP_TYPE_ARRAY_OF_MAPS is always empty" },
+	{ A_MAP(13), "BPF_MAP_TYPE_HASH_OF_MAPS is always empty" },
+	{ A_MAP(15), "BPF_MAP_TYPE_SOCKMAP is always empty" },
+	{ A_MAP(18), "BPF_MAP_TYPE_SOCKHASH is always empty" },
+	{ A_MAP(19), "BPF_MAP_TYPE_CGROUP_STORAGE is of one cgroup" },
+	{ A_MAP(20), "BPF_MAP_TYPE_REUSEPORT_SOCKARRAY is always empty" },
+	{ A_MAP(21), "BPF_MAP_TYPE_PERCPU_CGROUP_STORAGE is of one cgroup" },
+	{ A_MAP(27), "BPF_MAP_TYPE_RINGBUF has no reader, and fills" },
+	{ A_MAP(30), "BPF_MAP_TYPE_BLOOM_FILTER takes nothing: -95" },
+	{ A_MAP(31), "BPF_MAP_TYPE_USER_RINGBUF is always empty" },
 };

@@ -11,3 +11,4 @@ pub mod Records
 pub mod Joined
 pub mod Readiness
 pub mod Chains
+pub mod OwnRecords

@@ -248,7 +248,7 @@ fn answers_lookups(second: &Plan<'_>) -> bool
 }
 
 /// Whether BTF tells what the maps at some places are.
-fn has_types(first: &Plan<'_>, places: &[u64]) -> bool
+pub fn has_types(first: &Plan<'_>, places: &[u64]) -> bool
     ensures { result ≡ has_types first.now places.now }
 {
     !places.is_empty() && are_in_maps(first)

@@ -1,18 +1,23 @@
 //! What is said of an object's program beside what it does: where the kernel would do otherwise.
 ghost use Rattle.std.specs.Prelude.{◌≡◌, ◌≤◌, ◌<◌, ◌+◌, ◌*◌, ◌/◌, length, option_map};
-ghost use Rattle.bpf_load.specs.Notes.{AreNotes, IsCode, IsCodeFor, IsFieldCount, difference, differs};
+ghost use Rattle.bpf_load.specs.Notes.{AreNotes, AreRecords, AreRecordsFor, IsCode, IsCodeFor, IsFieldCount, difference, differs, has_kind, is_told};
 
 use crate::loading::own_object;
 use crate::target::Target;
+use bpf_join::own_records;
 use bpf_link::{fields_as_compiled, is_called, name_from, named_bytes, reached_code, u32_at};
 use std::alloc::Global;
 
-/// The section of a library of helpers that tells which of them answer otherwise than the kernel's.
+/// The section of a library that tells which of its helpers and kinds of maps answer otherwise than the
+/// kernel's.
 const TABLE: &[u8] = b".bpfdb.differs";
 
-/// The bytes of a row of it: the number of a helper, 4 bytes, little-endian, and what is said of it,
-/// up to a zero.
+/// The bytes of a row of it: a number of 4 bytes, little-endian, and what is said of it, up to a zero.
+/// The record of a map has as many.
 const ROW: usize = 64;
+
+/// The number of a helper is below this one, and that of a kind of maps has it added.
+const KINDS: u32 = 65536;
 
 /// What there is to say of a program.
 #[derive(Drop)]
@@ -21,6 +26,8 @@ pub struct Notes<'a> {
     pub fields: u32,
     /// FILE's own code, as far as it is reached.
     code: Vec<u8>,
+    /// The records of its maps.
+    records: Vec<u8>,
     /// The rows of the library that was linked by itself; none where none was.
     rows: &'a [u8],
 }
@@ -33,28 +40,52 @@ impl<'a> Notes<'a> {
         self.rows.len() / ROW
     }
 
-    /// What is said of the helper of a row, where the code calls it.
+    /// Whether a row is of a helper that the code calls, or of the kind of a map.
+    fn is_told(&self, k: usize) -> bool
+        requires { 64 * k + 64 ≤ length self.now.rows.now }
+        ensures { result ≡ is_told self.now k }
+    {
+        let number = u32_at(self.rows, ROW * k);
+        if number < KINDS {
+            is_called(&self.code, number)
+        } else {
+            has_kind(&self.records, number - KINDS)
+        }
+    }
+
+    /// What is said of the helper of a row, where the code calls it, or of the kind of a map.
     pub fn difference(&self, k: usize) -> Option<&[u8]>
         requires { 64 * k + 64 ≤ length self.now.rows.now }
-        ensures { option_map (λ text. text.now) result ≡ difference self.now.code.items self.now.rows.now k }
+        ensures { option_map (λ text. text.now) result ≡ difference self.now k }
     {
-        if is_called(&self.code, u32_at(self.rows, ROW * k)) {
+        if self.is_told(k) {
             Some(name_from(self.rows, ROW * k + 4))
         } else {
             None
         }
     }
 
-    /// Whether something is said of a helper.
+    /// Whether something is said of a helper or a map.
     pub fn differs(&self) -> bool
-        ensures { result ≡ differs self.now.code.items self.now.rows.now (length self.now.rows.now / 64) }
+        ensures { result ≡ differs self.now }
     {
         let mut found = false;
         for k in 0..self.len() {
-            found = is_called(&self.code, u32_at(self.rows, ROW * k)) || found;
+            found = self.is_told(k) || found;
         }
         found
     }
+}
+
+/// Whether a map is of a kind, by their records.
+fn has_kind(records: &[u8], kind: u32) -> bool
+    ensures { result ≡ has_kind records.now kind (length records.now / 64) }
+{
+    let mut found = false;
+    for k in 0..records.len() / ROW {
+        found = u32_at(records, ROW * k) == kind || found;
+    }
+    found
 }
 
 /// How many relocations of fields stay as they were compiled; none where they can't be counted.
@@ -77,7 +108,28 @@ fn code_in(alloc: Global, own: &[u8], section: &[u8], entry: &[u8]) -> Vec<u8>
     }
 }
 
-/// That, where there are rows to be looked up.
+/// The records of the maps; none where they aren't known.
+fn records_in(alloc: Global, own: &[u8], section: &[u8]) -> Vec<u8>
+    ensures { AreRecords own.now section.now result.items }
+{
+    match own_records(alloc, own, section) {
+        Ok(records) => records,
+        Err(_) => Vec::new(alloc),
+    }
+}
+
+/// Those, where there are rows to be looked up.
+fn records_for(alloc: Global, rows: &[u8], own: &[u8], section: &[u8]) -> Vec<u8>
+    ensures { AreRecordsFor rows.now own.now section.now result.items }
+{
+    if rows.is_empty() {
+        Vec::new(alloc)
+    } else {
+        records_in(alloc, own, section)
+    }
+}
+
+/// The code, where there are rows to be looked up.
 fn code_for(alloc: Global, rows: &[u8], own: &[u8], target: &Target<'_>) -> Vec<u8>
     ensures { IsCodeFor rows.now own.now target.now.section.now target.now.entry.now result.items }
 {
@@ -101,11 +153,13 @@ pub fn notes_of<'a>(alloc: Global, file: &[u8], target: &Target<'_>, library: &'
         Ok(own) => Notes {
             fields: fields_in(alloc, own.as_slice(), target.section, target.as_compiled),
             code: code_for(alloc, rows, own.as_slice(), target),
+            records: records_for(alloc, rows, own.as_slice(), target.section),
             rows,
         },
         Err(_) => Notes {
             fields: 0,
             code: Vec::new(alloc),
+            records: Vec::new(alloc),
             rows,
         },
     }

@@ -1,6 +1,6 @@
 -- What is said on standard error before the job of an object: that Linux's library isn't found where functions lack, how many fields stay where they were
 -- compiled, and each helper that answers otherwise than Linux's. bpfdb's own choice.
-use Rattle.std.specs.Prelude.{ℕ, ◌≡◌, ◌/◌, ◌==◌, Bool, true, false, not, if◌then◌else◌, List, [], ◌++◌, codes, decimal, length}
+use Rattle.std.specs.Prelude.{ℕ, ◌≡◌, ◌==◌, Bool, true, false, not, if◌then◌else◌, List, [], ◌++◌, codes, decimal}
 use Rattle.bpf_load.specs.Notes.{AreNotes, differs}
 use Rattle.bpf_load.specs.declared.notes.Notes.{Notes}
 use Rattle.bpfdb_cli.specs.declared.plans.Plan.{Plan}
@@ -46,4 +46,4 @@ pub data SaysNotes {E : Type 0} (plan : Plan) (job : Job) (of : Contents) (error
   Silent : links_by job.ask job.target.kind ≡ false → errors.new ≡ errors.old → unlike ≡ false → SaysNotes plan job of errors unlike
   Said : (notes : Notes) → links_by job.ask job.target.kind ≡ true → AreNotes job.target job.file.now job.library.now notes
       → Told errors (notes_text (answers_unlike plan) job.ask of.linux notes)
-      → unlike ≡ differs notes.code.items notes.rows.now (length notes.rows.now / 64) → SaysNotes plan job of errors unlike
+      → unlike ≡ differs notes → SaysNotes plan job of errors unlike

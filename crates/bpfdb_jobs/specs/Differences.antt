@@ -10,7 +10,7 @@ difference_line None = []
 difference_line (Some text) = codes "other than Linux: " ++ shown text ++ codes "\n"
 
 abbrev pub with_difference : Notes → ℕ → List ℕ → List ℕ
-with_difference notes k text = text ++ difference_line (difference notes.code.items notes.rows.now k)
+with_difference notes k text = text ++ difference_line (difference notes k)
 
 abbrev pub differences : Notes → List ℕ
 differences notes = built (with_difference notes) (length notes.rows.now / 64)

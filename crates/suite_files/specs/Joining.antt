@@ -1,6 +1,6 @@
 -- Linux's library of helpers is joined to an object by itself where functions lack without it, unless something that is called answers otherwise there than
 -- in Linux: so what a test shows is never of such a helper, unless its library is named.
-use Rattle.std.specs.Prelude.{ℕ, ◌≡◌, ◌/◌, Bool, true, false, not, if◌then◌else◌, List, [], ◌∷◌, ◌++◌, Option, Some, None, length}
+use Rattle.std.specs.Prelude.{ℕ, ◌≡◌, Bool, true, false, not, if◌then◌else◌, List, [], ◌∷◌, ◌++◌, Option, Some, None}
 use Rattle.bpf_load.specs.Faults.{LacksFunctions}
 use Rattle.bpf_load.specs.Notes.{AreNotes, differs}
 use Rattle.bpf_load.specs.declared.notes.Notes.{Notes}
@@ -10,7 +10,7 @@ use Rattle.suite_files.specs.declared.asked.Asked.{Asked}
 
 -- What is said of its notes: nothing is otherwise.
 abbrev pub is_like : Notes → Bool
-is_like notes = not (differs notes.code.items notes.rows.now (length notes.rows.now / 64))
+is_like notes = not (differs notes)
 
 -- Whether it is joined to an object, which others are joined to already.
 pub data Suits (asked : Asked) (object : List ℕ) (with : List (List ℕ)) (library : List ℕ) (suits : Bool) : Type 0 where
