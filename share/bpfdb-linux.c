@@ -3,6 +3,9 @@
 
      clang -target bpf -mcpu=v3 -O2 -g -c bpfdb-linux.c -o bpfdb-linux.o
 
+   With -DBPFDB_PART=NAME the object is a part of the library: the helper NAME, and what that calls. bpfdb joins parts
+   where it joins the library by itself (docs/LINUX.md).
+
    What it keeps lies in six maps of the machine: `.data.world` with the world and where the heap has got to, three maps
    of heap, `.bss.output`, `.data.network`; a program has those that it reaches. What helpers have in common is inlined,
    but for what is long and seldom called (SHARED): so a helper takes one of the machine's eight frames, or two.
@@ -34,4 +37,17 @@
 #include "bpfdb-linux/interfaces.c"
 #include "bpfdb-linux/tunnels.c"
 #include "bpfdb-linux/sockets.c"
+#if HAS_DATA
 #include "bpfdb-linux/differs.c"
+#endif
+
+#ifdef BPFDB_PART
+extern __typeof__(BPFDB_PART) BPFDB_PART;
+#endif
+#ifdef BPFDB_SHARED
+/* (clang calls these by itself) */
+extern __typeof__(memcmp) memcmp;
+extern __typeof__(memcpy) memcpy;
+extern __typeof__(memmove) memmove;
+extern __typeof__(memset) memset;
+#endif

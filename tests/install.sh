@@ -31,13 +31,15 @@ put 755 bin share/bpfdb-dap
 put 644 share/bpfdb share/bpfdb/*.py
 put 644 share/bpfdb share/bpfdb-gdb.py share/editors/bpfdb.vim share/editors/bpfdb-dap.el share/bpfdb.h
 put 644 share/bpfdb/vscode share/editors/vscode/*
-# The library of Linux: its C, and where there is a clang for BPF its object, whose lines are those of the files beside it.
+# The library of Linux: its C, and where there is a clang for BPF its object and its parts, whose lines are those of the files beside it.
 put 644 share/bpfdb share/bpfdb-linux.c share/bpfdb-linux.h share/bpfdb-map.h
 put 644 share/bpfdb/bpfdb-linux share/bpfdb-linux/*
 if echo | clang -target bpf -x c -c -o /dev/null - 2> /dev/null; then
     object=$destination$prefix/share/bpfdb/bpfdb-linux.o
     (cd share && clang -target bpf -mcpu=v3 -O2 -g -ffile-prefix-map="$PWD=$prefix/share/bpfdb" -c -o "$object" bpfdb-linux.c) || exit 1
     chmod 644 "$object"
+    sh tests/parts.sh "$destination$prefix/share/bpfdb/bpfdb-linux/parts" -ffile-prefix-map="$PWD/share=$prefix/share/bpfdb" || exit 1
+    chmod 644 "$destination$prefix"/share/bpfdb/bpfdb-linux/parts/*.o
 fi
 # (each shell looks for a completion by the name of the command; zsh of Debian's packages in a folder of its own)
 for name in bpfdb bpfdb-shell bpfdb-page bpfdb-dap bpfdb-context; do

@@ -10,8 +10,20 @@ typedef u64 __attribute__((may_alias)) any64;
 typedef u32 __attribute__((may_alias)) any32;
 
 #define NULL ((void *)0)
-/* A helper: the linker finds it by its name. */
+/* A helper: the linker finds it by its name. A part of the library has one alone: the others are inline there, and of
+   those that nothing calls no code is made (C11, 6.7.4). */
+#ifdef BPFDB_PART
+#define HELPER inline
+#pragma clang diagnostic ignored "-Wstatic-in-inline"
+#else
 #define HELPER __attribute__((noinline, used))
+#endif
+/* Helpers share their data: these stand in the part of bpf_map_lookup_elem, which is joined behind the other parts. */
+#if !defined BPFDB_PART || defined BPFDB_SHARED
+#define HAS_DATA 1
+#else
+#define HAS_DATA 0
+#endif
 #define INLINE static inline __attribute__((always_inline))
 /* What several helpers call, so that it stands once: they take two frames. */
 #define SHARED static __attribute__((noinline))
@@ -53,6 +65,7 @@ enum { FRAME_STRIDE = 1024, FRAME_SIZE = 512, MOST_FRAMES = 8, MAP_STRIDE = 0x10
 /* The most bytes that a context has. */
 enum { MOST_CONTEXT = 65536 };
 
+#if HAS_DATA
 struct bpfdb_world bpfdb_world WORLD = {
 	.time = 1000000000ull,
 	.time_step = 1000,
@@ -65,6 +78,7 @@ struct bpfdb_world bpfdb_world WORLD = {
 };
 
 u64 bpfdb_context_len WORLD = MOST_CONTEXT;
+#endif
 
 /* Loops over bytes must stay loops: clang would make them calls of memcpy and memset, and so a frame more. */
 #define STAY_A_LOOP() asm volatile("" ::: "memory")

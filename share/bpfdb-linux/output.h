@@ -1,8 +1,14 @@
 /* The output: records that went out, one behind the other, as bpfdb-linux.h lays them out. */
-struct {
+struct output {
 	struct bpfdb_output head;
 	u8 records[MAP_SIZE - sizeof(struct bpfdb_output)];
-} bpfdb_output __attribute__((section(".bss.output"), aligned(8))) = {};
+};
+
+#if HAS_DATA
+struct output bpfdb_output __attribute__((section(".bss.output"), aligned(8))) = {};
+#else
+extern struct output bpfdb_output;
+#endif
 
 /* What the records of a program's maps are numbered by: they are in one map of the machine. */
 INLINE u32 number_of(const struct map *m)

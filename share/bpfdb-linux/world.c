@@ -2,6 +2,7 @@
 
 /* What the kernel's configuration is, for those who ask (`__kconfig` of libbpf): version 6.1, on x86-64, as Debian has
    it. (Programs have numbers of whatever size for it: each has 8 bytes.) */
+#if HAS_DATA
 int LINUX_KERNEL_VERSION WORLD = 0x060100;
 _Bool LINUX_HAS_BPF_COOKIE WORLD = 1;
 _Bool LINUX_HAS_SYSCALL_WRAPPER WORLD = 1;
@@ -16,6 +17,10 @@ u64 CONFIG_SECURITY_SELINUX WORLD = 1;
 
 /* What the system call gives where a program of a cgroup refuses it: 0 before one says so. */
 s64 bpfdb_retval WORLD = 0;
+#else
+extern u32 bpfdb_packet_end;
+extern s64 bpfdb_retval;
+#endif
 
 INLINE u64 look_at_time(void)
 {

@@ -93,7 +93,10 @@ else
 755 bin/bpfdb-symbols
 FILES
             (cd "$top" && find examples -type f -printf '644 share/doc/bpfdb/%p\n' && find share/bpfdb -name '*.py' -printf '644 %p\n' && find share/bpfdb-linux -type f -printf '644 share/bpfdb/bpfdb-linux/%f\n')
-            has_clang 'the object of the library of Linux' && echo '644 share/bpfdb/bpfdb-linux.o'
+            if has_clang 'the object of the library of Linux'; then
+                echo '644 share/bpfdb/bpfdb-linux.o'
+                sed -n 's/^HELPER .*[ *]\(bpf_[a-z0-9_]*\)(.*/\1/p; s/^\(READ[A-Z_]*\|NO_SOCKET\)(\(.*\))$/\2/p' "$top"/share/bpfdb-linux/*.c | sed 's|.*|644 share/bpfdb/bpfdb-linux/parts/&.o|'
+            fi
         } | sort > wanted/files
         same "make install PREFIX=$2: files and their modes" wanted/files found/files
         # Each link of an installed page leads to an installed file.
