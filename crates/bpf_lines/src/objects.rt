@@ -238,7 +238,7 @@ pub(crate) fn entry_slots(packet: Option<Packet>) -> usize
 }
 
 /// The slot at which the code of several objects begins.
-fn begin_of(packet: Option<Packet>, words: &[u8], all: &[ObjectLines<'_>]) -> usize
+pub(crate) fn begin_of(packet: Option<Packet>, words: &[u8], all: &[ObjectLines<'_>]) -> usize
     ensures { result ≡ begin_of packet words.now (sum_by slots_of all.now) }
 {
     let entry = entry_slots(packet);
