@@ -107,7 +107,7 @@ class CommandRequests:
         return self.linked(self.names.whynot(self.goals(' '.join(words))))
 
     def goals(self, text):
-        """The slots of a place, in bpfdb's words: of FILE:LINE all at which an instruction starts, of a function or a label the first."""
+        """The slots of a place, in bpfdb's words: of FILE:LINE all at which an instruction starts, of a function or a label the first. `=VALUE` is bpfdb's own."""
         source = self.machine.loaded.source
         line = re.fullmatch(r'(.+):([0-9]{1,9})', text)
         if line:
@@ -117,8 +117,8 @@ class CommandRequests:
         else:
             slots = [slot for slot, function in self.machine.functions.items() if function == text]
             slots = slots or ([source.labels[text]] if text in source.labels else [])
-        if not slots and not re.fullmatch(r'[0-9,]+', text):
-            raise Failed(f'there is no instruction at {text}: a slot, a function, a label or FILE:LINE')
+        if not slots and not re.fullmatch(r'[0-9,]+|=.+', text):
+            raise Failed(f'there is no instruction at {text}: a slot, a function, a label, FILE:LINE or =VALUE')
         return ','.join(map(str, slots)) or text
 
     def linked(self, lines):

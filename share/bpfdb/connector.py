@@ -466,8 +466,8 @@ class Whynot(PastAsker):
         # (-1 and +1 would be lines to gdb, and slots to a reader)
         if not text or text[0] in "-+":
             raise gdb.GdbError("bpf-whynot WHAT: a slot, a function or FILE:LINE")
-        # (what begins as a number has a meaning in bpfdb alone, or is refused there)
-        return ["whynot", text if text[0].isdigit() else ",".join(str(slot) for slot in self.slots(text))]
+        # (what begins as a number has a meaning in bpfdb alone, or is refused there; so has a value, by its number)
+        return ["whynot", text if text[0].isdigit() or text[0] == "=" else ",".join(str(slot) for slot in self.slots(text))]
 
     def slots(self, text):
         """The slots of a place: the first one of a function, or all of a line, which has some."""

@@ -42,7 +42,9 @@ V1 | Name a register or an address; COUNT is 1 to 256. r10 has no history: it is
 V2 | Some of the bytes aren't there, or they lie in two regions. 'docs/MACHINE.md' has the addresses; numbers without '0x' are decimal.
 V3 | Name a slot as '12', or several as '12,15', without blanks; 'disasm' or 'lines' shows which there are.
 V4 | The program has no such slot, or it is the second one of a wide load.
-V5 | No instruction has this label, function or line: 'lines' shows which there are. A label needs a listing; a function or FILE:LINE needs an object, and lines one that was compiled with '-g'. A line without code of its own has none, as 'return 1' often at '-O2': ask about the line of the condition on which it depends. The next line's answer would be about another place.
+V5 | No instruction has this label, function or line, and neither an enumerator nor a verdict this name: 'lines' shows which there are. A label needs a listing; a function or FILE:LINE needs an object, and lines one that was compiled with '-g'. A line without code of its own has none, as 'return 1' often at '-O2': ask about the line of the condition on which it depends. The next line's answer would be about another place.
+V6 | Behind '=' stands a number below 2^64, or, of an object, an enumerator of its BTF or a verdict. Two enums may give a name different values: write the number. Words and listings know no names.
+V7 | None moves it to a register as an immediate, or stores it so to the frame: it is computed, or never answered. Ask 'origin --branches' where the value came from that the program has.
 Q1 | No command has this name. Names are lower case and whole: 'continue', not 'c'.
 Q2 | A word after the name is wrong, missing or too many.
 Q3 | Go back, or let it run again by 'set pc'.
@@ -108,7 +110,7 @@ OWN_HELP = {
     'run': ('r', 'run: goes back to the first kept step, and continues'),
     'start': ('starti', 'start: goes back to the first kept step, and on to the entry where that is another place, and shows where that is'),
     'origin': ('', 'origin [VALUE]: shows where a register or bytes (ADDRESS:COUNT) got their value; left out it is r0, or after a bad access its address'),
-    'whynot': ('', 'whynot PLACE: shows why the program did not come to a slot, a label or a line (FILE:LINE), and what decided it'),
+    'whynot': ('', 'whynot PLACE: shows why the program did not come to a slot, a label or a line (FILE:LINE), or make a value (=2, XDP_DROP), and what decided it'),
     'source': ('', 'source FILE: obeys the lines of a file'),
     'monitor': ('mon', 'monitor LINE: sends a line as it is, as in gdb'),
     'help': ('h', 'help [COMMAND]: lists the commands, or describes one'),

@@ -4,6 +4,7 @@ import re
 
 from bpfdb.habits import meaning, short_names
 from bpfdb.meanings import REGISTER, WIDTHS
+from bpfdb.places import NAME
 from bpfdb.session import Hint
 from bpfdb.texts import MASK, number, warn
 
@@ -155,8 +156,10 @@ class Values:
 
     def whynot(self, name, rest, form):
         if not rest:
-            raise Hint('whynot PLACE: a slot, a label, LABEL+1 or FILE:LINE')
-        self.tell_answer('whynot', *self.program.asked('whynot', [','.join(self.slots(rest))]))
+            raise Hint('whynot PLACE: a slot, a label, LABEL+1, FILE:LINE or =VALUE')
+        # (a name that isn't known here may be a verdict's, or an enumerator's)
+        what = rest if NAME.fullmatch(rest) and self.value(rest) is None else ','.join(self.slots(rest))
+        self.tell_answer('whynot', *self.program.asked('whynot', [what]))
 
     def tell_answer(self, name, asked, reply):
         """The lines of an answer, those of moves with their lines of source."""

@@ -120,6 +120,113 @@ refused 'refused J1: journal size out of range' whynot --journal 1023 --listing 
 printf 'finish\n' > refuses
 refused 'refused Q9: outermost frame' whynot --script refuses --listing plain.s x
 
+# Values: those that make it as a constant. Which way the verdict went; one that was made; by hexadecimal; one that nothing makes; among some slots alone.
+listing verdict.s 'jeq r0, 0, pass;mov r0, 1;exit;pass: mov r0, 2;exit'
+decided='exited at 4: r0 0x2\n-3 0: jeq r0, 0, L3; r0 = 0x0; jumped to 3\n'
+"$program" asm verdict.s > verdict.bin
+for what in =1 =0x1 =01 =1,0 =1,1,1 =1,1,18446744073709551615; do
+    tells 0 "$decided" whynot --alone --listing verdict.s $what
+    tells 0 "$decided" whynot --alone verdict.bin $what
+done
+tells 0 "${decided}at 0: jeq r0, 0, L3\nleft r0 = 0x0; at the opening\n" whynot verdict.bin =1
+tells 0 'exited at 4: r0 0x2\nit was reached 2 moves back\n' whynot verdict.bin =2
+v6='refused V6: neither a number nor an enumerator of one value'
+v7='refused V7: no instruction makes the value'
+for what in = =, =x =XDP_DROP =1x =-1 '=1 ' =18446744073709551616 =1,x =1,0,x =1,0,1,1; do
+    refused "$v6" whynot --listing verdict.s "$what"
+    refused "$v6" whynot verdict.bin "$what"
+done
+for what in =0 =3 =4294967297 =0x100000001 =1,2 =1,0,1 =1,1,0 =2,0,3 =2,4; do
+    refused "$v7" whynot verdict.bin $what
+done
+
+# What makes a constant, slot by slot: moves of an immediate, of 32 and 64 bits, wide loads, and stores of one to the frame, as it is there; nothing else, and
+# no store by another register. A value below 2^32 is that of the low 32 bits, as the kernel takes a verdict, a larger one that of all 64.
+listing made.s 'jeq r0, 0, out;mov r1, -1;mov32 r2, -1;lddw r3, 4294967295;lddw r4, 18446744073709551615;stb [r10-1], -1;sth [r10-2], -1;stw [r10-4], -1;stdw [r10-8], -1;stb [r1+0], 7;mov r5, r1;add r5, 7;xor r6, 7;mov r7, 7;mov32 r8, 7;stdw [r10-16], 7;out: exit'
+{ for made in 1 2 3 5 9 10; do echo "4294967295 $made"; done
+  for made in 1 5 10; do echo "18446744073709551615 $made"; done
+  for made in 15 16 17; do echo "7 $made"; done
+  echo '255 7'; echo '65535 8'; } > makers
+for value in 4294967295 18446744073709551615 7 255 65535 0; do
+    for slot in 0 1 2 3 4 5 6 7 8 9 10 11 12 13 14 15 16 17 18; do
+        if grep -q -x "$value $slot" makers; then
+            tells 0 'exited at 18: r0 0x0\n-2 0: jeq r0, 0, L18; r0 = 0x0; jumped to 18\n' whynot --alone --listing made.s =$value,$slot,1
+        else
+            refused "$v7" whynot --listing made.s =$value,$slot,1
+        fi
+    done
+done
+
+# A program as long as there are, each of whose slots makes the value.
+{ many 65534 'mov r0, 1'; echo exit; } > most.s
+tells 0 'exited at 65534: r0 0x1\nit was reached 2 moves back\n' whynot --listing most.s =1
+{ echo exit; many 65533 'mov r0, 1'; echo exit; } > most.s
+tells 0 'exited at 0: r0 0x0\nit was out of reach from the opening\n' whynot --listing most.s =1
+
+# Enumerators, in a BTF that is written by hand: ENUM and ENUM64, negative ones, one of two enums with one value, and with two. A function's name comes first.
+if has_clang 'whynot of enumerators'; then
+    cat > enums.s << 'END'
+	.section xdp,"ax",@progbits
+	.globl prog
+	.type prog,@function
+prog:
+	if r0 == 0 goto pass
+	r0 = 1
+	r3 = 0x100000001 ll
+	exit
+pass:
+	r0 = 2
+	exit
+	.size prog, .-prog
+	.section .BTF,"",@progbits
+	.short 0xeb9f
+	.byte 1, 0
+	.long 24, 0, strings - types, strings - types, end - strings
+types:
+	.long 0, 0x06000004, 4
+	.long drop - strings, 1, pass_name - strings, 2, unspec - strings, -1, prog_name - strings, 1
+	.long 0, 0x06000002, 4
+	.long drop - strings, 1, twice - strings, 1
+	.long 0, 0x06000001, 4
+	.long twice - strings, 2
+	.long 0, 0x13000003, 8
+	.long large - strings, 1, 1, small - strings, 1, 0, odd - strings, 0, 1
+strings:
+	.byte 0
+drop:	.asciz "DROP"
+pass_name:	.asciz "PASS"
+unspec:	.asciz "UNSPEC"
+prog_name:	.asciz "prog"
+twice:	.asciz "TWICE"
+large:	.asciz "LARGE"
+small:	.asciz "SMALL"
+odd:	.asciz "ODD"
+end:
+END
+    clang -target bpf -c enums.s -o enums.o 2> found/err || complain "clang: enums.s: $(cat found/err)"
+    decided='exited at 6: r0 0x2\n-3 0: jeq r0, 0, L5; r0 = 0x0; jumped to 5\n'
+    for what in DROP =DROP SMALL =SMALL LARGE =LARGE =1 =4294967297 =prog; do
+        tells 0 "$decided" whynot --alone --object enums.o $what
+    done
+    for what in PASS =PASS =2; do
+        tells 0 'exited at 6: r0 0x2\nit was reached 2 moves back\n' whynot --object enums.o $what
+    done
+    tells 0 'exited at 6: r0 0x2\nit was reached 3 moves back\n' whynot --object enums.o prog
+    for what in UNSPEC =UNSPEC ODD =ODD =3; do
+        refused "$v7" whynot --object enums.o $what
+    done
+    for what in TWICE =TWICE =NONE =DRO =ROP =DROPS = =x =1,0,7; do
+        refused "$v6" whynot --object enums.o $what
+    done
+    for what in NONE DRO ROP DROPS; do
+        refused "refused V5: no such place: $what" whynot --object enums.o $what
+    done
+    if has python3 'whynot of enumerators in damaged objects'; then
+        count=$((count + 1))
+        python3 "$top/tests/trials/enumerators.py" "$program" enums.o > trial 2>&1 || complain "tests/trials/enumerators.py: $(cat trial)"
+    fi
+fi
+
 # Functions and lines of C: what is told of each is what is told of its slots, by another reader of the table of `lines`; of a line by its whole path and by the
 # last parts of that. Objects without BTF have functions alone.
 object calls

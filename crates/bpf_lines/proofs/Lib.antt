@@ -7,3 +7,4 @@ pub mod Pushing
 pub mod Placing
 pub mod Words
 pub mod PlaceAt
+pub mod Verdicts

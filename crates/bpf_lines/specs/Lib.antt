@@ -15,3 +15,6 @@ pub mod Spots
 pub mod Globals
 pub mod NamedMaps
 pub mod NamedTexts
+pub mod Enumerators
+pub mod NamedValues
+pub mod Values

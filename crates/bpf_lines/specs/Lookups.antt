@@ -1,5 +1,5 @@
 -- Which slots a place has in a listing; and the functions of a linked program's slots.
-use Rattle.std.specs.Prelude.{◌≡◌, ◌+◌, ◌/◌, false, List, ℕ, Option, length, map, sum_by}
+use Rattle.std.specs.Prelude.{◌≡◌, ◌+◌, ◌/◌, if◌then◌else◌, false, List, ℕ, Option, length, map, sum_by}
 use Rattle.bpf_packet.specs.declared.packet.Packet.{Packet}
 use Rattle.bpf_lines.specs.Objects.{begin_of, own_slots, program_table, slots_of}
 use Rattle.bpf_lines.specs.PlaceTexts.{functions_told}
@@ -7,10 +7,14 @@ use Rattle.bpf_lines.specs.declared.lookups.Functions.{Functions}
 use Rattle.bpf_lines.specs.declared.objects.ObjectLines.{ObjectLines}
 use Rattle.bpf_text.specs.LineTable.{IsLineTable}
 use Rattle.bpf_lines.specs.PlaceSlots.{slots_told}
+use Rattle.bpf_lines.specs.Places.{asks_value}
 
--- By the table of the listing's lines.
+-- By the table of the listing's lines. What asks about a value is asked of all slots.
+abbrev pub listed_slots : List ℕ → List ℕ → List ℕ
+listed_slots table what = if asks_value what then what else slots_told false table what
+
 abbrev pub AreListingSlots : List ℕ → List ℕ → List ℕ → Type 0
-AreListingSlots listing what slots = (table : List ℕ) × IsLineTable listing table × (slots ≡ slots_told false table what)
+AreListingSlots listing what slots = (table : List ℕ) × IsLineTable listing table × (slots ≡ listed_slots table what)
 
 -- The functions of each slot of a program by its table, and the slots of its first object's code, FILE's own.
 pub record AreFunctions (packet : Option Packet) (words : List ℕ) (all : List ObjectLines) (names : List (List ℕ)) (first behind : ℕ) : Type 0 where

@@ -2,6 +2,7 @@
 //! places, and the names of what lies in its maps, from its symbols and BTF.
 #![tactic(auto)]
 
+mod enumerators;
 mod fields;
 mod functions;
 mod globals;
@@ -11,6 +12,7 @@ mod lookups;
 mod marks;
 mod named_maps;
 mod named_text;
+mod named_value;
 mod names;
 mod objects;
 mod part_lines;
@@ -22,7 +24,9 @@ mod rows;
 mod slots;
 mod spot;
 mod table_row;
+mod values;
 
+pub use enumerators::Enumerator;
 pub use line_info::LineEntry;
 pub use listing::listing_slots;
 pub use lookups::{Functions, program_functions, program_places, program_slots};

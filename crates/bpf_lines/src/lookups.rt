@@ -4,10 +4,12 @@ ghost use Rattle.bpf_lines.specs.Lookups.{AreFunctionsOf};
 ghost use Rattle.bpf_lines.specs.Objects.{HasPartLines, program_table};
 ghost use Rattle.bpf_lines.specs.PlaceSlots.{slots_told};
 ghost use Rattle.bpf_lines.specs.PlaceTexts.{places_told};
+ghost use Rattle.bpf_lines.specs.Values.{AreSlotsFor};
 
 use crate::objects::{begin_of, own_slots};
 use crate::place_slots::slots_told;
 use crate::place_texts::{SlotText, texts_told};
+use crate::values::slots_for;
 use crate::{ObjectLines, write_table};
 use bpf_packet::Packet;
 use counted_io::Counted;
@@ -15,8 +17,27 @@ use std::alloc::{AllocError, Global};
 
 /// The slots of a place in the words of a program, as it was asked to take its packet: of a function
 /// its first one, of FILE:LINE each one. They are numbers in decimal with commas between; no byte
-/// where its objects tell no such place.
+/// where its objects tell no such place. Of `=VALUE`, and of the name of an enumerator, it is what is
+/// asked about the slots of the first object: `=`, the number, and which slots they are.
 pub fn program_slots(
+    alloc: Global,
+    lines: &[ObjectLines<'_>],
+    packet: Option<Packet>,
+    words: &[u8],
+    what: &[u8],
+) -> Result<Vec<u8>, AllocError>
+    requires { All HasPartLines lines.now }
+    ensures { IfOk result (λ slots.
+        AreSlotsFor packet words.now lines.now what.now slots.items) }
+{
+    match told_slots(alloc, lines, packet, words, what) {
+        Ok(told) => slots_for(alloc, packet, words, lines, told, what),
+        Err(error) => Err(error),
+    }
+}
+
+/// Those that the table of its lines tells.
+fn told_slots(
     alloc: Global,
     lines: &[ObjectLines<'_>],
     packet: Option<Packet>,

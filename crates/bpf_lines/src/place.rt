@@ -1,4 +1,4 @@
-//! Texts that name places of a program.
+//! Texts that name places of a program, or ask about a value.
 ghost use Rattle.std.specs.Prelude.{◌≡◌};
 ghost use Rattle.bpf_lines.specs.Places as spec;
 
@@ -20,7 +20,7 @@ fn begins_name(byte: u8) -> bool
 }
 
 /// Whether a text is a name of a label or of a function.
-fn is_name(what: &[u8]) -> bool
+pub(crate) fn is_name(what: &[u8]) -> bool
     ensures { result ≡ spec.is_name what.now }
 {
     match what {
@@ -29,10 +29,20 @@ fn is_name(what: &[u8]) -> bool
     }
 }
 
-/// Whether a text names a place of a program: a label, a function, or FILE:LINE. No text of slots
-/// does.
+/// Whether a text asks about a value.
+pub(crate) fn asks_value(what: &[u8]) -> bool
+    ensures { result ≡ spec.asks_value what.now }
+{
+    match what {
+        [] => false,
+        [first, ..] => *first == b'=',
+    }
+}
+
+/// Whether a text names a place of a program: a label, a function, or FILE:LINE; or asks about a
+/// value, as `=VALUE`. No text of slots does.
 pub fn is_place(what: &[u8]) -> bool
     ensures { result ≡ spec.is_place what.now }
 {
-    is_line(what) || is_name(what)
+    is_line(what) || is_name(what) || asks_value(what)
 }

@@ -49,7 +49,7 @@ pub struct Located {
 }
 
 /// The types of a section `.BTF`: none where that isn't read.
-fn types_of(heap: Heap, bytes: &[u8]) -> Result<Btf<'_>, LinkFault>
+pub(crate) fn types_of(heap: Heap, bytes: &[u8]) -> Result<Btf<'_>, LinkFault>
     ensures ok { IfOk result (λ types. spec.AreTypesOf bytes.now types) }
     ensures err { IfErr result (λ fault. fault ≡ Memory) }
 {

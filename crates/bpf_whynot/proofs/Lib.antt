@@ -6,6 +6,7 @@ pub mod Leveling
 pub mod Telling
 pub mod Walks
 pub mod Goaling
+pub mod Making
 pub mod Passing
 pub mod Going
 pub mod Latest

@@ -1,5 +1,6 @@
 pub mod Reach
 pub mod Tables
+pub mod Constants
 pub mod Asked
 pub mod Answers
 pub mod Laws

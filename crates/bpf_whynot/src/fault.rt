@@ -18,6 +18,10 @@ pub enum GoalFault {
     NoSlot,
     /// No instruction starts at a slot.
     NoInstruction,
+    /// It asks for a value, and that is no number.
+    NoValue,
+    /// No instruction makes the value.
+    NoConstant,
 }
 
 impl GoalFault {
@@ -29,6 +33,8 @@ impl GoalFault {
         match self {
             GoalFault::NoSlot => (3, "neither a slot nor slots with commas between"),
             GoalFault::NoInstruction => (4, "no instruction starts at the slot"),
+            GoalFault::NoValue => (6, "neither a number nor an enumerator of one value"),
+            GoalFault::NoConstant => (7, "no instruction makes the value"),
         }
     }
 

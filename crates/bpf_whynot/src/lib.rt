@@ -18,6 +18,7 @@ pub mod laws;
 mod level;
 mod line;
 mod look;
+mod maker;
 mod may_write;
 mod reach;
 mod search;

@@ -146,7 +146,8 @@ pub const WHYNOT_LONG: &str = "Runs a program to its end and shows why it did no
 Reads FILE and the context, and runs the program to its end or to the limit of
 steps; with --script it obeys commands instead, edits and steps back among them,
 and asks where they lead. WHAT is a slot, or slots with commas between: then it
-is asked about any of them.
+is asked about any of them. =VALUE are the instructions that make the value as a
+constant: =2, or of an object an enumerator, =XDP_DROP.
 
 Writes to standard output where the program stands, then the latest kept move
 from whose state the program's jumps, calls and returns lead to the slot,
@@ -621,7 +622,7 @@ pub const ANYWHERE: &str = "Reads files that tests name also outside of their fo
 pub const WHAT: &str = "r0 to r9, or ADDRESS:COUNT; without it r0, or a fault's address";
 
 /// WHAT of `whynot`.
-pub const GOAL: &str = "Slot, or slots with commas between; label; function or FILE:LINE";
+pub const GOAL: &str = "Slot, or slots with commas between; label; function, FILE:LINE, =VALUE";
 
 /// FILE.
 pub const PROGRAM: &str = "Program: an object of clang, a listing (NAME.s), or raw words";

@@ -33,6 +33,7 @@ use Rattle.bpf_lines.specs.declared.lookups.Functions.{Functions}
 use Rattle.bpf_lines.specs.PlaceSlots.{slots_told}
 use Rattle.bpf_lines.specs.PlaceTexts.{places_told}
 use Rattle.bpf_lines.specs.Places.{is_place}
+use Rattle.bpf_lines.specs.Values.{AreSlotsFor}
 use Rattle.bpf_steps.specs.Platform.{context_limit}
 use Rattle.bpf_opening.specs.Lists.{asked_opening, or_bare}
 use Rattle.bpf_opening.specs.Openings.{begun}
@@ -419,10 +420,11 @@ AreRows Object job (Some linked) rows = (notes : Notes) × (all : List ObjectLin
 AreRows Listing job object rows = IsLineTable job.file.now rows
 AreRows Words job object rows = rows ≡ []
 
--- The slots of the place of an object that is asked about, by the table of its program's words.
+-- The slots of the place of an object that is asked about, by the table of its program's words; or what is asked of its own slots, where it is asked about a
+-- value.
 abbrev pub HasPlace : Option (List ℕ) → Job → Option LinkedObject → Option (List ℕ) → Type 0
 HasPlace (Some place) job (Some linked) (Some goals) =
-    (all : List ObjectLines) × AreLinesFor job linked all × (goals ≡ slots_told true (table_by job linked all) place)
+    (all : List ObjectLines) × AreLinesFor job linked all × AreSlotsFor job.target.packet linked.program.words.items all place goals
 HasPlace (Some place) job (Some linked) None = ⊥
 HasPlace place job object goals = goals ≡ None
 

@@ -26,7 +26,7 @@ use Rattle.bpf_steps.specs.Opening.{Refused}
 use Rattle.bpf_ring.specs.Opening.{RefusesSize}
 use Rattle.bpf_lines.specs.Places.{is_place}
 use Rattle.bpf_whynot.specs.declared.fault.GoalFault.{GoalFault}
-use Rattle.bpf_whynot.specs.declared.fault.GoalFault.TheVariants.{NoInstruction, NoSlot}
+use Rattle.bpf_whynot.specs.declared.fault.GoalFault.TheVariants.{NoSlot}
 use Rattle.input_texts.specs.TraceFaults.{bad_line}
 use Rattle.bpf_diff.specs.Values.{Pair}
 use Rattle.bpf_steps.specs.Platform.{context_limit}
@@ -79,7 +79,7 @@ RefusesOrigin origin job refusal = RefusesArrival job refusal
 -- (A place that has no slot is refused by its name.)
 abbrev pub lacks_place : GoalFault → List ℕ → Bool
 lacks_place NoSlot what = is_place what
-lacks_place NoInstruction what = false
+lacks_place fault what = false
 
 abbrev pub RefusesGoal : WhynotAsk → Job → GoalFault → Bool → Type 0
 RefusesGoal why job fault lacks = (loaded : Loaded) × (known : Known) × (at : Arrival) × OpensSession job loaded × IsKnown job loaded.object known

@@ -191,6 +191,8 @@ fn goal_refusal<'a>(why: &WhynotAsk<'a>, fault: GoalFault) -> JobRefusal<'a>
             }
         }
         GoalFault::NoInstruction => JobRefusal::Goal(fault),
+        GoalFault::NoValue => JobRefusal::Goal(fault),
+        GoalFault::NoConstant => JobRefusal::Goal(fault),
     }
 }
 

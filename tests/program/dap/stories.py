@@ -153,7 +153,7 @@ def whynot():
     hold(editor.hand('whynot firewall.c:54').split('\n')[0], f'{branch.removesuffix(" (firewall.c:47)")} {place}', 'the branch behind a colon, with its line once')
     hold(editor.state(), before, 'the state')
     for what, why in (('nowhere.c:54', 'there is no instruction at nowhere.c:54'),
-                      ('nowhere', 'there is no instruction at nowhere: a slot, a function, a label or FILE:LINE'),
+                      ('nowhere', 'there is no instruction at nowhere: a slot, a function, a label, FILE:LINE or =VALUE'),
                       ('65000', 'refused V4: no instruction starts at the slot')):
         hold(editor.refused('bpfdb/whynot', what=what), why, f'nothing of {what}')
     left(editor)
