@@ -61,6 +61,11 @@ IsProgramLinesFault object section others told =
 abbrev pub slots_of : ObjectLines → ℕ
 slots_of lines = slots_in lines.plan.parts.code + slots_in lines.plan.parts.text
 
+-- How many the first of several has.
+abbrev pub own_slots : List ObjectLines → ℕ
+own_slots [] = 0
+own_slots (own ∷ others) = slots_of own
+
 -- Its rows, whose first slot is one of the program's words.
 abbrev pub object_rows : ObjectLines → List ℕ → ℕ → List ℕ
 object_rows lines words first =

@@ -25,7 +25,7 @@ mod table_row;
 
 pub use line_info::LineEntry;
 pub use listing::listing_slots;
-pub use lookups::{program_places, program_slots};
+pub use lookups::{Functions, program_functions, program_places, program_slots};
 pub use named_maps::NamedMap;
 pub use named_text::put_named;
 pub use objects::{LinesFault, ObjectLines, program_lines, write_table};

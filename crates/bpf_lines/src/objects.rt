@@ -1,7 +1,7 @@
 //! What is told of the slots of objects' code, and the table of a program.
 ghost use Rattle.std.specs.Prelude.{◌≡◌, ◌≤◌, ◌<◌, ◌*◌, ◌==◌, ◌++◌, ◌∷◌, [], All, codes, IfOk, IfErr, Some, length, map, sum_by};
 ghost use Rattle.counted_io.specs.Writing.{Writes, WritesAfter};
-ghost use Rattle.bpf_lines.specs.Objects.{AreBehind, AreLinesOf, AreProgramLines, HasPartLines, IsFunctionsRefusal, IsLinesRefusal, IsProgramLinesFault, begin_of, entry_slots, object_rows, program_table, rows_of_all, slots_of};
+ghost use Rattle.bpf_lines.specs.Objects.{AreBehind, AreLinesOf, AreProgramLines, HasPartLines, IsFunctionsRefusal, IsLinesRefusal, IsProgramLinesFault, begin_of, entry_slots, object_rows, own_slots, program_table, rows_of_all, slots_of};
 ghost use Rattle.bpf_lines.specs.declared.objects.ObjectLines.{ObjectLines as Told};
 
 use crate::part_lines::{PartLines, part_lines};
@@ -238,8 +238,9 @@ pub(crate) fn entry_slots(packet: Option<Packet>) -> usize
 }
 
 /// The slot at which the code of several objects begins.
-fn begin_of(packet: Option<Packet>, words: &[u8], all: &[ObjectLines<'_>]) -> usize
-    ensures { result ≡ begin_of packet words.now (sum_by slots_of all.now) }
+pub(crate) fn begin_of(packet: Option<Packet>, words: &[u8], all: &[ObjectLines<'_>]) -> usize
+    ensures value { result ≡ begin_of packet words.now (sum_by slots_of all.now) }
+    ensures few { result ≤ 27 }
 {
     let entry = entry_slots(packet);
     if words.len() < 8 * entry {
@@ -249,6 +250,17 @@ fn begin_of(packet: Option<Packet>, words: &[u8], all: &[ObjectLines<'_>]) -> us
         return entry;
     }
     entry + 1
+}
+
+/// How many slots the code of the first of several objects has.
+pub(crate) fn own_slots(all: &[ObjectLines<'_>]) -> usize
+    ensures value { result ≡ own_slots all.now }
+    ensures small { result < 9223372036854775808 }
+{
+    match all.split_first() {
+        Some((own, _)) => own.plan.parts.len(),
+        None => 0,
+    }
 }
 
 /// Writes the table of a program that was linked of one object, or of several that were joined. What
