@@ -75,6 +75,10 @@ branches_rule = record (new_rule (codes "branches")) { long = Some (codes "branc
 abbrev pub profile_rule : Rule
 profile_rule = record (new_rule (codes "profile")) { long = Some (codes "profile"); action = Some SetTrue }
 
+-- `--calls`: the calls that leave FILE's own code.
+abbrev pub calls_rule : Rule
+calls_rule = record (new_rule (codes "calls")) { long = Some (codes "calls"); action = Some SetTrue }
+
 -- `--strict`: the run stops at a read of the stack where nothing was written.
 abbrev pub strict_rule : Rule
 strict_rule = record (new_rule (codes "strict")) { long = Some (codes "strict"); action = Some SetTrue }
@@ -252,8 +256,8 @@ run_app = with_rule (with_rule (with_file_kinds (with_rule (with_rule (with_rule
     mem_rule) packet_rule) maps_rule) regs_rule) steps_rule) strict_rule)) json_rule) file_rule
 
 abbrev pub trace_app : App
-trace_app = with_rule (with_rule (with_file_kinds (with_rule (with_rule (with_rule (with_rule (with_rule (with_rule (with_rule (with_rule (with_rule (with_rule (new_app (codes "trace"))
-    mem_rule) packet_rule) maps_rule) regs_rule) steps_rule) from_rule) count_rule) branches_rule) profile_rule) strict_rule)) json_rule) file_rule
+trace_app = with_rule (with_rule (with_file_kinds (with_rule (with_rule (with_rule (with_rule (with_rule (with_rule (with_rule (with_rule (with_rule (with_rule (with_rule (new_app (codes "trace"))
+    mem_rule) packet_rule) maps_rule) regs_rule) steps_rule) from_rule) count_rule) branches_rule) profile_rule) calls_rule) strict_rule)) json_rule) file_rule
 
 abbrev pub debug_app : App
 debug_app = with_rule (with_file_kinds (with_rule (with_rule (with_rule (with_rule (with_rule (with_rule (new_app (codes "debug"))

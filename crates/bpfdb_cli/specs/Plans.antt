@@ -97,6 +97,7 @@ pub record Traces (rows : List Row) (a : TraceAsk) : Type 0 where
   pub count : a.count ≡ number_or greatest_count (first_of (codes "count") rows)
   pub branches : a.only_branches ≡ is_given (first_of (codes "branches") rows)
   pub profile : a.is_profile ≡ is_given (first_of (codes "profile") rows)
+  pub calls : a.is_calls ≡ is_given (first_of (codes "calls") rows)
   pub strict : a.is_strict ≡ is_given (first_of (codes "strict") rows)
 
 pub record AsksOrigin (rows : List Row) (a : OriginAsk) : Type 0 where
@@ -272,6 +273,13 @@ kinds_fit rows = if is_object rows then may_be_object rows
 abbrev pub run_fits : Text → List Row → Bool
 run_fits name rows = if bytes_eq name (codes "diff") then names_other rows && (writes_fit rows && kinds_fit rows) else kinds_fit rows
 
+-- Calls are told of a whole run, and in place of all else.
+abbrev pub tells_otherwise : List Row → Bool
+tells_otherwise rows = is_given (first_of (codes "branches") rows) || (is_given (first_of (codes "profile") rows) || is_given (first_of (codes "strict") rows))
+
+abbrev pub calls_fit : List Row → Bool
+calls_fit rows = not (is_given (first_of (codes "calls") rows) && tells_otherwise rows)
+
 abbrev pub counts_strictly : List Row → Bool
 counts_strictly rows = is_given (first_of (codes "strict") rows) && is_given (first_of (codes "profile") rows)
 
@@ -311,7 +319,7 @@ told_fits name rows = not (shows_json rows) && (not (is_json_tracefile rows) && 
 
 abbrev pub go_together : Text → List Row → Bool
 go_together name rows = entries_fit rows && (are_counts (texts_in (codes "entries") rows)
-    && (packets_fit rows && (not (counts_strictly rows) && told_fits name rows)))
+    && (packets_fit rows && (calls_fit rows && (not (counts_strictly rows) && told_fits name rows))))
 
 -- A plan says what a subcommand's matches say, with numbers in their ranges and options that go together.
 pub record IsPlanOf (name : Text) (rows : List Row) (plan : Plan) : Type 0 where

@@ -70,6 +70,7 @@ fn trace_in(found: &ArgMatches<'_>) -> Option<TraceAsk>
         count,
         only_branches: is_given(found, "branches"),
         is_profile: is_given(found, "profile"),
+        is_calls: is_given(found, "calls"),
         is_strict: is_given(found, "strict"),
     })
 }

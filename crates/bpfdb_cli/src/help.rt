@@ -66,7 +66,9 @@ says where the program ended, or that the limit of steps is reached; then, and
 where it faults, the exit status is 1. --branches shows of these steps the
 conditional jumps alone: the registers that each one compared, and whether it
 jumped or went on. --profile tells how often each instruction ran, in place of
-the steps. --strict stops before an instruction that reads a byte of the stack
+the steps. --calls writes a line a call that leaves FILE's own code in place of
+them: of a helper, or of a function of --with or of Linux's library, with the
+arguments, and what it returned. --strict stops before an instruction that reads a byte of the stack
 which nothing wrote since the call of its function.";
 
 pub const TRACE_EXAMPLE: &str = "Example:
@@ -434,6 +436,9 @@ pub const DECIDERS: &str = "Tells which branches decided that it came so";
 
 /// `--profile`.
 pub const PROFILE: &str = "Tells how often each instruction ran, and no steps";
+
+/// `--calls`.
+pub const CALLS: &str = "Tells of calls of helpers and others' functions alone";
 
 /// `--strict`.
 pub const STRICT: &str = "Stops before a read of stack that nothing wrote";

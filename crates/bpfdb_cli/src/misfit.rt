@@ -4,7 +4,7 @@ ghost use Rattle.std.specs.List.{list_all};
 ghost use Rattle.input_texts.specs.Counts.{are_counts};
 ghost use Rattle.input_texts.specs.Turns.{has_place};
 ghost use Rattle.clap.specs.Words.{found_of, rows_of};
-ghost use Rattle.bpfdb_cli.specs.Plans.{asks_of_fields, asks_of_link, asks_of_program, counts_strictly, entries_fit, go_together, graph_fits, has_offset, is_json_graph, is_json_tracefile, is_of, joins_nothing, joins_otherwise, kinds_fit, may_be_object, names_one, names_other, names_side, object_fits, packets_fit, run_fits, shows_json, texts_in, told_fits, writes_fit};
+ghost use Rattle.bpfdb_cli.specs.Plans.{asks_of_fields, asks_of_link, asks_of_program, calls_fit, counts_strictly, entries_fit, go_together, graph_fits, has_offset, is_json_graph, is_json_tracefile, is_of, joins_nothing, joins_otherwise, kinds_fit, may_be_object, names_one, names_other, names_side, object_fits, packets_fit, run_fits, shows_json, texts_in, told_fits, writes_fit};
 
 use crate::values::{has_text, is_given};
 use clap::ArgMatches;
@@ -35,6 +35,12 @@ const PACKET_ALONE: &str =
     "'--packet <N>' needs '--mem <PATH>', and '--other-packet <N>' needs '--other-mem <PATH>'";
 
 const STRICT_AND_PROFILE: &str = "the argument '--strict' cannot be used with '--profile'";
+
+const CALLS_AND_BRANCHES: &str = "the argument '--calls' cannot be used with '--branches'";
+
+const CALLS_AND_PROFILE: &str = "the argument '--calls' cannot be used with '--profile'";
+
+const CALLS_AND_STRICT: &str = "the argument '--calls' cannot be used with '--strict'";
 
 const SHOW_AND_JSON: &str = "the argument '--show <PART>' cannot be used with '--json'";
 
@@ -80,6 +86,37 @@ pub fn misfit_in(name: &str, found: &ArgMatches<'_>) -> Option<&'static str>
     if !packets_fit(found) {
         return Some(PACKET_ALONE);
     }
+    match misfit_of_calls(found) {
+        Some(why) => Some(why),
+        None => misfit_of_strict(name, found),
+    }
+}
+
+/// What is asked beside the calls of a run and isn't told with them, if there is something.
+fn misfit_of_calls(found: &ArgMatches<'_>) -> Option<&'static str>
+    ensures { is_some result ≡ not (calls_fit (rows_of (found_of found.now))) }
+{
+    if !is_given(found, "calls") {
+        return None;
+    }
+    if is_given(found, "branches") {
+        Some(CALLS_AND_BRANCHES)
+    } else if is_given(found, "profile") {
+        Some(CALLS_AND_PROFILE)
+    } else if is_given(found, "strict") {
+        Some(CALLS_AND_STRICT)
+    } else {
+        None
+    }
+}
+
+/// Why the steps of a strict run aren't counted, if they aren't, or what is written isn't written so.
+fn misfit_of_strict(name: &str, found: &ArgMatches<'_>) -> Option<&'static str>
+    ensures none { IfNone result ((not (counts_strictly (rows_of (found_of found.now)))
+        && told_fits name.now (rows_of (found_of found.now))) ≡ true) }
+    ensures some { OnSome result ((not (counts_strictly (rows_of (found_of found.now)))
+        && told_fits name.now (rows_of (found_of found.now))) ≡ false) }
+{
     if counts_strictly(found) {
         Some(STRICT_AND_PROFILE)
     } else {

@@ -157,6 +157,15 @@ pub(crate) const PROFILE: CliOption<'static> = CliOption {
     long_about: "",
 };
 
+/// `--calls`.
+pub(crate) const CALLS: CliOption<'static> = CliOption {
+    name: "calls",
+    takes: Takes::Nothing,
+    value: "",
+    about: help::CALLS,
+    long_about: "",
+};
+
 /// `--strict`.
 pub(crate) const STRICT: CliOption<'static> = CliOption {
     name: "strict",

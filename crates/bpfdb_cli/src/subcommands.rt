@@ -57,6 +57,7 @@ pub(crate) const RUNS: [CliSubcommand<'static>; 3] = [
             options::COUNT,
             options::BRANCHES,
             options::PROFILE,
+            options::CALLS,
             options::STRICT,
             options::WORDS,
             options::LISTING,

@@ -29,6 +29,8 @@ pub struct TraceAsk {
     pub only_branches: bool,
     /// How often each instruction runs is told, in place of the steps.
     pub is_profile: bool,
+    /// The calls that leave FILE's own code are told, in place of the steps.
+    pub is_calls: bool,
     /// The run stops at the first read of the stack where nothing was written since the call.
     pub is_strict: bool,
 }
@@ -122,7 +124,7 @@ pub enum Ask<'a> {
         /// The run stops at the first read of the stack where nothing was written since the call.
         is_strict: bool,
     },
-    /// Its run, step by step, or how often each instruction runs.
+    /// Its run, step by step, or how often each instruction runs, or its calls.
     Trace(TraceAsk),
     /// The replies to a script of commands.
     Debug,
