@@ -2,7 +2,7 @@
 use Rattle.std.specs.Prelude.{ℕ, true, false, List, [], ◌∷◌, ◌++◌, codes}
 use Rattle.answer_forms.specs.Shapes.{Pattern, Spot}
 use Rattle.answer_forms.specs.declared.answer.Answer.{Answer}
-use Rattle.answer_forms.specs.declared.answer.Answer.TheVariants.{Value, Run, Profile, Check, Listing, Lines, Program, Report}
+use Rattle.answer_forms.specs.declared.answer.Answer.TheVariants.{Value, Run, Profile, Calls, Check, Listing, Lines, Program, Report}
 use Rattle.answer_forms.specs.declared.shape.Rest.{Rest}
 use Rattle.answer_forms.specs.declared.shape.Rest.TheVariants.{Nothing, Moves, Labels, Registers}
 
@@ -88,6 +88,17 @@ profile_shapes =
     ∷ shape (codes "ran") [] (count (codes "count") (codes " ") ∷ count (codes "slot") (codes ": ") ∷ text (codes "insn") [] ∷ []) Nothing
     ∷ []
 
+-- Calls with what they returned, with their places in C or without.
+abbrev pub call_shapes : List Pattern
+call_shapes =
+    shape (codes "call") []
+    (count (codes "step") (codes " ") ∷ count (codes "slot") (codes ": ") ∷ text (codes "name") (codes "(") ∷ text (codes "args") (codes ") = ")
+    ∷ text (codes "result") (codes "; ") ∷ []) Moves
+    ∷ shape (codes "call") []
+    (count (codes "step") (codes " ") ∷ count (codes "slot") (codes ": ") ∷ text (codes "name") (codes "(") ∷ text (codes "args") (codes ") = ")
+    ∷ text (codes "result") [] ∷ []) Nothing
+    ∷ []
+
 -- What the checker accepted.
 abbrev pub check_shapes : List Pattern
 check_shapes =
@@ -163,6 +174,7 @@ abbrev pub patterns_of : Answer → List Pattern
 patterns_of Value = value_shapes
 patterns_of Run = step_shapes ++ place_shapes ++ sentence_shapes
 patterns_of Profile = profile_shapes ++ place_shapes
+patterns_of Calls = call_shapes ++ place_shapes
 patterns_of Check = check_shapes
 patterns_of Listing = listing_shapes
 patterns_of Lines = line_shapes

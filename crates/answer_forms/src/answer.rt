@@ -9,6 +9,8 @@ pub enum Answer {
     Run,
     /// What `trace --profile` prints.
     Profile,
+    /// What `trace --calls` prints.
+    Calls,
     /// What `check` prints.
     Check,
     /// What `disasm` prints.

@@ -301,6 +301,70 @@ const PROFILE: [Shape; 7] = [
     },
 ];
 
+/// What `trace --calls` prints.
+const CALLS: [Shape; 7] = [
+    Shape {
+        kind: b"call",
+        begin: b"",
+        fields: &[
+            Field::Count(b"step", b" "),
+            Field::Count(b"slot", b": "),
+            Field::Text(b"name", b"("),
+            Field::Text(b"args", b") = "),
+            Field::Text(b"result", b"; "),
+        ],
+        rest: Rest::Moves,
+    },
+    Shape {
+        kind: b"call",
+        begin: b"",
+        fields: &[
+            Field::Count(b"step", b" "),
+            Field::Count(b"slot", b": "),
+            Field::Text(b"name", b"("),
+            Field::Text(b"args", b") = "),
+            Field::Text(b"result", b""),
+        ],
+        rest: Rest::Nothing,
+    },
+    Shape {
+        kind: b"at",
+        begin: b"at ",
+        fields: &[Field::Count(b"slot", b": "), Field::Text(b"insn", b"")],
+        rest: Rest::Nothing,
+    },
+    Shape {
+        kind: b"exited",
+        begin: b"exited at ",
+        fields: &[Field::Count(b"slot", b": r0 "), Field::Text(b"r0", b"")],
+        rest: Rest::Nothing,
+    },
+    Shape {
+        kind: b"fault",
+        begin: b"fault ",
+        fields: &[Field::Text(b"fault", b" at "), Field::Count(b"slot", b"")],
+        rest: Rest::Nothing,
+    },
+    Shape {
+        kind: b"limit",
+        begin: b"step limit ",
+        fields: &[
+            Field::Count(b"limit", b" reached at "),
+            Field::Count(b"slot", b""),
+        ],
+        rest: Rest::Nothing,
+    },
+    Shape {
+        kind: b"unwritten",
+        begin: b"read of ",
+        fields: &[
+            Field::Text(b"address", b" at "),
+            Field::Count(b"slot", b": not written since the call"),
+        ],
+        rest: Rest::Nothing,
+    },
+];
+
 /// How many instructions and slots a program has.
 const SIZE: Shape = Shape {
     kind: b"ok",
@@ -546,6 +610,7 @@ pub fn shapes_of(answer: Answer) -> &'static [Shape]
         Answer::Value => &VALUE,
         Answer::Run => &RUN,
         Answer::Profile => &PROFILE,
+        Answer::Calls => &CALLS,
         Answer::Check => &CHECK,
         Answer::Listing => &LISTING,
         Answer::Lines => &LINES,
