@@ -21,7 +21,7 @@ use Rattle.answer_forms.specs.declared.answer.Answer.TheVariants as answer
 -- What is printed, by what is asked.
 abbrev pub answer_for : Ask → Answer
 answer_for (ask.Run strict) = answer.Value
-answer_for (ask.Trace trace) = if trace.is_profile then answer.Profile else answer.Run
+answer_for (ask.Trace trace) = if trace.is_profile then answer.Profile else if trace.is_calls then answer.Calls else answer.Run
 answer_for ask.Lines = answer.Lines
 answer_for ask.Load = answer.Program
 answer_for ask.Disasm = answer.Listing

@@ -52,6 +52,8 @@ fn answer_for(ask: &Ask<'_>) -> Answer
         Ask::Trace(trace) => {
             if trace.is_profile {
                 Answer::Profile
+            } else if trace.is_calls {
+                Answer::Calls
             } else {
                 Answer::Run
             }

@@ -1,6 +1,7 @@
 -- What a job asks for: its machine and its session, and what each subcommand prints that reads no standard input.
 use Rattle.std.specs.Prelude.{◌≡◌, ◌≤◌, ◌/◌, ◌==◌, ◌&&◌, ◌||◌, ℕ, Bool, true, false, List, [], ◌++◌, Option, Some, None, Result, Ok, IsOk, length, map, option_map, codes, if◌then◌else◌}
 use Rattle.std.specs.Borrow.{Bor}
+use Rattle.std.specs.Option.{option_map_or}
 use Rattle.bpf_entries.specs.Keeping.{IsSize}
 use Rattle.bpf_diff.specs.Values.{Comparison, by_steps, by_writes}
 use Rattle.bpf_diff.specs.Against.{against_text, tells_run}
@@ -26,7 +27,9 @@ use Rattle.bpf_lines.specs.Objects.{AreProgramLines, IsProgramLinesFault, progra
 use Rattle.bpf_lines.specs.declared.objects.LinesFault.{LinesFault}
 use Rattle.bpf_lines.specs.declared.objects.ObjectLines.{ObjectLines}
 use Rattle.bpf_lines.specs.declared.place_names.Names.{Names}
-use Rattle.bpf_lines.specs.Lookups.{AreListingSlots}
+use Rattle.bpf_isa.specs.Checker.{most_slots}
+use Rattle.bpf_lines.specs.Lookups.{AreFunctions, AreListingSlots}
+use Rattle.bpf_lines.specs.declared.lookups.Functions.{Functions}
 use Rattle.bpf_lines.specs.PlaceSlots.{slots_told}
 use Rattle.bpf_lines.specs.PlaceTexts.{places_told}
 use Rattle.bpf_lines.specs.Places.{is_place}
@@ -50,6 +53,8 @@ use Rattle.bpf_text.specs.Listing.{IsListing}
 use Rattle.bpf_trace.specs.UnwrittenTexts.{trace_until, unwritten_line}
 use Rattle.bpf_trace.specs.Written.{unwritten_of}
 use Rattle.bpf_trace.specs.declared.strict_run.Unwritten.{Unwritten}
+use Rattle.bpf_trace.specs.Calls.{calls_text}
+use Rattle.bpf_trace.specs.declared.calls.Called.{Called}
 use Rattle.bpf_trace.specs.Profiles.{profile_text}
 use Rattle.bpf_trace.specs.Traces.{limit_line, trace_text}
 use Rattle.bpf_trace.specs.declared.trace.Shown.{Shown}
@@ -172,8 +177,8 @@ abbrev pub run_or_stopped : Option Unwritten → Print → Print
 run_or_stopped None a = a
 run_or_stopped (Some read) a = stopped (unwritten_line read)
 
--- `trace`: the steps that are shown, with `--branches` the conditional jumps among them, or with `--profile` how often each instruction ran, and where
--- the run ended. Its status is 1 where `run` has no result.
+-- `trace`: the steps that are shown, with `--branches` the conditional jumps among them, or with `--profile` how often each instruction ran, or with
+-- `--calls` its calls, and where the run ended. Its status is 1 where `run` has no result.
 abbrev pub shown_of : TraceAsk → Known → Shown
 shown_of trace known = record {
   from = trace.from;
@@ -182,20 +187,28 @@ shown_of trace known = record {
   places = known.places;
 }
 
-abbrev pub trace_out : TraceAsk → Job → Shown → State → List ℕ
-trace_out trace job shown x = if trace.is_profile then profile_text shown.places job.options.limit x else trace_text job.options.limit shown x
+-- With `--calls` it tells the calls that leave FILE's own code: all slots are of it where FILE is no object, or its lines aren't known.
+abbrev pub called_of : Known → Called
+called_of known = record { first = known.first; behind = known.behind; names = known.names; places = known.places }
+
+abbrev pub steps_out : TraceAsk → Job → Shown → State → List ℕ
+steps_out trace job shown x = if trace.is_profile then profile_text shown.places job.options.limit x else trace_text job.options.limit shown x
+
+abbrev pub trace_out : TraceAsk → Job → Known → State → List ℕ
+trace_out trace job known x =
+    if trace.is_calls then calls_text job.options.limit (called_of known) x else steps_out trace job (shown_of trace known) x
 
 abbrev pub status_of_end : Status → ℕ
 status_of_end status.Exited = 0
 status_of_end _ = 1
 
-abbrev pub trace_print : TraceAsk → Job → Shown → State → State → Print
-trace_print trace job shown x end = record { out = Some (trace_out trace job shown x); err = None; status = status_of_end end.status }
+abbrev pub trace_print : TraceAsk → Job → Known → State → State → Print
+trace_print trace job known x end = record { out = Some (trace_out trace job known x); err = None; status = status_of_end end.status }
 
 -- With `--strict` it stops there, too.
-abbrev pub trace_or_stopped : Option Unwritten → TraceAsk → Job → Shown → State → State → Print
-trace_or_stopped None trace job shown x end = trace_print trace job shown x end
-trace_or_stopped (Some read) trace job shown x end = record { out = Some (trace_until read shown x); err = None; status = 1 }
+abbrev pub trace_or_stopped : Option Unwritten → TraceAsk → Job → Known → State → State → Print
+trace_or_stopped None trace job known x end = trace_print trace job known x end
+trace_or_stopped (Some read) trace job known x end = record { out = Some (trace_until read (shown_of trace known) x); err = None; status = 1 }
 
 -- `origin`: where the machine stands, and where the values came from that are asked about. Where that is, by the job; or why its script is
 -- refused.
@@ -264,6 +277,35 @@ HasPlaces true job (Some linked) (Some texts) =
     (all : List ObjectLines) × AreLinesFor job linked all × (texts ≡ places_told (length linked.program.words.items / 8) (table_by job linked all))
 HasPlaces true job (Some linked) None = LacksLines job linked
 HasPlaces tells job object texts = texts ≡ None
+
+-- The functions of its slots by that table, and which slots are FILE's own, where calls are told.
+abbrev pub tells_calls : Ask → Bool
+tells_calls (Trace trace) = trace.is_calls
+tells_calls ask = false
+
+abbrev pub AreAllOwn : Option (List (List ℕ)) → ℕ → ℕ → Type 0
+AreAllOwn names first behind = (names ≡ None) × (first ≡ 0) × (behind ≡ most_slots)
+
+abbrev pub AreOwn : Job → LinkedObject → List (List ℕ) → ℕ → ℕ → Type 0
+AreOwn job linked names first behind = (all : List ObjectLines) × AreLinesFor job linked all
+    × AreFunctions job.target.packet linked.program.words.items all names first behind
+
+abbrev pub HasCode : Bool → Job → Option LinkedObject → Option (List (List ℕ)) → ℕ → ℕ → Type 0
+HasCode true job (Some linked) (Some names) first behind = AreOwn job linked names first behind
+HasCode true job (Some linked) None first behind = LacksLines job linked × AreAllOwn None first behind
+HasCode tells job object names first behind = AreAllOwn names first behind
+
+abbrev pub names_of : Option Functions → Option (List (List ℕ))
+names_of functions = option_map (λ f. map (λ name. name.items) f.names.items) functions
+
+abbrev pub first_of : Option Functions → ℕ
+first_of functions = option_map_or (λ f. f.first) functions 0
+
+abbrev pub behind_of : Option Functions → ℕ
+behind_of functions = option_map_or (λ f. f.behind) functions most_slots
+
+abbrev pub HasFunctions : Bool → Job → Option LinkedObject → Option Functions → Type 0
+HasFunctions tells job object functions = HasCode tells job object (names_of functions) (first_of functions) (behind_of functions)
 
 -- Answers whose lines tell them: gdb's user asks for those of `origin` and `whynot`, too.
 abbrev pub tells_places : Ask → Bool
@@ -396,13 +438,14 @@ asked_place ask = None
 pub record IsKnown (job : Job) (object : Option LinkedObject) (known : Known) : Type 0 where
   pub goals : HasPlace (asked_place job.ask) job object (option_map (λ goals. goals.now) known.goals)
   pub places : AreTold job object known.places
+  pub code : HasCode (tells_calls job.ask) job object (option_map (λ names. map (λ name. name.items) names.now) known.names) known.first known.behind
 
 -- What a subcommand prints of a job that has what it needs: one that reads no standard input. (`test` has a definition of its own.)
 abbrev pub Prints : Ask → Job → Print → Type 0
 Prints (Run strict) job a = (loaded : Loaded) × Opens job loaded × (a ≡ run_or_stopped (unwritten_in strict job (initial_of job loaded))
     (run_print job.target job.options.limit (ending_of (run_end job loaded).status) (run_end job loaded)))
 Prints (Trace trace) job a = (loaded : Loaded) × (known : Known) × Opens job loaded × IsKnown job loaded.object known
-    × (a ≡ trace_or_stopped (unwritten_in trace.is_strict job (initial_of job loaded)) trace job (shown_of trace known) (initial_of job loaded) (run_end job loaded))
+    × (a ≡ trace_or_stopped (unwritten_in trace.is_strict job (initial_of job loaded)) trace job known (initial_of job loaded) (run_end job loaded))
 Prints Debug job a = ⊥
 Prints (Origin origin) job a = (loaded : Loaded) × (known : Known) × (at : Arrival) × (what : Option What) × (tail : Answer) × (names : Option Names)
     × OpensSession job loaded × IsKnown job loaded.object known × (arrival_of job loaded ≡ Ok at) × Asks origin.what at.point.state what

@@ -4,18 +4,22 @@ ghost use Rattle.bpf_lines.specs.Objects.{HasPartLines};
 ghost use Rattle.bpf_link.specs.Names.{fault_names};
 ghost use Rattle.bpf_link.specs.declared.fault.LinkFault.TheVariants.{Memory};
 ghost use Rattle.bpf_load.specs.Faults.{Tells};
-ghost use Rattle.bpfdb_jobs.specs.Jobs.{AreLinesFor, asked_place, is_memory, place_in, tells_places};
+ghost use Rattle.bpfdb_jobs.specs.Jobs.{AreLinesFor, HasFunctions, asked_place, behind_of, first_of, is_memory, names_of, place_in, tells_calls, tells_places};
 ghost use Rattle.bpfdb_jobs.specs.Objects.{ArePlaces, HasLines, is_check};
 ghost use Rattle.bpfdb_jobs.specs.Refusals.{LacksPlaces, lines_names};
 
 use crate::job::Job;
 use crate::whynot::asked;
-use bpf_lines::{LinesFault, ObjectLines, is_place, program_lines, program_places, program_slots};
+use bpf_isa::MOST_SLOTS;
+use bpf_lines::{
+    Functions, LinesFault, ObjectLines, is_place, program_functions, program_lines, program_places,
+    program_slots,
+};
 use bpf_link::{LinkFault, fault_names};
 use bpf_load::{LinkedObject, ObjectFault, in_object};
 use bpfdb_options::{Ask, WhynotAsk};
 use bpfdb_script::SlotTexts;
-use std::alloc::Global;
+use std::alloc::{AllocError, Global};
 
 /// What is known of a program's slots.
 #[derive(Clone, Copy)]
@@ -25,6 +29,12 @@ pub struct Known<'a> {
     /// Those of the place of an object which `whynot` asks about, where it is one: numbers with commas
     /// between. Without them what the options ask about counts.
     pub goals: Option<&'a [u8]>,
+    /// The names of their functions, where calls are told.
+    pub names: SlotTexts<'a>,
+    /// The first slot of FILE's own code, and the slot behind it: of all, unless it is an object whose
+    /// calls are told.
+    pub first: usize,
+    pub behind: usize,
 }
 
 /// The same, in memory.
@@ -32,6 +42,7 @@ pub struct Known<'a> {
 pub struct Places {
     pub texts: Option<Vec<Vec<u8>>>,
     pub goals: Option<Vec<u8>>,
+    pub functions: Option<Functions>,
 }
 
 impl Places {
@@ -41,6 +52,10 @@ impl Places {
             ≡ option_map (λ texts. map (λ text. text.items) texts.items) self.now.texts }
         ensures goals { option_map (λ goals. goals.now) result.goals
             ≡ option_map (λ goals. goals.items) self.now.goals }
+        ensures names { option_map (λ names. map (λ name. name.items) names.now) result.names
+            ≡ names_of self.now.functions }
+        ensures first { result.first ≡ first_of self.now.functions }
+        ensures behind { result.behind ≡ behind_of self.now.functions }
     {
         Known {
             places: match &self.texts {
@@ -51,6 +66,42 @@ impl Places {
                 Some(goals) => Some(goals.as_slice()),
                 None => None,
             },
+            names: self.names(),
+            first: self.first(),
+            behind: self.behind(),
+        }
+    }
+}
+
+impl Places {
+    /// The names of functions.
+    fn names(&self) -> SlotTexts<'_>
+        ensures { option_map (λ names. map (λ name. name.items) names.now) result
+            ≡ names_of self.now.functions }
+    {
+        match &self.functions {
+            Some(functions) => Some(functions.names.as_slice()),
+            None => None,
+        }
+    }
+
+    /// The first slot of FILE's own code.
+    fn first(&self) -> usize
+        ensures { result ≡ first_of self.now.functions }
+    {
+        match &self.functions {
+            Some(functions) => functions.first,
+            None => 0,
+        }
+    }
+
+    /// The slot behind it.
+    fn behind(&self) -> usize
+        ensures { result ≡ behind_of self.now.functions }
+    {
+        match &self.functions {
+            Some(functions) => functions.behind,
+            None => MOST_SLOTS,
         }
     }
 }
@@ -111,6 +162,16 @@ fn tells_places(ask: &Ask<'_>) -> bool
     }
 }
 
+/// Whether calls are told.
+fn tells_calls(ask: &Ask<'_>) -> bool
+    ensures { result ≡ tells_calls ask.now }
+{
+    match ask {
+        Ask::Trace(trace) => trace.is_calls,
+        _ => false,
+    }
+}
+
 /// What is known of the slots of a job's program, which comes from an object: where they stand, if the
 /// job tells steps or moves, and those of the place that it asks about, if it asks about one.
 pub fn places_of(
@@ -137,10 +198,12 @@ pub fn places_of(
 pub fn nowhere() -> Places
     ensures texts { result.texts ≡ None }
     ensures goals { result.goals ≡ None }
+    ensures functions { result.functions ≡ None }
 {
     Places {
         texts: None,
         goals: None,
+        functions: None,
     }
 }
 
@@ -161,18 +224,43 @@ fn places_in(
         Ok(texts) => texts,
         Err(_) => return Err(want_of_memory(job, object)),
     };
+    let Ok(functions) = functions_in(alloc, job, object, lines) else {
+        return Err(want_of_memory(job, object));
+    };
     let Some(what) = asked_place(&job.ask) else {
         return Ok(Places {
             texts: Some(texts),
             goals: None,
+            functions,
         });
     };
     match program_slots(alloc, lines, job.target.packet, words, what) {
         Ok(goals) => Ok(Places {
             texts: Some(texts),
             goals: Some(goals),
+            functions,
         }),
         Err(_) => Err(want_of_memory(job, object)),
+    }
+}
+
+/// The functions of the program's slots, if calls are told.
+fn functions_in(
+    alloc: Global,
+    job: &Job<'_>,
+    object: &LinkedObject,
+    lines: &[ObjectLines<'_>],
+) -> Result<Option<Functions>, AllocError>
+    requires { AreLinesFor job.now object.now lines.now × All HasPartLines lines.now }
+    ensures { IfOk result (HasFunctions (tells_calls job.now.ask) job.now (Some object.now)) }
+{
+    if !tells_calls(&job.ask) {
+        return Ok(None);
+    }
+    let words = object.program.words.as_slice();
+    match program_functions(alloc, lines, job.target.packet, words) {
+        Ok(functions) => Ok(Some(functions)),
+        Err(AllocError) => Err(AllocError),
     }
 }
 

@@ -3,6 +3,7 @@
 
 mod against;
 mod batch;
+mod calls;
 mod check;
 mod cover;
 mod debug;

@@ -8,10 +8,11 @@ ghost use Rattle.bpf_trace.specs.Tellings.{Tells};
 ghost use Rattle.bpfdb_faults.specs.Streams.{Told, stream};
 ghost use Rattle.bpfdb_jobs.specs.Endings.{EndsPrinted};
 ghost use Rattle.bpfdb_faults.specs.Faults.{line_of};
-ghost use Rattle.bpfdb_jobs.specs.Jobs.{shown_of, status_of_end, trace_out, IsKnown};
+ghost use Rattle.bpfdb_jobs.specs.Jobs.{shown_of, status_of_end, steps_out, trace_out, IsKnown};
 ghost use Rattle.bpfdb_jobs.specs.Tellings.{fault_of_told};
 ghost use Rattle.bpfdb_options.specs.declared.ask.Ask.TheVariants.{Trace};
 
+use crate::calls::write_called;
 use crate::job::Job;
 use crate::known::Known;
 use crate::strict::strict_machine;
@@ -28,7 +29,8 @@ use std::alloc::Global;
 use std::io::Write;
 
 /// Runs the program to its end or to the limit, and tells each step that is shown, or with
-/// `--profile` how often each instruction ran, and where it ended.
+/// `--profile` how often each instruction ran, or with `--calls` the calls that leave FILE's own code,
+/// and where it ended.
 pub fn trace_job<W: Write, E: Write>(
     alloc: Global,
     trace: &TraceAsk,
@@ -55,7 +57,7 @@ pub fn trace_job<W: Write, E: Write>(
             end_of(before, 1, errors)
         }
         None => {
-            let told = tell_run(alloc, trace, job, shown, &mut strict.cpu, writer);
+            let told = tell_run(alloc, trace, job, known, &mut strict.cpu, writer);
             end_of(told, status_of(strict.cpu.status()), errors)
         }
     }
@@ -126,14 +128,14 @@ fn tell_run<W: Write>(
     alloc: Global,
     trace: &TraceAsk,
     job: &Job<'_>,
-    shown: Shown<'_>,
+    known: Known<'_>,
     cpu: &mut Cpu,
     writer: &mut Counted<W>,
 ) -> Result<(), TraceFault>
-    ensures told { Tells W.contents writer.old writer.new result (trace_out trace.now job.now shown.entry cpu.old) }
+    ensures told { Tells W.contents writer.old writer.new result (trace_out trace.now job.now known.entry cpu.old) }
     ensures next { OnOk result (cpu.new ≡ plain_end job.now.options.limit cpu.old) }
 {
-    match write_run(alloc, trace, job, shown, cpu, writer) {
+    match write_run(alloc, trace, job, known, cpu, writer) {
         Ok(()) => {}
         Err(fault) => return Err(fault),
     }
@@ -143,8 +145,27 @@ fn tell_run<W: Write>(
     }
 }
 
-/// Writes what is told of a run: its steps or its profile. All memory is taken before the first of them.
+/// Writes what is told of a run: its calls, its profile or its steps.
 fn write_run<W: Write>(
+    alloc: Global,
+    trace: &TraceAsk,
+    job: &Job<'_>,
+    known: Known<'_>,
+    cpu: &mut Cpu,
+    writer: &mut Counted<W>,
+) -> Result<(), TraceFault>
+    ensures told { Tells W.contents writer.old writer.new result (trace_out trace.now job.now known.entry cpu.old) }
+    ensures next { OnOk result (cpu.new ≡ plain_end job.now.options.limit cpu.old) }
+{
+    if trace.is_calls {
+        write_called(job.options.limit, known, cpu, writer)
+    } else {
+        write_steps(alloc, trace, job, shown_steps(trace, known), cpu, writer)
+    }
+}
+
+/// Writes what is told of a run: its steps or its profile. All memory is taken before the first of them.
+fn write_steps<W: Write>(
     alloc: Global,
     trace: &TraceAsk,
     job: &Job<'_>,
@@ -152,7 +173,7 @@ fn write_run<W: Write>(
     cpu: &mut Cpu,
     writer: &mut Counted<W>,
 ) -> Result<(), TraceFault>
-    ensures told { Tells W.contents writer.old writer.new result (trace_out trace.now job.now shown.entry cpu.old) }
+    ensures told { Tells W.contents writer.old writer.new result (steps_out trace.now job.now shown.entry cpu.old) }
     ensures next { OnOk result (cpu.new ≡ plain_end job.now.options.limit cpu.old) }
 {
     if trace.is_profile {

@@ -24,6 +24,10 @@ exhausted job linked all it lines told = record {
 pub returns-in-Err-clause-err : goal.returns-in-Err-clause-err
 returns-in-Err-clause-err c = exhausted c.args.job.now c.args.object.now c.args.lines.now _ c.requires.lines.0 c.want_of_memory.ensures
 
+pub returns-in_default-clause-err : goal.returns-in_default-clause-err
+returns-in_default-clause-err c =
+    exhausted c.args.job.now c.args.object.now c.args.lines.now _ c.requires.lines.0 c.want_of_memory-in_default.ensures
+
 pub returns-in-Err-program_slots-clause-err : goal.returns-in-Err-program_slots-clause-err
 returns-in-Err-program_slots-clause-err c =
     exhausted c.args.job.now c.args.object.now c.args.lines.now _ c.requires.lines.0 c.want_of_memory-in-Err-program_slots.ensures

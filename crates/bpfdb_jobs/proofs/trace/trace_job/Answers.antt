@@ -18,4 +18,4 @@ returns-clause-does g c =
     let ok = rw (c.status_of.ensures.value, c.status.ensures) at c.end_of-in-None.ensures.ok in
     trace-ends c.args.trace.now c.args.job.now c.args.known c.in-Ok.strict.cpu c.tell_run-told.new.cpu c.in-Ok.strict.unwritten c.tell_run-told.result c.end_of-in-None.result
     (opens-strict c.args.trace.now.is_strict c.args.job.now c.args.loaded c.in-Ok.strict.cpu c.in-Ok.strict.unwritten c.requires.loaded c.in-Ok.ensures.ok) c.requires.known c.in-None.is
-    (rw c.shown_steps-shown.ensures at c.tell_run-told.ensures.told) c.tell_run-told.ensures.next ok c.end_of-in-None.ensures.err
+    c.tell_run-told.ensures.told c.tell_run-told.ensures.next ok c.end_of-in-None.ensures.err
