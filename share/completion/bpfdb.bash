@@ -69,7 +69,7 @@ _bpfdb() {
     fi
     case $job in
     run) words="-m --mem --packet --maps --regs --steps --strict --words --listing --object --section --entry --entries --helper --fields --struct --with --no-linux --faithful --json -h --help" ;;
-    trace) words="-m --mem --packet --maps --regs --steps --from --count --branches --profile --strict --words --listing --object --section --entry --entries --helper --fields --struct --with --no-linux --faithful --json -h --help" ;;
+    trace) words="-m --mem --packet --maps --regs --steps --from --count --branches --profile --calls --strict --words --listing --object --section --entry --entries --helper --fields --struct --with --no-linux --faithful --json -h --help" ;;
     debug) words="-m --mem --packet --maps --regs --journal --steps --words --listing --object --section --entry --entries --helper --fields --struct --with --no-linux --faithful -h --help" ;;
     origin) words="-m --mem --packet --maps --regs --journal --steps --branches --words --listing --object --section --entry --entries --helper --script --fields --struct --with --no-linux --faithful --lines --addresses --json --dot -h --help" ;;
     whynot) words="-m --mem --packet --maps --regs --journal --steps --words --listing --object --section --entry --entries --helper --script --fields --struct --with --no-linux --faithful --lines --addresses --alone --json -h --help" ;;
