@@ -15,3 +15,4 @@ pub mod Spots
 pub mod Globals
 pub mod NamedMaps
 pub mod NamedTexts
+pub mod OwnSlots

@@ -238,8 +238,9 @@ pub(crate) fn entry_slots(packet: Option<Packet>) -> usize
 }
 
 /// The slot at which the code of several objects begins.
-fn begin_of(packet: Option<Packet>, words: &[u8], all: &[ObjectLines<'_>]) -> usize
-    ensures { result ≡ begin_of packet words.now (sum_by slots_of all.now) }
+pub(crate) fn begin_of(packet: Option<Packet>, words: &[u8], all: &[ObjectLines<'_>]) -> usize
+    ensures value { result ≡ begin_of packet words.now (sum_by slots_of all.now) }
+    ensures early { result ≤ 27 }
 {
     let entry = entry_slots(packet);
     if words.len() < 8 * entry {

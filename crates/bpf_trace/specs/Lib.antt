@@ -10,3 +10,4 @@ pub mod Taken
 pub mod Written
 pub mod UnwrittenTexts
 pub mod Marks
+pub mod OwnCode

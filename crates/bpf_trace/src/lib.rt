@@ -9,6 +9,7 @@ pub mod laws;
 mod line;
 mod line_end;
 mod marks;
+mod own_code;
 mod parts;
 mod profile;
 mod reads;
@@ -20,7 +21,8 @@ mod texts;
 mod trace;
 mod unwritten;
 
-pub use ending::{put_end, put_limit};
+pub use ending::{put_end, put_limit, put_standing, put_told_end};
+pub use own_code::OwnCode;
 pub use profile::{Profile, put_profile};
 pub use strict_run::{Unwritten, find_unwritten};
 pub use strict_trace::write_trace_until;

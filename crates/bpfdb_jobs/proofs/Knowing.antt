@@ -4,7 +4,7 @@ use Rattle.std.specs.Prelude.{◌||◌, is_some, map, option_map}
 use Rattle.bpf_lines.specs.declared.objects.ObjectLines.{ObjectLines}
 use Rattle.bpf_load.specs.declared.fault.ObjectFault.{ObjectFault}
 use Rattle.bpf_load.specs.declared.loading.LinkedObject.{LinkedObject}
-use Rattle.bpfdb_jobs.specs.Jobs.{AreLinesFor, HasPlace, HasPlaces, LacksLines, asked_place, is_memory, tells_places}
+use Rattle.bpfdb_jobs.specs.Jobs.{AreLinesFor, HasPlace, HasPlaces, LacksLines, asked_place, is_memory, own_by, tells_places}
 use Rattle.bpfdb_jobs.specs.Objects.{ArePlaces, HasLines, insists}
 use Rattle.bpfdb_jobs.specs.Refusals.{LacksPlaces}
 use Rattle.bpfdb_jobs.specs.declared.job.Job.{Job}
@@ -27,13 +27,14 @@ told-none job linked tells lacks = subst (λ (b : Bool). HasPlaces b job (Some l
 
 -- with none of them
 pub nothing-known : (job : Job) (linked : LinkedObject) (it : ObjectFault) (places : Places) → tells_places job.ask ≡ true → LacksPlaces job linked it
-    → insists job it.fault ≡ false → places.texts ≡ None → places.goals ≡ None → ArePlaces job (Some linked) places × LacksLines job linked
-nothing-known job linked it places tells l isnt texts goals =
+    → insists job it.fault ≡ false → places.texts ≡ None → places.own ≡ own_by (0, 0) → places.goals ≡ None → ArePlaces job (Some linked) places × LacksLines job linked
+nothing-known job linked it places tells l isnt texts own goals =
     let both = neither (is_some (asked_place job.ask)) (is_memory it.fault) isnt in
     let lacks = lacks-lines job linked it l both.1 in (
       record {
         goals = rw goals (subst (λ (place : Option (List ℕ)). HasPlace place job (Some linked) None) (sym (is-none (asked_place job.ask) both.0)) refl);
         texts = rw texts (told-none job linked tells lacks);
+        own = rw texts own;
       },
       lacks,
     )
@@ -55,8 +56,9 @@ pub no-places-told : (job : Job) (tells : Bool) → HasPlaces tells job None Non
 no-places-told job true = refl
 no-places-told job false = refl
 
-pub none-known : (job : Job) (places : Places) → places.texts ≡ None → places.goals ≡ None → ArePlaces job None places
-none-known job places texts goals = record {
+pub none-known : (job : Job) (places : Places) → places.texts ≡ None → places.own ≡ own_by (0, 0) → places.goals ≡ None → ArePlaces job None places
+none-known job places texts own goals = record {
   goals = rw goals (no-goals job (asked_place job.ask));
   texts = rw texts (no-places-told job (tells_places job.ask));
+  own = own;
 }
