@@ -284,7 +284,7 @@ ROWS
                     break
                 fi
                 sed -i "s|/usr/local/share/bpfdb|$PWD/installed-here|" "shown/command-$command"
-                (cd typed && PATH=$PWD/../bin:$PATH BPFDB=$program sh "../shown/command-$command") > found/out 2>&1
+                (cd typed && PATH=$PWD/../bin:$PATH BPFDB=$program BPFDB_LINUX=$PWD/../installed-here/bpfdb-linux.o sh "../shown/command-$command") > found/out 2>&1
                 # (the end of a long line is left out there)
                 sed 's/\(d20400006c73202d6c00\)[0-9a-f]*$/\1../' found/out > found/cut
                 same "docs/LINUX.md: $line" "shown/text-$command" found/cut

@@ -1,5 +1,5 @@
 # Places in C: of an object the lines of `trace --branches`, of `trace --profile` and of moves, of `origin` with its branches, of `whynot` and of `diff`, end with
-# them; of those of `trace` the first, and each whose place is another one than that of the line before. By hand from the lines of
+# them, as those do that tell where a program stands; of those of `trace` the first, and each whose place is another one than that of the line before. By hand from the lines of
 # tests/program/places/branches.c; and of other objects each line is held against what `lines` tells of its slot.
 
 # places ARGUMENT..: the places of the branches that are told, a line each.
@@ -51,6 +51,17 @@ held() {
                 wanted = each == "" && here == before ? "" : here; before = here }
             wanted == "" && /; in / || wanted != "" && substr($0, length - length(wanted) + 1) != wanted { print; exit 1 }' rows found/out > found/wrong \
             || complain "a place of trace $form of $object $*: $(cat found/wrong)"
+    done
+    for asked in 'trace --count 1' 'trace --profile' 'origin --lines 1'; do
+        # (words without blanks)
+        # shellcheck disable=SC2086
+        "$program" $asked --object --steps 2000 -m context "$@" "$object" > found/out 2> found/err
+        count=$((count + 1))
+        awk 'NR == FNR { slot = $1; name[slot] = $NF; sub(/^[0-9]* /, ""); sub(/ [^ ]*$/, ""); sub(/.*\//, ""); line[slot] = $0; next }
+            !/^(at|exited|fault|step limit) / || !match($0, /at [0-9]+/) { next }
+            { slot = substr($0, RSTART + 3, RLENGTH - 3); wanted = !(slot in line) || line[slot] == "-" ? "" : "; in " name[slot] " (" line[slot] ")"; told = 1 }
+            wanted == "" && /; in / || wanted != "" && substr($0, length - length(wanted) + 1) != wanted { print; exit 1 }
+            END { if (!told) print "nothing" }' rows found/out > found/wrong && [ ! -s found/wrong ] || complain "where $object $* stands, $asked: $(cat found/wrong)"
     done
     "$program" origin --addresses --branches --lines 200 --object --steps 20000 -m context "$@" "$object" > found/out 2> found/err
     count=$((count + 1))
@@ -127,7 +138,7 @@ in kind (branches.c:8)" ] || complain "places of steps: $lines"
         done
         # Other lines have none: of what is left, and of an edit.
         count=$((count + 2))
-        "$program" origin --object --entry entry -m context branches.o | grep -v '^-' | grep '; in ' && complain 'what is left has a place'
+        "$program" origin --object --entry entry -m context branches.o | grep '^left ' | grep '; in ' && complain 'what is left has a place'
         end=$("$program" lines --object --entry entry branches.o | sed -n '$s/ .*//p')
         echo "set pc $end" > path
         "$program" whynot --object --entry entry --script path branches.o kind > found/out 2> found/err
@@ -181,7 +192,7 @@ EOF
             "$program" $asked --object --entry entry -m context branches.o $([ "$asked" != whynot ] || echo 1) < /dev/null > wanted/out 2> wanted/err
             echo $? > wanted/status
             sed -i 's/; in [a-z]* (branches.c:[0-9]*)$//; s/,"function":"[a-z]*","file":"branches.c","line":[0-9]*//' wanted/out
-            case $asked in run | debug) ;; *) echo "lines of C can't be read, and are left out: bpfdb lines says why" > wanted/err ;; esac
+            case $asked in debug) ;; *) echo "lines of C can't be read, and are left out: bpfdb lines says why" > wanted/err ;; esac
             : > script
             # shellcheck disable=SC2086
             run $asked --object --entry entry -m context broken.o $([ "$asked" != whynot ] || echo 1)

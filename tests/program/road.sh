@@ -28,7 +28,7 @@ everywhere() {
         alike "$1" "$subcommand"
     done
     loads "$1" ''
-    loads "$(printf '%b' "$1" | sed 's/^other than Linux: \([^ ]*\) \(.*\)/{"kind":"differs","name":"\1","how":"\2"}\\n/')" --json
+    loads "$(printf '%b' "$1" | sed 's/^other than Linux: \([^ ]*\) \(.*\)/{"kind":"differs","name":"\1","how":"\2"}/')" --json
 }
 
 # loads NOTE OPTION: `load` has the note in its answer, behind the maps, and says nothing on standard error.
@@ -53,6 +53,23 @@ linked() {
 }
 
 note='other than Linux: bpf_fib_lookup finds no route: 4\n'
+kinds='other than Linux: BPF_MAP_TYPE_PERCPU_HASH is of one processor\nother than Linux: BPF_MAP_TYPE_LRU_HASH may lose another entry\n'
+
+# line FILE WORD: the line of C with this comment.
+line() {
+    grep -n "/\* $2 \*/" "$parts/road/$1.c" | cut -d : -f 1
+}
+
+# stands WHAT STATUS TEXT ARGUMENT..: the last line of both streams, whose slots are left out, and the exit status.
+stands() {
+    what=$1 status=$2 text=$3
+    shift 3
+    "$program" "$@" > found/out 2>&1
+    echo $? > found/status
+    count=$((count + 1))
+    got="$(cat found/status) $(sed 's/ at [0-9][0-9]*/ at P/; s/"slot":[0-9]*/"slot":P/' found/out | sed -n '$p')"
+    [ "$got" = "$status $text" ] || complain "$what: $got"
+}
 printf 'stepi 3\ninfo registers\nreverse-stepi\ncontinue\nx 0x100000000 2\n' > script
 # Two frames of IPv4 and of ARP, with their headers of Ethernet alone; and bytes for the rest.
 bytes frame 02 00 00 00 00 01 02 00 00 00 00 02 08 00
@@ -120,9 +137,19 @@ for compiler in $compilers; do
     for level in '-O1 -mcpu=v1' '-O1 -mcpu=v2' '-O1 -mcpu=v3' '-O2 -mcpu=v1' '-O2 -mcpu=v2' '-O2 -mcpu=v3' '-Os -mcpu=v1' '-Os -mcpu=v2' '-Os -mcpu=v3'; do
         # shellcheck disable=SC2086
         "$compiler" -g $level -target bpf -c "$parts/road/orders.c" -o orders.o 2> found/err || complain "$compiler $level: orders.c: $(cat found/err)"
-        result '0x120e06\n' run -m one orders.o
-        result '0x1904e9\n' run -m two orders.o
+        row "orders $level" 0 '' '0x120e06\n' "$kinds" run -m one orders.o
+        row "more orders $level" 0 '' '0x1904e9\n' "$kinds" run -m two orders.o
     done
+    # Of its kinds of maps (1, 5, 2 and 9) two answer otherwise: each is told once, wherever the program runs, and --faithful refuses it. Of words, without the
+    # library, and where the library is named, nothing is told.
+    cp one context
+    object=orders.o by_itself='' said='--struct xdp --with library.o'
+    everywhere "$kinds"
+    for subcommand in run trace load link; do
+        row "orders: $subcommand --faithful" 2 '' '' "$kinds$faithful" $subcommand --faithful orders.o
+    done
+    result '0x120e06\n' run --with library.o -m one orders.o
+    cp frame context
 
     # Fields: one in each program. The process is 1234, and the field of the context 0x0c0b0a09 (here 9).
     cp word context
@@ -140,6 +167,67 @@ for compiler in $compilers; do
     object=plain.o said='' by_itself=''
     linked
     everywhere ''
+
+    # Where a program stands, and how it ended, with the place in C: of words without.
+    for name in stands time; do
+        "$compiler" -g -O2 -target bpf -c "$parts/road/$name.c" -o $name.o 2> found/err || complain "$compiler: $name.c: $(cat found/err)"
+    done
+    exits="; in exits (stands.c:$(line stands exits))" faults="; in faults (stands.c:$(line stands faults))" loops="; in loops (stands.c:$(line stands loops))"
+    reads="; in reads (stands.c:$(line stands reads))" look="; in look (time.c:$(line time look))"
+    stands 'run of an exit' 0 '0x5' run --entry exits stands.o
+    stands 'trace of an exit' 0 "exited at P: r0 0x5$exits" trace --entry exits stands.o
+    stands 'profile of an exit' 0 "exited at P: r0 0x5$exits" trace --profile --entry exits stands.o
+    stands 'run of a fault' 1 "fault access 0x10 at P$faults" run --entry faults stands.o
+    stands 'trace of a fault' 1 "fault access 0x10 at P$faults" trace --entry faults stands.o
+    stands 'run to the limit' 1 "step limit 7 reached at P$loops" run --steps 7 --entry loops stands.o
+    stands 'trace to the limit' 1 "step limit 7 reached at P$loops" trace --steps 7 --entry loops stands.o
+    for answer in "exits|exited at P: r0 0x5$exits" "faults|fault access 0x10 at P$faults"; do
+        for subcommand in "origin --entry ${answer%%|*} stands.o r9" "whynot --alone --entry ${answer%%|*} stands.o 0"; do
+            # (words without blanks)
+            # shellcheck disable=SC2086
+            "$program" $subcommand > found/out 2> found/err
+            count=$((count + 1))
+            [ "$(sed 's/ at [0-9]*/ at P/' found/out | sed -n 1p)" = "${answer#*|}" ] || complain "$subcommand: $(cat found/out found/err)"
+        done
+    done
+    # (what stands before the end)
+    printf 'stepi\n' > stepped
+    "$program" origin --script stepped --entry loops stands.o r1 > found/out 2> found/err
+    count=$((count + 1))
+    case $(sed -n 1p found/out) in
+    "at "*"$loops") ;;
+    *) complain "origin after a step: $(cat found/out found/err)" ;;
+    esac
+    stands 'a fault as JSON' 1 '{"kind":"fault","fault":"access 0x10","slot":P,"function":"faults","file":"stands.c","line":'"$(line stands faults)}" trace --json --entry faults stands.o
+    stands 'an exit as JSON' 0 '{"kind":"exited","slot":P,"r0":"0x5","function":"exits","file":"stands.c","line":'"$(line stands exits)}" trace --json --entry exits stands.o
+    stands 'a limit as JSON' 1 '{"kind":"limit","limit":7,"slot":P,"function":"loops","file":"stands.c","line":'"$(line stands loops)}" trace --json --steps 7 --entry loops stands.o
+    "$program" link --entry faults stands.o > words 2> told
+    stands 'run of words' 1 'fault access 0x10 at P' run words
+    stands 'trace of words' 1 'fault access 0x10 at P' trace words
+    # A trace of an object, held against its own run.
+    "$program" trace --entry faults stands.o > traced
+    result 'same for 2 steps\nfault access 0x10 at 1\n' diff --entry faults --trace traced stands.o
+
+    # The stop of a strict run: in own code its place alone; in an object of --with also the latest call of own code, through whatever functions.
+    unread='at P: not written since the call'
+    stands 'strict: own code' 1 "read of 0x2000001f8 $unread$reads" run --strict --entry reads stands.o
+    stands 'strict: own code, traced' 1 "read of 0x2000001f8 $unread$reads" trace --strict --entry reads stands.o
+    stands 'strict: a helper' 1 "read of 0x2000005f8 $unread$look; called by asks (stands.c:$(line stands asks))" run --strict --entry asks --with time.o stands.o
+    stands 'strict: a helper, traced' 1 "read of 0x2000005f8 $unread$look; called by asks (stands.c:$(line stands asks))" trace --strict --entry asks --with time.o stands.o
+    stands 'strict: a helper of a function' 1 "read of 0x2000009f8 $unread$look; called by twice (stands.c:$(line stands twice))" run --strict --entry through --with time.o stands.o
+    stands 'strict: a helper on a packet' 1 "read of 0x2000009f8 $unread$look; called by on_packet (stands.c:$(line stands on_packet))" run --strict --entry on_packet --with time.o -m frame stands.o
+    stands 'strict: in turn' 1 "read of 0x2000009f8 $unread$look; called by asks (stands.c:$(line stands asks))" run --strict --entry exits --entry asks --with time.o stands.o
+    stands 'strict: as JSON' 1 '{"kind":"unwritten","address":"0x2000005f8","slot":P,"function":"look","file":"time.c","line":'"$(line time look)"',"caller":"asks","caller_file":"stands.c","caller_line":'"$(line stands asks)}" trace --json --strict --entry asks --with time.o stands.o
+    "$program" link --entry asks --with time.o stands.o > words 2> told
+    stands 'strict: words' 1 "read of 0x2000005f8 $unread" run --strict words
+    # (time.o as FILE is own code, all of it)
+    stands 'strict: the functions themselves' 1 "read of 0x2000001f8 $unread$look" run --strict --entry bpf_ktime_get_ns time.o
+    # An object without types tells no places. (Of one whose lines can't be read `places` says what is told.)
+    objcopy=$(command -v llvm-objcopy llvm-objcopy-14 llvm-objcopy-15 llvm-objcopy-16 | head -n 1)
+    if [ -n "$objcopy" ]; then
+        "$objcopy" -R .BTF -R .BTF.ext -R .rel.BTF -R .rel.BTF.ext stands.o bare.o 2> found/err || complain "objcopy: $(cat found/err)"
+        row 'no types' 1 '' '' 'fault access 0x10 at 1\n' run --entry faults bare.o
+    fi
 
     # In a file of tests it is joined, too, unless what the program calls answers otherwise.
     # tested ENTRY HEADS RESULT: such a file.

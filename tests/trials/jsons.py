@@ -11,19 +11,21 @@ import dots
 
 PART = r"(?:r\d+(?: at depth \d)?|0x[0-9a-f]+(?::\d+)?|word \d+)"
 COUNT = {"step", "slot", "moves", "limit", "steps", "count", "instructions", "slots", "line", "tests", "test", "map", "index", "more", "ran",
-         "both", "branches", "to", "byte", "context", "after"}
+         "both", "branches", "to", "byte", "context", "after", "caller_line"}
 
 
 def row(kind, pattern, **given):
     return kind, re.compile(pattern, re.S), given
 
 
+IN_C = r"(?:; in (?P<function>.*?) \((?P<file>.*?):(?P<line>[0-9]{1,15})\))?"
+CALLED = r"(?:; called by (?P<caller>.*?) \((?P<caller_file>.*?):(?P<caller_line>[0-9]{1,15})\))?"
 PLACES = [
-    row("at", r"at (?P<slot>\d+): (?P<insn>.*)"),
-    row("exited", r"exited at (?P<slot>\d+): r0 (?P<r0>0x[0-9a-f]+)"),
-    row("fault", r"fault (?P<fault>access 0x[0-9a-f]+|token 0x[0-9a-f]+|depth) at (?P<slot>\d+)"),
-    row("limit", r"step limit (?P<limit>\d+) reached at (?P<slot>\d+)"),
-    row("unwritten", r"read of (?P<address>0x[0-9a-f]+) at (?P<slot>\d+): not written since the call"),
+    row("at", r"at (?P<slot>\d+): (?P<insn>[^;]*)" + IN_C),
+    row("exited", r"exited at (?P<slot>\d+): r0 (?P<r0>0x[0-9a-f]+)" + IN_C),
+    row("fault", r"fault (?P<fault>access 0x[0-9a-f]+|token 0x[0-9a-f]+|depth) at (?P<slot>\d+)" + IN_C),
+    row("limit", r"step limit (?P<limit>\d+) reached at (?P<slot>\d+)" + IN_C),
+    row("unwritten", r"read of (?P<address>0x[0-9a-f]+) at (?P<slot>\d+): not written since the call" + IN_C + CALLED),
 ]
 RUN = PLACES + [
     row("reached", r"it was reached (?P<moves>\d+) moves back"),

@@ -9,7 +9,7 @@ use Rattle.answer_forms.specs.Shapes.{Pattern, fields}
 use Rattle.answer_forms.specs.Tables.{patterns_of, piece_shapes}
 use Rattle.answer_forms.specs.declared.answer.Answer.{Answer}
 use Rattle.answer_forms.specs.declared.shape.Rest.{Rest}
-use Rattle.answer_forms.specs.declared.shape.Rest.TheVariants.{Nothing, Moves, Labels, Registers}
+use Rattle.answer_forms.specs.declared.shape.Rest.TheVariants.{Nothing, Moves, Places, Labels, Registers}
 
 -- What is told of a move besides its parts: what it read, a shape of pieces, or else which way it went.
 abbrev pub whole : List ℕ × List ℕ → Option (List ℕ)
@@ -29,14 +29,18 @@ piece_unless_part s = if is_part s then [] else piece s
 abbrev pub piece_or_part : List ℕ → List ℕ
 piece_or_part s = piece_unless_part (trim_start s)
 
--- A move: its pieces, and then the parts among them.
+-- A move: its pieces, and then the parts among them. A place in C is such a piece.
+abbrev pub places : List ℕ → List ℕ
+places s = flat_map piece_or_part (pieces 59 s)
+
 unfoldable pub moves : List ℕ → List ℕ
-moves s = flat_map piece_or_part (pieces 59 s) ++ member (codes "parts") (codes "[" ++ parts_from true (pieces 59 s) ++ codes "]")
+moves s = places s ++ member (codes "parts") (codes "[" ++ parts_from true (pieces 59 s) ++ codes "]")
 
 -- What may follow the fields of a line.
 abbrev pub rest_text : Rest → List ℕ → Option (List ℕ)
 rest_text Nothing s = whole ([], s)
 rest_text Moves s = Some (moves s)
+rest_text Places s = Some (places s)
 rest_text Labels s = Some (member (codes "labels") (names false s))
 rest_text Registers s = Some (member (codes "registers") (names false s))
 

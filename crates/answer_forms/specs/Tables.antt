@@ -4,7 +4,7 @@ use Rattle.answer_forms.specs.Shapes.{Pattern, Spot}
 use Rattle.answer_forms.specs.declared.answer.Answer.{Answer}
 use Rattle.answer_forms.specs.declared.answer.Answer.TheVariants.{Value, Run, Profile, Calls, Check, Listing, Lines, Program, Report}
 use Rattle.answer_forms.specs.declared.shape.Rest.{Rest}
-use Rattle.answer_forms.specs.declared.shape.Rest.TheVariants.{Nothing, Moves, Labels, Registers}
+use Rattle.answer_forms.specs.declared.shape.Rest.TheVariants.{Nothing, Moves, Places, Labels, Registers}
 
 -- A field that is a count, or a text, up to the words behind it.
 abbrev pub count : List ℕ → List ℕ → Spot
@@ -27,7 +27,17 @@ step_shapes =
     ∷ shape (codes "left") (codes "left ") [] Moves
     ∷ []
 
--- Where a program stands, and how it ended.
+-- Where a program stands, and how it ended, with the place in C; and without.
+abbrev pub told_place_shapes : List Pattern
+told_place_shapes =
+    shape (codes "at") (codes "at ") (count (codes "slot") (codes ": ") ∷ text (codes "insn") (codes "; ") ∷ []) Places
+    ∷ shape (codes "exited") (codes "exited at ") (count (codes "slot") (codes ": r0 ") ∷ text (codes "r0") (codes "; ") ∷ []) Places
+    ∷ shape (codes "fault") (codes "fault ") (text (codes "fault") (codes " at ") ∷ count (codes "slot") (codes "; ") ∷ []) Places
+    ∷ shape (codes "limit") (codes "step limit ") (count (codes "limit") (codes " reached at ") ∷ count (codes "slot") (codes "; ") ∷ []) Places
+    ∷ shape (codes "unwritten") (codes "read of ")
+    (text (codes "address") (codes " at ") ∷ count (codes "slot") (codes ": not written since the call; ") ∷ []) Places
+    ∷ []
+
 abbrev pub place_shapes : List Pattern
 place_shapes =
     shape (codes "at") (codes "at ") (count (codes "slot") (codes ": ") ∷ text (codes "insn") [] ∷ []) Nothing
@@ -66,6 +76,8 @@ piece_shapes =
     ∷ shape [] (codes "then at ") (count (codes "to") [] ∷ []) Nothing
     ∷ shape [] (codes "in ") (text (codes "function") (codes " (") ∷ text (codes "file") (codes ":") ∷ count (codes "line") (codes ")") ∷ []) Nothing
     ∷ shape [] (codes "in ") (text (codes "name") [] ∷ []) Nothing
+    ∷ shape [] (codes "called by ")
+    (text (codes "caller") (codes " (") ∷ text (codes "caller_file") (codes ":") ∷ count (codes "caller_line") (codes ")") ∷ []) Nothing
     ∷ shape [] (codes "initial value of ") (text (codes "initial") [] ∷ []) Nothing
     ∷ shape [] [] (text (codes "way") (codes " to ") ∷ count (codes "to") [] ∷ []) Nothing
     ∷ shape [] (codes "byte ") (count (codes "byte") (codes " of the context") ∷ []) Nothing
@@ -135,7 +147,7 @@ map_shapes =
     ∷ text (codes "address") [] ∷ []) Nothing
     ∷ []
 
--- What of a program is other than Linux's: a function, and how.
+-- What of a program is other than Linux's: a function or a kind of maps, and how.
 abbrev pub difference_shapes : List Pattern
 difference_shapes =
     shape (codes "differs") (codes "other than Linux: ") (text (codes "name") (codes " ") ∷ text (codes "how") [] ∷ []) Nothing
@@ -172,9 +184,9 @@ report_shapes =
 -- Those of an answer.
 abbrev pub patterns_of : Answer → List Pattern
 patterns_of Value = value_shapes
-patterns_of Run = step_shapes ++ place_shapes ++ sentence_shapes
-patterns_of Profile = profile_shapes ++ place_shapes
-patterns_of Calls = call_shapes ++ place_shapes
+patterns_of Run = step_shapes ++ told_place_shapes ++ place_shapes ++ sentence_shapes
+patterns_of Profile = profile_shapes ++ told_place_shapes ++ place_shapes
+patterns_of Calls = call_shapes ++ told_place_shapes ++ place_shapes
 patterns_of Check = check_shapes
 patterns_of Listing = listing_shapes
 patterns_of Lines = line_shapes

@@ -29,7 +29,7 @@ pub fn push_moves(alloc: Global, out: &mut Vec<u8>, text: &[u8]) -> Result<(), A
 }
 
 /// Appends what is told besides the parts.
-fn push_pieces(alloc: Global, out: &mut Vec<u8>, text: &[u8]) -> Result<(), AllocError>
+pub fn push_pieces(alloc: Global, out: &mut Vec<u8>, text: &[u8]) -> Result<(), AllocError>
     ensures { OnOk result (out.new.items
         ≡ out.old.items ++ flat_map piece_or_part (pieces 59 text.now)) }
 {

@@ -7,7 +7,7 @@ ghost use Rattle.answer_forms.specs.Shapes.{pattern_of};
 use crate::answer::Answer;
 use crate::cut::{Pieces, behind};
 use crate::member::fields;
-use crate::moves::{push_moves, push_names};
+use crate::moves::{push_moves, push_names, push_pieces};
 use crate::shape::{Rest, Shape};
 use crate::string::{push_name, push_quoted};
 use crate::table::shapes_of;
@@ -132,6 +132,7 @@ fn rest_text(alloc: Global, rest: Rest, text: &[u8]) -> Result<Option<Vec<u8>>, 
             }
         }
         Rest::Moves => push_moves(alloc, &mut told, text)?,
+        Rest::Places => push_pieces(alloc, &mut told, text)?,
         Rest::Labels => {
             push_name(&mut told, b"labels")?;
             push_names(&mut told, false, text)?;

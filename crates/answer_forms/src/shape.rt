@@ -17,6 +17,8 @@ pub enum Rest {
     Nothing,
     /// What is told of a move, in pieces between semicolons.
     Moves,
+    /// The same without parts: where the line stands in C.
+    Places,
     /// Labels, with blanks between.
     Labels,
     /// Values of registers, with blanks between.

@@ -7,7 +7,7 @@ use crate::answer::Answer;
 use crate::shape::{Field, Rest, Shape};
 
 /// What is told of a move besides its parts.
-const PIECES: [Shape; 10] = [
+const PIECES: [Shape; 11] = [
     Shape {
         kind: b"",
         begin: b"",
@@ -34,6 +34,16 @@ const PIECES: [Shape; 10] = [
         kind: b"",
         begin: b"in ",
         fields: &[Field::Text(b"name", b"")],
+        rest: Rest::Nothing,
+    },
+    Shape {
+        kind: b"",
+        begin: b"called by ",
+        fields: &[
+            Field::Text(b"caller", b" ("),
+            Field::Text(b"caller_file", b":"),
+            Field::Count(b"caller_line", b")"),
+        ],
         rest: Rest::Nothing,
     },
     Shape {
@@ -91,7 +101,7 @@ const VALUE: [Shape; 2] = [
 ];
 
 /// What `trace`, `origin`, `whynot` and `diff` print.
-const RUN: [Shape; 19] = [
+const RUN: [Shape; 24] = [
     Shape {
         kind: b"step",
         begin: b"",
@@ -129,6 +139,42 @@ const RUN: [Shape; 19] = [
         begin: b"left ",
         fields: &[],
         rest: Rest::Moves,
+    },
+    Shape {
+        kind: b"at",
+        begin: b"at ",
+        fields: &[Field::Count(b"slot", b": "), Field::Text(b"insn", b"; ")],
+        rest: Rest::Places,
+    },
+    Shape {
+        kind: b"exited",
+        begin: b"exited at ",
+        fields: &[Field::Count(b"slot", b": r0 "), Field::Text(b"r0", b"; ")],
+        rest: Rest::Places,
+    },
+    Shape {
+        kind: b"fault",
+        begin: b"fault ",
+        fields: &[Field::Text(b"fault", b" at "), Field::Count(b"slot", b"; ")],
+        rest: Rest::Places,
+    },
+    Shape {
+        kind: b"limit",
+        begin: b"step limit ",
+        fields: &[
+            Field::Count(b"limit", b" reached at "),
+            Field::Count(b"slot", b"; "),
+        ],
+        rest: Rest::Places,
+    },
+    Shape {
+        kind: b"unwritten",
+        begin: b"read of ",
+        fields: &[
+            Field::Text(b"address", b" at "),
+            Field::Count(b"slot", b": not written since the call; "),
+        ],
+        rest: Rest::Places,
     },
     Shape {
         kind: b"at",
@@ -242,7 +288,7 @@ const RUN: [Shape; 19] = [
 ];
 
 /// What `trace --profile` prints.
-const PROFILE: [Shape; 7] = [
+const PROFILE: [Shape; 12] = [
     Shape {
         kind: b"ran",
         begin: b"",
@@ -262,6 +308,42 @@ const PROFILE: [Shape; 7] = [
             Field::Text(b"insn", b""),
         ],
         rest: Rest::Nothing,
+    },
+    Shape {
+        kind: b"at",
+        begin: b"at ",
+        fields: &[Field::Count(b"slot", b": "), Field::Text(b"insn", b"; ")],
+        rest: Rest::Places,
+    },
+    Shape {
+        kind: b"exited",
+        begin: b"exited at ",
+        fields: &[Field::Count(b"slot", b": r0 "), Field::Text(b"r0", b"; ")],
+        rest: Rest::Places,
+    },
+    Shape {
+        kind: b"fault",
+        begin: b"fault ",
+        fields: &[Field::Text(b"fault", b" at "), Field::Count(b"slot", b"; ")],
+        rest: Rest::Places,
+    },
+    Shape {
+        kind: b"limit",
+        begin: b"step limit ",
+        fields: &[
+            Field::Count(b"limit", b" reached at "),
+            Field::Count(b"slot", b"; "),
+        ],
+        rest: Rest::Places,
+    },
+    Shape {
+        kind: b"unwritten",
+        begin: b"read of ",
+        fields: &[
+            Field::Text(b"address", b" at "),
+            Field::Count(b"slot", b": not written since the call; "),
+        ],
+        rest: Rest::Places,
     },
     Shape {
         kind: b"at",
@@ -302,7 +384,7 @@ const PROFILE: [Shape; 7] = [
 ];
 
 /// What `trace --calls` prints.
-const CALLS: [Shape; 7] = [
+const CALLS: [Shape; 12] = [
     Shape {
         kind: b"call",
         begin: b"",
@@ -326,6 +408,42 @@ const CALLS: [Shape; 7] = [
             Field::Text(b"result", b""),
         ],
         rest: Rest::Nothing,
+    },
+    Shape {
+        kind: b"at",
+        begin: b"at ",
+        fields: &[Field::Count(b"slot", b": "), Field::Text(b"insn", b"; ")],
+        rest: Rest::Places,
+    },
+    Shape {
+        kind: b"exited",
+        begin: b"exited at ",
+        fields: &[Field::Count(b"slot", b": r0 "), Field::Text(b"r0", b"; ")],
+        rest: Rest::Places,
+    },
+    Shape {
+        kind: b"fault",
+        begin: b"fault ",
+        fields: &[Field::Text(b"fault", b" at "), Field::Count(b"slot", b"; ")],
+        rest: Rest::Places,
+    },
+    Shape {
+        kind: b"limit",
+        begin: b"step limit ",
+        fields: &[
+            Field::Count(b"limit", b" reached at "),
+            Field::Count(b"slot", b"; "),
+        ],
+        rest: Rest::Places,
+    },
+    Shape {
+        kind: b"unwritten",
+        begin: b"read of ",
+        fields: &[
+            Field::Text(b"address", b" at "),
+            Field::Count(b"slot", b": not written since the call; "),
+        ],
+        rest: Rest::Places,
     },
     Shape {
         kind: b"at",

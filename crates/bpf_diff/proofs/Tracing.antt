@@ -297,7 +297,7 @@ lines-of None rest more is limit n a = sym (ap (behind_end limit n a) is.0)
 lines-of (Some text) rest more is limit n a = sym (ap (behind_end limit n a) is)
 
 told-behind : (line : Option (Bor (List ℕ))) → (text : List ℕ) (rest more : List (List ℕ))
-    → MatchOption line ((rest ≡ []) × (more ≡ [])) (λ next. rest ≡ next.now ∷ more) → (limit : ℕ) (a : State) → is_line (end_line limit a) text ≡ true
+    → MatchOption line ((rest ≡ []) × (more ≡ [])) (λ next. rest ≡ next.now ∷ more) → (limit : ℕ) (a : State) → is_line (end_line limit a) (unplaced text) ≡ true
     → is_end_told form.Registers limit a (next_lines line) ≡ is_end_told form.Steps limit a (text ∷ rest)
 told-behind None text rest more is limit a does =
     sym (ap (λ (ls : List (List ℕ)). is_end_told form.Steps limit a (text ∷ ls)) is.0 ∙ does)
@@ -305,7 +305,7 @@ told-behind (Some second) text rest more is limit a does = sym (ap (λ (ls : Lis
 
 module _ (limit n : ℕ) (a : State) (text : Bor (List ℕ)) (left rest : List (List ℕ)) (is : Leaves left (Some text) rest) where
   pub told-text : (line : Option (Bor (List ℕ))) (more : List (List ℕ)) → MatchOption line ((rest ≡ []) × (more ≡ [])) (λ next. rest ≡ next.now ∷ more)
-      → is_line (end_line limit a) text.now ≡ true → behind_end limit n a (next_lines line) ≡ at_end form.Steps limit n a left
+      → is_line (end_line limit a) (unplaced text.now) ≡ true → behind_end limit n a (next_lines line) ≡ at_end form.Steps limit n a left
   told-text line more next does =
       lines-of line rest more next limit n a
       ∙ sym (ap (λ (b : Bool). if b then behind_end limit n a rest
@@ -313,24 +313,24 @@ module _ (limit n : ℕ) (a : State) (text : Bor (List ℕ)) (left rest : List (
       ∙ sym (ap (at_end form.Steps limit n a) is)
 
   pub told-told : (line : Option (Bor (List ℕ))) (more : List (List ℕ)) → MatchOption line ((rest ≡ []) × (more ≡ [])) (λ next. rest ≡ next.now ∷ more)
-      → is_line (end_line limit a) text.now ≡ true
+      → is_line (end_line limit a) (unplaced text.now) ≡ true
       → (is_end_told form.Registers limit a (next_lines line) && has_ended a.status) ≡ (is_end_told form.Steps limit a left && has_ended a.status)
   told-told line more next does =
       ap (λ (b : Bool). b && has_ended a.status)
       (told-behind line text.now rest more next limit a does ∙ sym (ap (is_end_told form.Steps limit a) is))
 
-  pub other-text : is_line (end_line limit a) text.now ≡ false
+  pub other-text : is_line (end_line limit a) (unplaced text.now) ≡ false
       → codes "the end is told otherwise\n" ++ end_here limit a ++ there text.now ≡ at_end form.Steps limit n a left
   other-text isnt =
       sym (ap (λ (b : Bool). if b then behind_end limit n a rest
       else codes "the end is told otherwise\n" ++ end_here limit a ++ there text.now) isnt)
       ∙ sym (ap (at_end form.Steps limit n a) is)
 
-  other-by : (rest : List (List ℕ)) → is_line (end_line limit a) text.now ≡ false → false ≡ is_end_told form.Steps limit a (text.now ∷ rest)
+  other-by : (rest : List (List ℕ)) → is_line (end_line limit a) (unplaced text.now) ≡ false → false ≡ is_end_told form.Steps limit a (text.now ∷ rest)
   other-by [] isnt = sym isnt
   other-by (next ∷ more) isnt = refl
 
-  pub other-told : is_line (end_line limit a) text.now ≡ false → false ≡ (is_end_told form.Steps limit a left && has_ended a.status)
+  pub other-told : is_line (end_line limit a) (unplaced text.now) ≡ false → false ≡ (is_end_told form.Steps limit a left && has_ended a.status)
   other-told isnt = ap (λ (b : Bool). b && has_ended a.status) (other-by rest isnt ∙ sym (ap (is_end_told form.Steps limit a) is))
 
 -- what follows from what an answer is

@@ -36,7 +36,7 @@ begins_place text = bytes_eq (take 5 text) (codes "; in ")
 unfoldable pub is_line : List ℕ → List ℕ → Bool
 is_line text line = bytes_eq (line ++ codes "\n") text
 
--- What a line tells besides where the step stands in C, which ends it.
+-- What a line tells besides where the step, or the end, stands in C, which ends it.
 abbrev pub unplaced : List ℕ → List ℕ
 unplaced [] = []
 unplaced (b ∷ line) = if begins_place (b ∷ line) then [] else b ∷ unplaced line
@@ -102,7 +102,7 @@ abbrev pub at_end : Form → ℕ → ℕ → State → List (List ℕ) → List 
 at_end Registers limit n y told = behind_end limit n y told
 at_end Steps limit n y [] = codes "the end is not in the trace\n" ++ end_here limit y
 at_end Steps limit n y (line ∷ rest) =
-    if is_line (end_line limit y) line then behind_end limit n y rest
+    if is_line (end_line limit y) (unplaced line) then behind_end limit n y rest
     else codes "the end is told otherwise\n" ++ end_here limit y ++ there line
 
 abbrev pub answer : Form → ℕ → ℕ → List State → List State → State → List (List ℕ) → List ℕ
@@ -122,7 +122,7 @@ against_text form limit x told =
 -- Whether the trace tells the whole run, and nothing else; and that it ended.
 abbrev pub is_end_told : Form → ℕ → State → List (List ℕ) → Bool
 is_end_told Registers limit y [] = true
-is_end_told Steps limit y (line ∷ []) = is_line (end_line limit y) line
+is_end_told Steps limit y (line ∷ []) = is_line (end_line limit y) (unplaced line)
 is_end_told form limit y told = false
 
 abbrev pub is_whole : Form → ℕ → List State → State → List (List ℕ) → Bool

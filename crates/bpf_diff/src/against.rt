@@ -14,7 +14,7 @@ ghost use Rattle.input_texts.specs.declared.trace_form.Form.TheVariants as form;
 use crate::against_ending::{
     put_differences, put_end_here, put_more, put_registers_here, put_same, put_step_here, put_there,
 };
-use crate::along::{Halt, follow_registers, follow_steps, is_line};
+use crate::along::{Halt, follow_registers, follow_steps, is_line, unplaced};
 use crate::lines::put_heading;
 use crate::told_writers::Notes;
 use bpf_machine::Cpu;
@@ -237,7 +237,7 @@ fn put_at_end<W: Write>(
         Ok(text) => text,
         Err(fault) => return Err(fault),
     };
-    if is_line(text.as_slice(), line) {
+    if is_line(text.as_slice(), unplaced(line)) {
         let behind = Halt {
             steps: halt.steps,
             line: lines.next_told(),

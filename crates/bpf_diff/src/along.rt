@@ -192,8 +192,8 @@ fn step_text(alloc: Global, cpu: &Cpu, number: u64, taken: &Taken) -> Result<Vec
     }
 }
 
-/// What a line tells besides where the step stands in C, which ends it.
-fn unplaced(line: &[u8]) -> &[u8]
+/// What a line tells besides where the step, or the end, stands in C, which ends it.
+pub fn unplaced(line: &[u8]) -> &[u8]
     ensures { result.now ≡ unplaced line.now }
 {
     for at in 0..line.len() {

@@ -18,3 +18,4 @@ pub mod NamedTexts
 pub mod Enumerators
 pub mod NamedValues
 pub mod Values
+pub mod OwnSlots

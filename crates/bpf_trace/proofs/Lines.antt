@@ -12,7 +12,7 @@ use Rattle.bpfdb_script.specs.SlotTexts.{text_of_slot}
 use Rattle.bpfdb_script.proofs.Telling.{Telling, Telling-start, Telling-step, Telling-end}
 use Rattle.bpf_session.specs.Plain.{plain_end}
 use Rattle.bpf_trace.specs.Runs.{steps_of}
-use Rattle.bpf_trace.specs.Traces.{end_line, line_of, lines_from, lines_text, told_since, trace_text}
+use Rattle.bpf_trace.specs.Traces.{line_of, lines_from, lines_text, told_end_line, told_since, trace_text}
 use Rattle.bpf_trace.specs.declared.trace.Shown.{Shown}
 use Rattle.bpf_trace.proofs.Stepping.{none_ended, none_left, one_more_step, shown_steps}
 
@@ -85,10 +85,10 @@ broken_more contents old before now e text more whole w is = λ first front know
 -- the whole trace
 pub trace_is : (limit most passed : ℕ) (shown : Shown) (x y z : State) → Advances (min limit (shown.from - 1)) x y passed
     → most ≡ min (limit - passed) shown.count → z ≡ plain_end limit x
-    → lines_from shown [] (passed + 1) (steps_of most y) ++ end_line limit z ≡ trace_text limit shown x
+    → lines_from shown [] (passed + 1) (steps_of most y) ++ told_end_line shown.places limit z ≡ trace_text limit shown x
 trace_is limit most passed shown x y z run e is =
-    ap (λ (text : List ℕ). text ++ end_line limit z) (shown_are limit most passed shown x y run e)
-    ∙ ap (λ (w : State). lines_text limit shown x ++ end_line limit w) is
+    ap (λ (text : List ℕ). text ++ told_end_line shown.places limit z) (shown_are limit most passed shown x y run e)
+    ∙ ap (λ (w : State). lines_text limit shown x ++ told_end_line shown.places limit w) is
 
 -- what holds anyway
 pub anyway : {A E : Type 0} {P : Type 0} (r : Result A E) → P → OnOk r P

@@ -12,7 +12,7 @@ use Rattle.bpf_steps.specs.State.{IsState, State}
 use Rattle.bpf_steps.specs.declared.change.Change.{Change}
 use Rattle.bpf_steps.specs.declared.change.Change.TheVariants.{Set, Go, Store, Fetch, Call, Return, Cell, Trace, Stop}
 use Rattle.bpf_origin.specs.Places.{has}
-use Rattle.bpf_origin.specs.Writes.{written, writes}
+use Rattle.bpf_origin.specs.Writes.{writes}
 use Rattle.bpf_origin.specs.declared.place.Part.{Part}
 use Rattle.bpf_origin.specs.declared.place.Part.TheVariants as part
 use Rattle.bpf_origin.specs.declared.place.Place.TheVariants.{Byte}

@@ -18,7 +18,7 @@ use Rattle.bpf_steps.specs.State.{State, depth, register}
 use Rattle.bpf_session.specs.Plain.{plain_end}
 use Rattle.bpfdb_script.specs.SlotTexts.{text_of_slot}
 use Rattle.bpf_trace.specs.Prototypes.{count_of}
-use Rattle.bpf_trace.specs.Traces.{end_line}
+use Rattle.bpf_trace.specs.Traces.{told_end_line}
 use Rattle.bpf_trace.specs.declared.calls.Called.{Called}
 use Rattle.bpf_trace.specs.declared.calls.Callee.{Callee}
 use Rattle.bpf_trace.specs.declared.calls.Callee.TheVariants as callee
@@ -131,4 +131,4 @@ calls_from c pending k (suc limit) x =
 
 -- The calls of a run, and where it ended.
 abbrev pub calls_text : ℕ → Called → State → List ℕ
-calls_text limit c x = calls_from c None 1 limit x ++ end_line limit (plain_end limit x)
+calls_text limit c x = calls_from c None 1 limit x ++ told_end_line c.places limit (plain_end limit x)

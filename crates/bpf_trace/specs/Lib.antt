@@ -9,6 +9,7 @@ pub mod Taken
 pub mod Written
 pub mod UnwrittenTexts
 pub mod Marks
+pub mod OwnCode
 pub mod Prototypes
 pub mod Calls
 pub mod Turns

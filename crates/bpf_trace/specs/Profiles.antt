@@ -9,7 +9,7 @@ use Rattle.bpf_session.specs.Plain.{plain_end}
 use Rattle.bpfdb_script.specs.SlotTexts.{SlotTexts, text_of_slot}
 use Rattle.bpfdb_script.specs.Texts.{text_at}
 use Rattle.bpf_trace.specs.Runs.{steps_of}
-use Rattle.bpf_trace.specs.Traces.{end_line}
+use Rattle.bpf_trace.specs.Traces.{told_end_line}
 
 -- How many of some steps are of the instruction at a slot.
 abbrev pub times : List State → ℕ → ℕ
@@ -31,7 +31,7 @@ count_lines texts program slot (count ∷ counts) = count_line texts program slo
 
 -- The counts of a run that ended in this state: a line an instruction, and where it ended.
 abbrev pub counts_text : SlotTexts → List ℕ → ℕ → State → List ℕ
-counts_text texts counts limit y = count_lines texts y.program 0 counts ++ end_line limit y
+counts_text texts counts limit y = count_lines texts y.program 0 counts ++ told_end_line texts limit y
 
 -- The profile of a run.
 abbrev pub profile_text : SlotTexts → ℕ → State → List ℕ

@@ -10,7 +10,7 @@ use Rattle.bpf_origin.specs.Texts.{part_text}
 use Rattle.bpf_origin.specs.Writes.{written}
 use Rattle.bpf_origin.specs.declared.place.Part.{Part}
 use Rattle.bpf_session.specs.Plain.{plain_end}
-use Rattle.bpfdb_script.specs.SlotTexts.{text_of_slot}
+use Rattle.bpfdb_script.specs.SlotTexts.{SlotTexts, text_of_slot}
 use Rattle.bpfdb_script.specs.Texts.{place, text_at}
 use Rattle.bpf_trace.specs.Branches.{branch_line}
 use Rattle.bpf_trace.specs.Runs.{steps_of}
@@ -45,16 +45,29 @@ abbrev pub shown_of : Shown → List State → List State
 shown_of shown xs = take shown.count (drop (shown.from - 1) xs)
 
 -- That a run took as many steps as it may, and the slot where it stands.
-unfoldable pub limit_line : ℕ → ℕ → List ℕ
-limit_line limit slot = codes "step limit " ++ decimal limit ++ codes " reached at " ++ decimal slot ++ codes "\n"
+unfoldable pub limit_text : ℕ → ℕ → List ℕ
+limit_text limit slot = codes "step limit " ++ decimal limit ++ codes " reached at " ++ decimal slot
+
+abbrev pub limit_line : ℕ → ℕ → List ℕ
+limit_line limit slot = limit_text limit slot ++ codes "\n"
 
 -- Where a run ended.
+abbrev pub end_text : ℕ → State → List ℕ
+end_text limit y = if has_ended y.status then place y else limit_text limit y.pc
+
 abbrev pub end_line : ℕ → State → List ℕ
-end_line limit y = if has_ended y.status then place y ++ codes "\n" else limit_line limit y.pc
+end_line limit y = end_text limit y ++ codes "\n"
+
+-- The same with what is told of the slot there, and so of a machine that stands anywhere.
+abbrev pub told_end_line : SlotTexts → ℕ → State → List ℕ
+told_end_line places limit y = end_text limit y ++ text_of_slot places y.pc ++ codes "\n"
+
+abbrev pub standing : SlotTexts → State → List ℕ
+standing places x = place x ++ text_of_slot places x.pc
 
 -- The lines of the steps of a run that are shown; and its trace: these, and where it ended.
 abbrev pub lines_text : ℕ → Shown → State → List ℕ
 lines_text limit shown x = lines_from shown [] (shown.from - 1 + 1) (shown_of shown (steps_of limit x))
 
 abbrev pub trace_text : ℕ → Shown → State → List ℕ
-trace_text limit shown x = lines_text limit shown x ++ end_line limit (plain_end limit x)
+trace_text limit shown x = lines_text limit shown x ++ told_end_line shown.places limit (plain_end limit x)

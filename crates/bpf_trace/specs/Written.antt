@@ -14,7 +14,9 @@ use Rattle.bpf_origin.specs.Writes.{writes}
 use Rattle.bpf_origin.specs.declared.place.Part.{Part}
 use Rattle.bpf_origin.specs.declared.place.Part.TheVariants as part
 use Rattle.bpf_origin.specs.declared.place.Place.TheVariants.{Byte}
+use Rattle.bpf_trace.specs.OwnCode.{call_of}
 use Rattle.bpf_trace.specs.Runs.{steps_of}
+use Rattle.bpf_trace.specs.declared.own_code.OwnCode.{OwnCode}
 use Rattle.bpf_trace.specs.declared.strict_run.Unwritten.{Unwritten}
 
 -- A step is a local call: it makes each byte of the frame that it enters zero.
@@ -52,13 +54,13 @@ is_stop _ = false
 unfoldable pub read_unwritten : List State → State → Option ℕ
 read_unwritten before x = if is_stop (change x) then None else first_among before (reads x move.Step)
 
--- The first of some steps that reads one: how many come before it, its slot, and the address of that byte.
-abbrev pub unwritten_among : List State → List State → Option Unwritten
-unwritten_among before [] = None
-unwritten_among before (x ∷ xs) =
-    option_map_or (λ a. Some (record { steps = length before; slot = x.pc; address = a })) (read_unwritten before x)
-    (unwritten_among (x ∷ before) xs)
+-- The first of some steps that reads one: how many come before it, its slot, the address of that byte, and the call of FILE's own code.
+abbrev pub unwritten_among : OwnCode → List State → List State → Option Unwritten
+unwritten_among own before [] = None
+unwritten_among own before (x ∷ xs) =
+    option_map_or (λ a. Some (record { steps = length before; slot = x.pc; address = a; call = call_of own x })) (read_unwritten before x)
+    (unwritten_among own (x ∷ before) xs)
 
 -- The first one of a run of at most so many steps, before which nothing was written.
-abbrev pub unwritten_of : ℕ → State → Option Unwritten
-unwritten_of limit x = unwritten_among [] (steps_of limit x)
+abbrev pub unwritten_of : OwnCode → ℕ → State → Option Unwritten
+unwritten_of own limit x = unwritten_among own [] (steps_of limit x)

@@ -8,7 +8,7 @@ ghost use Rattle.bpf_trace.specs.Turns.{end_if, made_text, turn_text, unreturned
 ghost use Rattle.counted_io.specs.Writing.{WritesAfter};
 
 use crate::call_text::{put_call, put_return};
-use crate::ending::put_end;
+use crate::ending::put_told_end;
 use bpf_isa::{Helper, Insn};
 use bpf_machine::{Cpu, Ended};
 use bpfdb_script::{SlotTexts, number_in};
@@ -74,7 +74,7 @@ pub fn write_calls<W: Write>(
 {
     let told = put_calls(cpu, limit, called, writer, so_far);
     match told {
-        Ok(()) => put_end(writer, told, limit, cpu),
+        Ok(()) => put_told_end(writer, told, called.places, limit, cpu),
         Err(fault) => Err(fault),
     }
 }

@@ -12,6 +12,7 @@ mod line;
 mod line_end;
 mod marks;
 mod name_list;
+mod own_code;
 mod parts;
 mod profile;
 mod prototypes;
@@ -25,7 +26,8 @@ mod unwritten;
 
 pub use bpf_cover::Texts;
 pub use calls::{Called, Callee, Pending, write_calls};
-pub use ending::{put_end, put_limit};
+pub use ending::{put_end, put_limit, put_standing, put_told_end};
+pub use own_code::OwnCode;
 pub use profile::{Profile, put_profile};
 pub use strict_run::{Unwritten, find_unwritten};
 pub use strict_trace::write_trace_until;

@@ -4,7 +4,7 @@ ghost use Rattle.bpf_session.specs.Plain.{plain_end};
 ghost use Rattle.bpf_trace.specs.Profiles.{count_line, count_lines, counts_text, profile_of};
 ghost use Rattle.counted_io.specs.Writing.{WritesAfter};
 
-use crate::ending::put_end;
+use crate::ending::put_told_end;
 use bpf_isa::Program;
 use bpf_machine::{Cpu, Ended};
 use bpfdb_script::{SlotTexts, put_at, text_of_slot};
@@ -76,7 +76,7 @@ pub fn put_profile<W: Write>(
         (counts_text texts.entry profile.now limit cpu.now) }
 {
     let told = profile.put(writer, so_far, texts, cpu.program());
-    put_end(writer, told, limit, cpu)
+    put_told_end(writer, told, texts, limit, cpu)
 }
 
 /// Runs a machine to its end, or to a limit of steps, and counts the steps at each slot.

@@ -8,6 +8,7 @@ ghost use Rattle.bpf_trace.specs.Written.{read_unwritten, unwritten_of};
 
 use crate::Taken;
 use crate::marks::{ROOM, note};
+use crate::own_code::{OwnCode, call_of};
 use crate::reads::first_read;
 use crate::taken::step_on;
 use bpf_isa::Insn;
@@ -21,15 +22,17 @@ pub struct Unwritten {
     pub slot: u16,
     /// That of the first such byte.
     pub address: u64,
+    /// The slot of the call by which FILE's own code came there, where it stands in other code.
+    pub call: Option<u16>,
 }
 
 /// Runs a machine to its end, to a limit of steps, or to the first step that would read a byte of the
 /// stack which no step wrote since its frame was entered: that one isn't taken.
 ///
-/// It takes no memory. It is called where a machine was opened: what a run before it wrote is nothing
+/// It tells which call of FILE's own code came there, whose slots these are. It takes no memory. It is called where a machine was opened: what a run before it wrote is nothing
 /// to it.
-pub fn find_unwritten(cpu: &mut Cpu, limit: u64) -> Option<Unwritten>
-    ensures found { result ≡ unwritten_of limit cpu.old }
+pub fn find_unwritten(cpu: &mut Cpu, own: OwnCode, limit: u64) -> Option<Unwritten>
+    ensures found { result ≡ unwritten_of own limit cpu.old }
     ensures program { cpu.new.program ≡ cpu.old.program }
 {
     let mut marks = [false; ROOM];
@@ -43,6 +46,7 @@ pub fn find_unwritten(cpu: &mut Cpu, limit: u64) -> Option<Unwritten>
                     steps: k,
                     slot: cpu.pc(),
                     address,
+                    call: call_of(own, cpu),
                 });
             }
             None => {}

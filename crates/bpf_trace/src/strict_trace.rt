@@ -26,7 +26,7 @@ pub fn write_trace_until<W: Write>(
         Err(_) => return Err(TraceFault::Memory),
     };
     let told = put_lines(cpu, read.steps, shown, &texts, writer, Ok(()));
-    match put_unwritten(writer, told, read) {
+    match put_unwritten(writer, told, shown.places, read) {
         Ok(()) => Ok(()),
         Err(WriteFault) => Err(TraceFault::Write),
     }

@@ -10,7 +10,7 @@ ghost use Rattle.bpf_trace.specs.Traces.{line_of, lines_from, lines_text, told_s
 ghost use Rattle.counted_io.specs.Writing.{WritesAfter};
 
 use crate::branch::put_branch;
-use crate::ending::put_end;
+use crate::ending::put_told_end;
 use crate::line::Line;
 use crate::step::{Row, put_step};
 use bpf_cover::Texts;
@@ -29,8 +29,8 @@ pub struct Shown<'a> {
     pub count: u64,
     /// Of these, conditional jumps alone.
     pub only_branches: bool,
-    /// What is told of slots: it ends the line of each conditional jump, and of those steps of whose
-    /// slot another is told than of that before.
+    /// What is told of slots: it ends the line of each conditional jump, of those steps of whose slot
+    /// another is told than of that before, and of where the run ended.
     pub places: SlotTexts<'a>,
 }
 
@@ -122,7 +122,7 @@ fn put_trace<W: Write>(
         Err(fault) => return Err(fault),
     }
     let _rest = cpu.run(left - taken.steps);
-    put_end(writer, taken.written, limit, cpu)
+    put_told_end(writer, taken.written, shown.places, limit, cpu)
 }
 
 /// Takes the steps of a run that are shown, and those before them, and writes their lines, by the

@@ -12,13 +12,12 @@ use Rattle.bpf_suite.specs.declared.refusal.Refusal.TheVariants as program
 use Rattle.bpf_ring.specs.Opening.{journal_fault}
 use Rattle.bpf_opening.specs.Faults.{opening_fault}
 use Rattle.bpf_origin.specs.Asked.{what_fault}
-use Rattle.bpf_trace.specs.Traces.{limit_line}
 use Rattle.bpf_whynot.specs.Asked.{goal_fault}
 use Rattle.bpfdb_script.specs.Refusals as commands
 use Rattle.bpfdb_script.specs.Shown.{shown}
 use Rattle.input_texts.specs.TraceFaults.{line_fault}
 use Rattle.bpfdb_faults.specs.declared.fault.JobFault.{JobFault}
-use Rattle.bpfdb_faults.specs.declared.fault.JobFault.TheVariants.{Unreadable, Unwritable, NotText, Refused, Input, Output, Memory, StepLimit}
+use Rattle.bpfdb_faults.specs.declared.fault.JobFault.TheVariants.{Unreadable, Unwritable, NotText, Refused, Input, Output, Memory}
 use Rattle.bpfdb_faults.specs.declared.kind.KindFault.{KindFault}
 use Rattle.bpfdb_faults.specs.declared.kind.KindFault.TheVariants as kind
 use Rattle.bpfdb_faults.specs.declared.refusal.JobRefusal.{JobRefusal}
@@ -170,4 +169,3 @@ line_of (Refused refusal) = refusal_line refusal
 line_of Input = input_line
 line_of Output = output_line
 line_of Memory = codes "out of memory\n"
-line_of (StepLimit limit slot) = limit_line limit slot

@@ -18,6 +18,4 @@ pub enum JobFault<'a> {
     Output,
     /// Memory ran out where no number says so.
     Memory,
-    /// A run took as many steps as it may, and stands at this slot.
-    StepLimit(u64, u16),
 }

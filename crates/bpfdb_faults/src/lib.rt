@@ -11,4 +11,4 @@ pub use fault::JobFault;
 pub use kind::KindFault;
 pub use line::put_object;
 pub use refusal::JobRefusal;
-pub use report::{ended, flush_after, give_up, tell, tell_place, tell_usage, told_as, write_out};
+pub use report::{ended, flush_after, give_up, tell, tell_usage, told_as, write_out};

@@ -9,7 +9,6 @@ use crate::fault::JobFault;
 use crate::refusal::JobRefusal;
 use bpf_link::{LinkFault, Source, helper_name};
 use bpf_suite::{Refusal, put_numbered, slot_of};
-use bpf_trace::put_limit;
 use bpfdb_script::put_shown;
 use counted_io::{Counted, Piece, WriteFault, put, put_all};
 use std::io::Write;
@@ -30,7 +29,6 @@ pub fn put_line<E: Write>(
         JobFault::Input => put(errors, so_far, b"cannot read input\n"),
         JobFault::Output => put(errors, so_far, b"cannot write output\n"),
         JobFault::Memory => put(errors, so_far, b"out of memory\n"),
-        JobFault::StepLimit(limit, slot) => put_limit(errors, so_far, *limit, *slot),
     }
 }
 

@@ -1,7 +1,6 @@
 //! What goes to standard output at once, and what goes to standard error.
 ghost use Rattle.std.specs.Prelude.{◌≡◌, ◌≤◌, ◌++◌, OnErr, OnOk, [], codes};
 ghost use Rattle.counted_io.specs.Writing.{Writes, WritesAfter};
-ghost use Rattle.bpfdb_script.specs.Texts.{place};
 ghost use Rattle.bpfdb_faults.specs.Streams.{Told, stream};
 ghost use Rattle.bpfdb_faults.specs.Faults.{line_of};
 ghost use Rattle.bpfdb_script.specs.Shown.{shown_lines};
@@ -9,8 +8,7 @@ ghost use Rattle.bpfdb_faults.specs.declared.fault.JobFault.TheVariants.{Output}
 
 use crate::fault::JobFault;
 use crate::line::put_line;
-use bpf_machine::Cpu;
-use bpfdb_script::{put_shown_lines, write_place};
+use bpfdb_script::put_shown_lines;
 use counted_io::{Counted, WriteFault, put, write_text};
 use std::io::Write;
 
@@ -45,15 +43,6 @@ pub fn tell<E: Write>(errors: &mut Counted<E>, fault: &JobFault<'_>) -> Result<(
 {
     let written = put_line(errors, Ok(()), fault);
     flush_after(errors, written)
-}
-
-/// Writes where a machine stands to standard error, as a line, and flushes.
-pub fn tell_place<E: Write>(errors: &mut Counted<E>, cpu: &Cpu) -> Result<(), WriteFault>
-    ensures { Writes E.contents errors.old errors.new result (place cpu.now ++ codes "\n") }
-{
-    let placed = write_place(cpu, errors);
-    let ended = put(errors, placed, b"\n");
-    flush_after(errors, ended)
 }
 
 /// Writes the line of a fault that ends a job to standard error, and flushes. Answers the exit

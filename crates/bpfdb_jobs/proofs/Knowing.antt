@@ -6,7 +6,7 @@ use Rattle.bpf_lines.specs.Lookups.{AreFunctionsOf}
 use Rattle.bpf_lines.specs.declared.lookups.Functions.{Functions}
 use Rattle.bpf_load.specs.declared.fault.ObjectFault.{ObjectFault}
 use Rattle.bpf_load.specs.declared.loading.LinkedObject.{LinkedObject}
-use Rattle.bpfdb_jobs.specs.Jobs.{AreLinesFor, HasFunctions, HasPlace, HasPlaces, LacksLines, asked_place, is_memory, tells_calls, tells_places}
+use Rattle.bpfdb_jobs.specs.Jobs.{AreLinesFor, HasFunctions, HasPlace, HasPlaces, LacksLines, asked_place, is_memory, own_by, tells_calls, tells_places}
 use Rattle.bpfdb_jobs.specs.Objects.{ArePlaces, HasLines, insists}
 use Rattle.bpfdb_jobs.specs.Refusals.{LacksPlaces}
 use Rattle.bpfdb_jobs.specs.declared.job.Job.{Job}
@@ -33,14 +33,15 @@ no-functions job linked false lacks = (refl, refl, refl)
 
 -- with none of them
 pub nothing-known : (job : Job) (linked : LinkedObject) (it : ObjectFault) (places : Places) → tells_places job.ask ≡ true → LacksPlaces job linked it
-    → insists job it.fault ≡ false → places.texts ≡ None → places.goals ≡ None → places.functions ≡ None → ArePlaces job (Some linked) places × LacksLines job linked
-nothing-known job linked it places tells l isnt texts goals functions =
+    → insists job it.fault ≡ false → places.texts ≡ None → places.own ≡ own_by (0, 0) → places.goals ≡ None → places.functions ≡ None → ArePlaces job (Some linked) places × LacksLines job linked
+nothing-known job linked it places tells l isnt texts own goals functions =
     let both = neither (is_some (asked_place job.ask)) (is_memory it.fault) isnt in
     let lacks = lacks-lines job linked it l both.1 in (
       record {
         goals = rw goals (subst (λ (place : Option (List ℕ)). HasPlace place job (Some linked) None) (sym (is-none (asked_place job.ask) both.0)) refl);
         texts = rw texts (told-none job linked tells lacks);
-        functions = rw functions (no-functions job linked (tells_calls job.ask) lacks);
+         functions = rw functions (no-functions job linked (tells_calls job.ask) lacks);
+         own = rw texts own;
       },
       lacks,
     )
@@ -76,9 +77,10 @@ pub calls-told : (job : Job) (linked : LinkedObject) (all : List ObjectLines) (f
 calls-told job linked all f true e lines are = (all, lines, are)
 calls-told job linked all f false e lines are = absurd cc
 
-pub none-known : (job : Job) (places : Places) → places.texts ≡ None → places.goals ≡ None → places.functions ≡ None → ArePlaces job None places
-none-known job places texts goals functions = record {
+pub none-known : (job : Job) (places : Places) → places.texts ≡ None → places.own ≡ own_by (0, 0) → places.goals ≡ None → places.functions ≡ None → ArePlaces job None places
+none-known job places texts own goals functions = record {
   goals = rw goals (no-goals job (asked_place job.ask));
   texts = rw texts (no-places-told job (tells_places job.ask));
+  own = own;
   functions = rw functions (no-functions-told job (tells_calls job.ask));
 }

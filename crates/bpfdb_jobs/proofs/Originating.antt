@@ -146,7 +146,7 @@ module _ (origin : OriginAsk) (job : Job) (object : Option LinkedObject) (moment
   -- the answer is printed
   pub origin-prints : (tail : Answer) → IsTail origin.tells_branches q parts s.arrived.at.point tail
       → (names : Option Names) → AreNamesOf object (section_of job) job.target.packet names
-      → Prints (Origin origin) job (named_print names moment.state (followed_by (answer_about q parts h moment.state) tail))
+      → Prints (Origin origin) job (named_print names q.places moment.state (followed_by (answer_about q parts h moment.state) tail))
   origin-prints tail behind names found =
       let a = s.arrived in
       let what = s.about.0 in
@@ -165,9 +165,9 @@ module _ (origin : OriginAsk) (job : Job) (object : Option LinkedObject) (moment
             (subst (λ (ps : List Part). IsTail origin.tells_branches q ps a.at.point tail)
             (s.about.2 ∙ ap (λ (x : State). parts_asked x what) a.state) behind),
         subst (λ (o : Option LinkedObject). AreNamesOf o (section_of job) job.target.packet names) (sym a.of) found,
-        ap (λ (z : Question). named_print names moment.state (followed_by (answer_about z parts h moment.state) tail)) s.way
-            ∙ ap (λ (ps : List Part). named_print names moment.state (followed_by (answer_about ask ps h moment.state) tail)) s.about.2
-            ∙ ap (λ (x : State). named_print names x (followed_by (answer_about ask (parts_asked x what) h x) tail)) a.state,
+        ap (λ (z : Question). named_print names z.places moment.state (followed_by (answer_about z parts h moment.state) tail)) s.way
+            ∙ ap (λ (ps : List Part). named_print names s.known.places moment.state (followed_by (answer_about ask ps h moment.state) tail)) s.about.2
+            ∙ ap (λ (x : State). named_print names s.known.places x (followed_by (answer_about ask (parts_asked x what) h x) tail)) a.state,
       )
 
   -- nothing is known of the names in maps

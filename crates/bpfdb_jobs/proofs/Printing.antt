@@ -8,13 +8,15 @@ use Rattle.bpf_session.specs.Plain.{ending_of, plain_end}
 use Rattle.bpf_session.specs.declared.plain.Ending.{Ending}
 use Rattle.counted_io.specs.Writing.{Writes}
 use Rattle.bpf_trace.specs.UnwrittenTexts.{unwritten_line}
+use Rattle.bpf_trace.specs.declared.own_code.OwnCode.{OwnCode}
 use Rattle.bpf_trace.specs.declared.strict_run.Unwritten.{Unwritten}
 use Rattle.bpfdb_faults.specs.Streams.{Gets, Loses, Stream, Told}
 use Rattle.bpfdb_jobs.specs.Endings.{EndsPrinted, ErrLost, OutLost, Printed}
 use Rattle.bpfdb_faults.specs.Faults.{line_of}
-use Rattle.bpfdb_jobs.specs.Jobs.{Opens, OpensMachine, Print, Prints, initial_of, printed, run_end, run_or_stopped, run_print, stopped, unwritten_in}
+use Rattle.bpfdb_jobs.specs.Jobs.{IsKnown, Opens, OpensMachine, Print, Prints, initial_of, printed, run_end, run_or_stopped, run_print, stopped, unwritten_in}
 use Rattle.bpfdb_faults.specs.declared.fault.JobFault.TheVariants.{Output}
 use Rattle.bpfdb_jobs.specs.declared.job.Job.{Job}
+use Rattle.bpfdb_jobs.specs.declared.known.Known.{Known}
 use Rattle.bpfdb_options.specs.declared.ask.Ask.{Ask}
 use Rattle.bpfdb_options.specs.declared.ask.Ask.TheVariants.{Run}
 
@@ -45,33 +47,35 @@ line-lost (Ok v) line w = tt
 line-lost (Err e) line w = (w.err, w.fault)
 
 -- a machine that was opened, and where its run stops
-abbrev pub OpensStrict : Bool → Job → State → Option Unwritten → Type 0
-OpensStrict strict job x read = (loaded : Loaded) × Opens job loaded × (x ≡ initial_of job loaded) × (read ≡ unwritten_in strict job x)
+abbrev pub OpensStrict : Bool → OwnCode → Job → State → Option Unwritten → Type 0
+OpensStrict strict own job x read = (loaded : Loaded) × Opens job loaded × (x ≡ initial_of job loaded) × (read ≡ unwritten_in strict own job x)
 
-abbrev pub opens-strict : (strict : Bool) (job : Job) (loaded : Loaded) (x : State) (read : Option Unwritten) → Loads job.target job.file.now loaded
-    → OpensMachine job loaded.program x × (read ≡ unwritten_in strict job x) → OpensStrict strict job x read
-opens-strict strict job loaded x read loads o = (loaded, record { loads = loads; asked = o.0.0; short = o.0.1 }, o.0.2, o.1)
+abbrev pub opens-strict : (strict : Bool) (own : OwnCode) (job : Job) (loaded : Loaded) (x : State) (read : Option Unwritten) → Loads job.target job.file.now loaded
+    → OpensMachine job loaded.program x × (read ≡ unwritten_in strict own job x) → OpensStrict strict own job x read
+opens-strict strict own job loaded x read loads o = (loaded, record { loads = loads; asked = o.0.0; short = o.0.1 }, o.0.2, o.1)
 
-pub strict-read : (strict : Bool) (job : Job) (x : State) (read now : Option Unwritten) → (o : OpensStrict strict job x read) → read ≡ now
-    → now ≡ unwritten_in strict job (initial_of job o.0)
-strict-read strict job x read now o is = sym is ∙ o.3 ∙ ap (unwritten_in strict job) o.2
+pub strict-read : (strict : Bool) (own : OwnCode) (job : Job) (x : State) (read now : Option Unwritten) → (o : OpensStrict strict own job x read) → read ≡ now
+    → now ≡ unwritten_in strict own job (initial_of job o.0)
+strict-read strict own job x read now o is = sym is ∙ o.3 ∙ ap (unwritten_in strict own job) o.2
 
 -- what a run prints, from the machine that was opened and the state that it left
-pub run-prints : (strict : Bool) (job : Job) (x end : State) (read : Option Unwritten) (ending : Ending) → OpensStrict strict job x read → read ≡ None
-    → end ≡ plain_end job.options.limit x → ending ≡ ending_of end.status → Prints (Run strict) job (run_print job.target job.options.limit ending end)
-run-prints strict job x end read ending o none e is = (
-  o.0,
-  o.1,
-  ap (λ z. run_print job.target job.options.limit z end) is ∙ ap (λ (y : State). run_print job.target job.options.limit (ending_of y.status) y) (e ∙ ap (plain_end job.options.limit) o.2)
-      ∙ ap (λ (r : Option Unwritten). run_or_stopped r (run_print job.target job.options.limit (ending_of (run_end job o.0).status) (run_end job o.0)))
-      (strict-read strict job x read None o none),
-)
+module _ (strict : Bool) (job : Job) (known : Known) (x : State) (read : Option Unwritten) (o : OpensStrict strict known.own job x read) (is_known : IsKnown job o.0.object known) where
+  abbrev print-of : Ending → State → Print
+  print-of ending end = run_print job.target known.places job.options.limit ending end
 
-pub stopped-prints : (strict : Bool) (job : Job) (x : State) (read : Option Unwritten) (at : Unwritten) → OpensStrict strict job x read → read ≡ Some at
-    → Prints (Run strict) job (stopped (unwritten_line at))
-stopped-prints strict job x read at o is = (
-  o.0,
-  o.1,
-  ap (λ (r : Option Unwritten). run_or_stopped r (run_print job.target job.options.limit (ending_of (run_end job o.0).status) (run_end job o.0)))
-      (strict-read strict job x read (Some at) o is),
-)
+  abbrev print-by : Option Unwritten → Print
+  print-by r = run_or_stopped known.places r (print-of (ending_of (run_end job o.0).status) (run_end job o.0))
+
+  pub run-prints : (end : State) (ending : Ending) → read ≡ None → end ≡ plain_end job.options.limit x → ending ≡ ending_of end.status
+      → Prints (Run strict) job (run_print job.target known.places job.options.limit ending end)
+  run-prints end ending none e is = (
+    o.0,
+    known,
+    o.1,
+    is_known,
+    ap (λ z. print-of z end) is ∙ ap (λ (y : State). print-of (ending_of y.status) y) (e ∙ ap (plain_end job.options.limit) o.2)
+        ∙ ap print-by (strict-read strict known.own job x read None o none),
+  )
+
+  pub stopped-prints : (at : Unwritten) → read ≡ Some at → Prints (Run strict) job (stopped (unwritten_line known.places at))
+  stopped-prints at is = (o.0, known, o.1, is_known, ap print-by (strict-read strict known.own job x read (Some at) o is))

@@ -71,7 +71,7 @@ module _ (why : WhynotAsk) (job : Job) (object : Option LinkedObject) (known : K
   pub whynot-prints : (s : Query) (goals : List ℕ) (can : ℕ → List ℕ → Bool) → s ≡ search why known goals a.at.point.history n
       → AsksGoals why job known moment.state.program (Ok goals) → TellsReach moment.state.program goals can
       → (names : Option Names) → AreNamesOf object (section_of job) job.target.packet names
-      → Prints (Whynot why) job (named_print names moment.state (why_not can s a.at.point.history moment.state))
+      → Prints (Whynot why) job (named_print names s.question.places moment.state (why_not can s a.at.point.history moment.state))
   whynot-prints s goals can asks named tells names found = (
     a.loaded,
     known,
@@ -85,8 +85,8 @@ module _ (why : WhynotAsk) (job : Job) (object : Option LinkedObject) (known : K
     subst (λ (x : State). AsksGoals why job known x.program (Ok goals)) a.state named,
     subst (λ (x : State). TellsReach x.program goals can) a.state tells,
     subst (λ (o : Option LinkedObject). AreNamesOf o (section_of job) job.target.packet names) (sym a.of) found,
-    ap (λ (z : Query). named_print names moment.state (why_not can z a.at.point.history moment.state)) (asks ∙ ap (search why known goals a.at.point.history) a.counted)
-        ∙ ap (λ (x : State). named_print names x (why_not can (search why known goals a.at.point.history a.at.moves) a.at.point.history x)) a.state,
+    ap (λ (z : Query). named_print names z.question.places moment.state (why_not can z a.at.point.history moment.state)) (asks ∙ ap (search why known goals a.at.point.history) a.counted)
+        ∙ ap (λ (x : State). named_print names known.places x (why_not can (search why known goals a.at.point.history a.at.moves) a.at.point.history x)) a.state,
   )
 
   -- nothing is known of the names in maps

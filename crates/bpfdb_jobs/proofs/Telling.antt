@@ -22,7 +22,7 @@ use Rattle.bpfdb_options.specs.declared.ask.Ask.TheVariants.{Trace}
 use Rattle.bpfdb_options.specs.declared.ask.TraceAsk.{TraceAsk}
 
 -- what a run prints, from the machine that was opened
-trace-prints : (trace : TraceAsk) (job : Job) (known : Known) (x end : State) (read : Option Unwritten) (o : OpensStrict trace.is_strict job x read) → IsKnown job o.0.object known
+trace-prints : (trace : TraceAsk) (job : Job) (known : Known) (x end : State) (read : Option Unwritten) (o : OpensStrict trace.is_strict known.own job x read) → IsKnown job o.0.object known
     → read ≡ None → end ≡ plain_end job.options.limit x → Prints (Trace trace) job (trace_print trace job known x end)
 trace-prints trace job known x end read o is_known none e = (
   o.0,
@@ -31,11 +31,11 @@ trace-prints trace job known x end read o is_known none e = (
   is_known,
   ap (λ (y : State). trace_print trace job known y end) o.2
       ∙ ap (trace_print trace job known (initial_of job o.0)) (e ∙ ap (plain_end job.options.limit) o.2)
-      ∙ ap (λ (r : Option Unwritten). trace_or_stopped r trace job known (initial_of job o.0) (run_end job o.0)) (strict-read trace.is_strict job x read None o none),
+      ∙ ap (λ (r : Option Unwritten). trace_or_stopped r trace job known (initial_of job o.0) (run_end job o.0)) (strict-read trace.is_strict known.own job x read None o none),
 )
 
 pub trace-ends : {W E : Type 0} {writer : Stream W} {errors : Stream E} (trace : TraceAsk) (job : Job) (known : Known) (x end : State) (read : Option Unwritten)
-    (r : Result (Unit {0}) TraceFault) (status : ℕ) → (o : OpensStrict trace.is_strict job x read) → IsKnown job o.0.object known → read ≡ None
+    (r : Result (Unit {0}) TraceFault) (status : ℕ) → (o : OpensStrict trace.is_strict known.own job x read) → IsKnown job o.0.object known → read ≡ None
     → Tells writer.bytes writer.old writer.new r (trace_out trace job known x) → OnOk r (end ≡ plain_end job.options.limit x)
     → OnOk r ((errors.new ≡ errors.old) × (status ≡ status_of_end end.status))
     → IfErr r (λ why. Told errors (line_of (fault_of_told why)) × (status ≡ 2))
@@ -50,7 +50,7 @@ trace-ends trace job known x end read (Err Write) status o is_known none told e 
     (trace-prints trace job known x (plain_end job.options.limit x) read o is_known none refl) (told.err, told.fault) err.0 err.1
 
 -- one that stopped
-until-prints : (trace : TraceAsk) (job : Job) (known : Known) (x : State) (read : Option Unwritten) (at : Unwritten) (o : OpensStrict trace.is_strict job x read)
+until-prints : (trace : TraceAsk) (job : Job) (known : Known) (x : State) (read : Option Unwritten) (at : Unwritten) (o : OpensStrict trace.is_strict known.own job x read)
     → IsKnown job o.0.object known → read ≡ Some at → Prints (Trace trace) job (trace_or_stopped (Some at) trace job known x x)
 until-prints trace job known x read at o is_known is = (
   o.0,
@@ -58,11 +58,11 @@ until-prints trace job known x read at o is_known is = (
   o.1,
   is_known,
   ap (λ (y : State). trace_or_stopped (Some at) trace job known y y) o.2
-      ∙ ap (λ (r : Option Unwritten). trace_or_stopped r trace job known (initial_of job o.0) (run_end job o.0)) (strict-read trace.is_strict job x read (Some at) o is),
+      ∙ ap (λ (r : Option Unwritten). trace_or_stopped r trace job known (initial_of job o.0) (run_end job o.0)) (strict-read trace.is_strict known.own job x read (Some at) o is),
 )
 
 pub until-ends : {W E : Type 0} {writer : Stream W} {errors : Stream E} (trace : TraceAsk) (job : Job) (known : Known) (x : State) (read : Option Unwritten) (at : Unwritten)
-    (r : Result (Unit {0}) TraceFault) (status : ℕ) → (o : OpensStrict trace.is_strict job x read) → IsKnown job o.0.object known → read ≡ Some at
+    (r : Result (Unit {0}) TraceFault) (status : ℕ) → (o : OpensStrict trace.is_strict known.own job x read) → IsKnown job o.0.object known → read ≡ Some at
     → Tells writer.bytes writer.old writer.new r (trace_until at (shown_of trace known) x)
     → OnOk r ((errors.new ≡ errors.old) × (status ≡ 1))
     → IfErr r (λ why. Told errors (line_of (fault_of_told why)) × (status ≡ 2))

@@ -30,6 +30,7 @@ use Rattle.bpf_lines.specs.declared.place_names.Names.{Names}
 use Rattle.bpf_isa.specs.Checker.{most_slots}
 use Rattle.bpf_lines.specs.Lookups.{AreFunctions, AreListingSlots}
 use Rattle.bpf_lines.specs.declared.lookups.Functions.{Functions}
+use Rattle.bpf_lines.specs.OwnSlots.{own_slots}
 use Rattle.bpf_lines.specs.PlaceSlots.{slots_told}
 use Rattle.bpf_lines.specs.PlaceTexts.{places_told}
 use Rattle.bpf_lines.specs.Places.{is_place}
@@ -53,11 +54,12 @@ use Rattle.bpf_text.specs.LineTable.{IsLineTable}
 use Rattle.bpf_text.specs.Listing.{IsListing}
 use Rattle.bpf_trace.specs.UnwrittenTexts.{trace_until, unwritten_line}
 use Rattle.bpf_trace.specs.Written.{unwritten_of}
+use Rattle.bpf_trace.specs.declared.own_code.OwnCode.{OwnCode}
 use Rattle.bpf_trace.specs.declared.strict_run.Unwritten.{Unwritten}
 use Rattle.bpf_trace.specs.Calls.{calls_text}
 use Rattle.bpf_trace.specs.declared.calls.Called.{Called}
 use Rattle.bpf_trace.specs.Profiles.{profile_text}
-use Rattle.bpf_trace.specs.Traces.{limit_line, trace_text}
+use Rattle.bpf_trace.specs.Traces.{told_end_line, trace_text}
 use Rattle.bpf_trace.specs.declared.trace.Shown.{Shown}
 use Rattle.bpf_whynot.specs.Answers.{Query, why_not}
 use Rattle.bpf_whynot.specs.Asked.{goals_in}
@@ -65,7 +67,6 @@ use Rattle.bpf_whynot.specs.Reach.{TellsReach}
 use Rattle.bpf_whynot.specs.declared.fault.GoalFault.{GoalFault}
 use Rattle.bpfdb_script.specs.declared.refusal.Refusal.{Refusal}
 use Rattle.bpfdb_script.specs.SlotTexts.{SlotTexts}
-use Rattle.bpfdb_script.specs.Texts.{place}
 use Rattle.bpfdb_jobs.specs.MapLines.{linked_told}
 use Rattle.bpfdb_jobs.specs.Programs.{AreSameMaps, check_line, program_text}
 use Rattle.bpfdb_jobs.specs.Origins.{Arrival, AreNamesOf, Asks, IsTail, answer_by, arrival, followed_by, found_text, named_by, question_by, status_of_extent}
@@ -161,22 +162,21 @@ abbrev pub stopped : List ℕ → Print
 stopped line = record { out = None; err = Some line; status = 1 }
 
 -- `run`: what a program came to that exits, and else where it stopped.
-abbrev pub run_print : Target → ℕ → Ending → State → Print
-run_print target limit Exited end = printed (result_text target end)
-run_print target limit Faulted end = stopped (place end ++ codes "\n")
-run_print target limit Limit end = stopped (limit_line limit end.pc)
+abbrev pub run_print : Target → SlotTexts → ℕ → Ending → State → Print
+run_print target places limit Exited end = printed (result_text target end)
+run_print target places limit ending end = stopped (told_end_line places limit end)
 
 -- The state to which the program runs without history, from the machine's opening to its end or to the limit of steps.
 abbrev pub run_end : Job → Loaded → State
 run_end job loaded = plain_end job.options.limit (initial_of job loaded)
 
 -- With `--strict` it stops before the first step that would read a byte of the stack which nothing wrote since the call.
-abbrev pub unwritten_in : Bool → Job → State → Option Unwritten
-unwritten_in strict job x = if strict then unwritten_of job.options.limit x else None
+abbrev pub unwritten_in : Bool → OwnCode → Job → State → Option Unwritten
+unwritten_in strict own job x = if strict then unwritten_of own job.options.limit x else None
 
-abbrev pub run_or_stopped : Option Unwritten → Print → Print
-run_or_stopped None a = a
-run_or_stopped (Some read) a = stopped (unwritten_line read)
+abbrev pub run_or_stopped : SlotTexts → Option Unwritten → Print → Print
+run_or_stopped places None a = a
+run_or_stopped places (Some read) a = stopped (unwritten_line places read)
 
 -- `trace`: the steps that are shown, with `--branches` the conditional jumps among them, or with `--profile` how often each instruction ran, or with
 -- `--calls` its calls, and where the run ended. Its status is 1 where `run` has no result.
@@ -216,8 +216,8 @@ trace_or_stopped (Some read) trace job known x end = record { out = Some (trace_
 abbrev pub arrival_of : Job → Loaded → Result Arrival Refusal
 arrival_of job loaded = arrival job.other job.options (initial_of job loaded)
 
-abbrev pub named_print : Option Names → State → Answer → Print
-named_print names end answer = record (printed (named_by names (found_text end answer))) { status = status_of_extent answer.extent }
+abbrev pub named_print : Option Names → SlotTexts → State → Answer → Print
+named_print names places end answer = record (printed (named_by names (found_text places end answer))) { status = status_of_extent answer.extent }
 
 -- `whynot`: where the machine stands, and why it did not come to the slots that are asked about.
 abbrev pub asked_of : WhynotAsk → List ℕ
@@ -254,7 +254,7 @@ query_of why known goals at = record {
 }
 
 abbrev pub whynot_print : Option Names → Query → (ℕ → List ℕ → Bool) → Arrival → Print
-whynot_print names q can at = named_print names at.point.state (why_not can q at.point.history at.point.state)
+whynot_print names q can at = named_print names q.question.places at.point.state (why_not can q at.point.history at.point.state)
 
 -- `lines`: the table of a listing; or of the program to which an object is linked, alone or joined with others, in their order.
 abbrev pub AreLinesFor : Job → LinkedObject → List ObjectLines → Type 0
@@ -308,14 +308,24 @@ behind_of functions = option_map_or (λ f. f.behind) functions most_slots
 abbrev pub HasFunctions : Bool → Job → Option LinkedObject → Option Functions → Type 0
 HasFunctions tells job object functions = HasCode tells job object (names_of functions) (first_of functions) (behind_of functions)
 
--- Answers whose lines tell them: gdb's user asks for those of `origin` and `whynot`, too.
+-- Answers whose lines tell them, and why there is no result: gdb's user asks for those of `origin` and `whynot`, too.
 abbrev pub tells_places : Ask → Bool
+tells_places (Run strict) = true
 tells_places (Trace trace) = true
 tells_places (Origin origin) = true
 tells_places (Whynot why) = true
 tells_places (Diff diff) = true
 tells_places (Gdb registers) = true
 tells_places ask = false
+
+-- The slots of FILE's own code are known with them.
+abbrev pub own_by : ℕ × ℕ → OwnCode
+own_by slots = record { first = slots.0; behind = slots.1 }
+
+abbrev pub HasOwn : Job → Option LinkedObject → Option (List (List ℕ)) → OwnCode → Type 0
+HasOwn job (Some linked) (Some texts) own =
+    (all : List ObjectLines) × AreLinesFor job linked all × (own ≡ own_by (own_slots job.target.packet linked.program.words.items all))
+HasOwn job object texts own = own ≡ own_by (0, 0)
 
 abbrev pub AreTold : Job → Option LinkedObject → SlotTexts → Type 0
 AreTold job object texts = HasPlaces (tells_places job.ask) job object (option_map (λ texts. map (λ text. text.items) texts.now) texts)
@@ -441,18 +451,20 @@ pub record IsKnown (job : Job) (object : Option LinkedObject) (known : Known) : 
   pub goals : HasPlace (asked_place job.ask) job object (option_map (λ goals. goals.now) known.goals)
   pub places : AreTold job object known.places
   pub code : HasCode (tells_calls job.ask) job object (option_map (λ names. map (λ name. name.items) names.now) known.names) known.first known.behind
+  pub own : HasOwn job object (option_map (λ texts. map (λ text. text.items) texts.now) known.places) known.own
 
 -- What a subcommand prints of a job that has what it needs: one that reads no standard input. (`test` has a definition of its own.)
 abbrev pub Prints : Ask → Job → Print → Type 0
-Prints (Run strict) job a = (loaded : Loaded) × Opens job loaded × (a ≡ run_or_stopped (unwritten_in strict job (initial_of job loaded))
-    (run_print job.target job.options.limit (ending_of (run_end job loaded).status) (run_end job loaded)))
+Prints (Run strict) job a = (loaded : Loaded) × (known : Known) × Opens job loaded × IsKnown job loaded.object known
+    × (a ≡ run_or_stopped known.places (unwritten_in strict known.own job (initial_of job loaded))
+    (run_print job.target known.places job.options.limit (ending_of (run_end job loaded).status) (run_end job loaded)))
 Prints (Trace trace) job a = (loaded : Loaded) × (known : Known) × Opens job loaded × IsKnown job loaded.object known
-    × (a ≡ trace_or_stopped (unwritten_in trace.is_strict job (initial_of job loaded)) trace job known (initial_of job loaded) (run_end job loaded))
+    × (a ≡ trace_or_stopped (unwritten_in trace.is_strict known.own job (initial_of job loaded)) trace job known (initial_of job loaded) (run_end job loaded))
 Prints Debug job a = ⊥
 Prints (Origin origin) job a = (loaded : Loaded) × (known : Known) × (at : Arrival) × (what : Option What) × (tail : Answer) × (names : Option Names)
     × OpensSession job loaded × IsKnown job loaded.object known × (arrival_of job loaded ≡ Ok at) × Asks origin.what at.point.state what
     × IsTail origin.tells_branches (question_by known.places origin.scope at) (parts_asked at.point.state what) at.point tail
-    × AreNamesOf loaded.object (section_of job) job.target.packet names × (a ≡ named_print names at.point.state (followed_by (answer_by known.places origin.scope what at) tail))
+    × AreNamesOf loaded.object (section_of job) job.target.packet names × (a ≡ named_print names known.places at.point.state (followed_by (answer_by known.places origin.scope what at) tail))
 Prints (Whynot why) job a = (loaded : Loaded) × (known : Known) × (at : Arrival) × (goals : List ℕ) × (can : ℕ → List ℕ → Bool) × (names : Option Names)
     × OpensSession job loaded × IsKnown job loaded.object known × (arrival_of job loaded ≡ Ok at) × AsksGoals why job known at.point.state.program (Ok goals)
     × TellsReach at.point.state.program goals can × AreNamesOf loaded.object (section_of job) job.target.packet names

@@ -5,7 +5,7 @@ use Rattle.bpf_load.specs.declared.loading.LinkedObject.{LinkedObject}
 use Rattle.bpfdb_faults.specs.declared.refusal.JobRefusal.{JobRefusal}
 use Rattle.bpf_lines.specs.declared.objects.ObjectLines.{ObjectLines}
 use Rattle.bpfdb_faults.specs.Streams.{Stream, Told}
-use Rattle.bpfdb_jobs.specs.Jobs.{AreLinesFor, HasFunctions, HasPlace, HasPlaces, LacksLines, asked_place, is_memory, tells_calls, tells_places}
+use Rattle.bpfdb_jobs.specs.Jobs.{AreLinesFor, HasFunctions, HasOwn, HasPlace, HasPlaces, LacksLines, asked_place, is_memory, tells_calls, tells_places}
 use Rattle.bpfdb_jobs.specs.Refusals.{RefusesLoading, RefusesTable}
 use Rattle.bpfdb_jobs.specs.declared.job.Job.{Job}
 use Rattle.bpfdb_jobs.specs.declared.known.Places.{Places}
@@ -36,6 +36,7 @@ pub record ArePlaces (job : Job) (object : Option LinkedObject) (places : Places
   pub goals : HasPlace (asked_place job.ask) job object (option_map (λ goals. goals.items) places.goals)
   pub texts : HasPlaces (tells_places job.ask) job object (option_map (λ texts. map (λ text. text.items) texts.items) places.texts)
   pub functions : HasFunctions (tells_calls job.ask) job object places.functions
+  pub own : HasOwn job object (option_map (λ texts. map (λ text. text.items) texts.items) places.texts) places.own
 
 -- Otherwise a job is done without lines that can't be read, which is said first.
 abbrev pub lines_note : List ℕ

@@ -130,7 +130,7 @@ pub record HasTail (origin : OriginAsk) (job : Job) (object : Option LinkedObjec
 
 -- What is written where the machine stands: the answer about these parts, and a text behind it.
 abbrev pub asked_text : Question → List Part → List Record → State → List ℕ → List ℕ
-asked_text q parts h x tail = found_text x (followed_by (answer_about q parts h x) (record { text = tail; extent = Whole }))
+asked_text q parts h x tail = found_text q.places x (followed_by (answer_about q parts h x) (record { text = tail; extent = Whole }))
 
 -- With the names of places in maps, where they are known.
 abbrev pub told_text : Option (Bor Names) → Question → List Part → List Record → State → List ℕ → List ℕ
@@ -138,4 +138,4 @@ told_text names q parts h x tail = named_by (option_map (λ n. n.now) names) (as
 
 -- What is written of why the program did not come to some slots, with those names.
 abbrev pub why_text : Option (Bor Names) → (ℕ → List ℕ → Bool) → Query → List Record → State → List ℕ
-why_text names can q h x = named_by (option_map (λ n. n.now) names) (found_text x (why_not can q h x))
+why_text names can q h x = named_by (option_map (λ n. n.now) names) (found_text q.question.places x (why_not can q h x))

@@ -34,7 +34,7 @@ use Rattle.bpfdb_script.specs.declared.command.Command.{Command}
 use Rattle.bpfdb_script.specs.declared.refusal.Refusal.{Refusal}
 use Rattle.bpfdb_options.specs.declared.ask.Scope.{Scope}
 use Rattle.bpfdb_options.specs.declared.options.Options.{Options}
-use Rattle.bpfdb_script.specs.Texts.{place}
+use Rattle.bpf_trace.specs.Traces.{standing}
 use Rattle.counted_io.specs.Lines.{lines}
 use Rattle.bpfdb_script.specs.SlotTexts.{SlotTexts}
 
@@ -116,9 +116,9 @@ both_extents first second = first
 abbrev pub followed_by : Answer → Answer → Answer
 followed_by first second = record { text = first.text ++ second.text; extent = both_extents first.extent second.extent }
 
--- What is written of it: where the machine stands, and the answer.
-abbrev pub found_text : State → Answer → List ℕ
-found_text end answer = place end ++ codes "\n" ++ answer.text
+-- What is written of it: where the machine stands, with what is told of its slot, and the answer.
+abbrev pub found_text : SlotTexts → State → Answer → List ℕ
+found_text places end answer = standing places end ++ codes "\n" ++ answer.text
 
 -- The names in the maps of a program that was linked; they stand in it where they are known.
 abbrev pub AreNamesOf : Option LinkedObject → List ℕ → Option Packet → Option Names → Type 0

@@ -239,7 +239,7 @@ fn program_tool<R: Read, W: Write, E: Write>(
     ensures status { result ≤ 2 }
 {
     match &job.ask {
-        Ask::Run { is_strict } => run_job(alloc, job, *is_strict, loaded, writer, errors),
+        Ask::Run { is_strict } => run_job(alloc, job, *is_strict, loaded, known, writer, errors),
         Ask::Trace(trace) => trace_job(alloc, trace, job, loaded, known, writer, errors),
         Ask::Debug => debug_job(alloc, job, loaded.program, reader, writer, errors),
         Ask::Origin(origin) => origin_job(alloc, origin, job, loaded, known, writer, errors),

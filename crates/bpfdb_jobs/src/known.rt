@@ -4,7 +4,7 @@ ghost use Rattle.bpf_lines.specs.Objects.{HasPartLines};
 ghost use Rattle.bpf_link.specs.Names.{fault_names};
 ghost use Rattle.bpf_link.specs.declared.fault.LinkFault.TheVariants.{Memory};
 ghost use Rattle.bpf_load.specs.Faults.{Tells};
-ghost use Rattle.bpfdb_jobs.specs.Jobs.{AreLinesFor, HasFunctions, asked_place, behind_of, first_of, is_memory, names_of, place_in, tells_calls, tells_places};
+ghost use Rattle.bpfdb_jobs.specs.Jobs.{AreLinesFor, HasFunctions, asked_place, behind_of, first_of, is_memory, names_of, own_by, place_in, tells_calls, tells_places};
 ghost use Rattle.bpfdb_jobs.specs.Objects.{ArePlaces, HasLines, is_check};
 ghost use Rattle.bpfdb_jobs.specs.Refusals.{LacksPlaces, lines_names};
 
@@ -12,11 +12,12 @@ use crate::job::Job;
 use crate::whynot::asked;
 use bpf_isa::MOST_SLOTS;
 use bpf_lines::{
-    Functions, LinesFault, ObjectLines, is_place, program_functions, program_lines, program_places,
-    program_slots,
+    Functions, LinesFault, ObjectLines, is_place, own_slots, program_functions, program_lines,
+    program_places, program_slots,
 };
 use bpf_link::{LinkFault, fault_names};
 use bpf_load::{LinkedObject, ObjectFault, in_object};
+use bpf_trace::OwnCode;
 use bpfdb_options::{Ask, WhynotAsk};
 use bpfdb_script::SlotTexts;
 use std::alloc::{AllocError, Global};
@@ -26,6 +27,8 @@ use std::alloc::{AllocError, Global};
 pub struct Known<'a> {
     /// Where each stands in C, where that is told: it ends the lines of steps and moves.
     pub places: SlotTexts<'a>,
+    /// Which of them are FILE's own code, where that is told; else none.
+    pub own: OwnCode,
     /// Those of the place of an object which `whynot` asks about, where it is one: numbers with commas
     /// between. Without them what the options ask about counts.
     pub goals: Option<&'a [u8]>,
@@ -41,6 +44,7 @@ pub struct Known<'a> {
 #[derive(Drop)]
 pub struct Places {
     pub texts: Option<Vec<Vec<u8>>>,
+    pub own: OwnCode,
     pub goals: Option<Vec<u8>>,
     pub functions: Option<Functions>,
 }
@@ -50,6 +54,7 @@ impl Places {
     pub fn known(&self) -> Known<'_>
         ensures places { option_map (λ texts. map (λ text. text.items) texts.now) result.places
             ≡ option_map (λ texts. map (λ text. text.items) texts.items) self.now.texts }
+        ensures own { result.own ≡ self.now.own }
         ensures goals { option_map (λ goals. goals.now) result.goals
             ≡ option_map (λ goals. goals.items) self.now.goals }
         ensures names { option_map (λ names. map (λ name. name.items) names.now) result.names
@@ -62,6 +67,7 @@ impl Places {
                 Some(texts) => Some(texts.as_slice()),
                 None => None,
             },
+            own: self.own,
             goals: match &self.goals {
                 Some(goals) => Some(goals.as_slice()),
                 None => None,
@@ -153,6 +159,7 @@ fn tells_places(ask: &Ask<'_>) -> bool
     ensures { result ≡ tells_places ask.now }
 {
     match ask {
+        Ask::Run { .. } => true,
         Ask::Trace(_) => true,
         Ask::Origin(_) => true,
         Ask::Whynot(_) => true,
@@ -197,11 +204,13 @@ pub fn places_of(
 /// Nothing is known of them.
 pub fn nowhere() -> Places
     ensures texts { result.texts ≡ None }
+    ensures own { result.own ≡ own_by (0, 0) }
     ensures goals { result.goals ≡ None }
     ensures functions { result.functions ≡ None }
 {
     Places {
         texts: None,
+        own: own_code((0, 0)),
         goals: None,
         functions: None,
     }
@@ -224,12 +233,14 @@ fn places_in(
         Ok(texts) => texts,
         Err(_) => return Err(want_of_memory(job, object)),
     };
+    let own = own_code(own_slots(job.target.packet, words, lines));
     let Ok(functions) = functions_in(alloc, job, object, lines) else {
         return Err(want_of_memory(job, object));
     };
     let Some(what) = asked_place(&job.ask) else {
         return Ok(Places {
             texts: Some(texts),
+            own,
             goals: None,
             functions,
         });
@@ -237,6 +248,7 @@ fn places_in(
     match program_slots(alloc, lines, job.target.packet, words, what) {
         Ok(goals) => Ok(Places {
             texts: Some(texts),
+            own,
             goals: Some(goals),
             functions,
         }),
@@ -261,6 +273,16 @@ fn functions_in(
     match program_functions(alloc, lines, job.target.packet, words) {
         Ok(functions) => Ok(Some(functions)),
         Err(AllocError) => Err(AllocError),
+    }
+}
+
+/// FILE's own code, by its first slot and that behind the last.
+fn own_code(slots: (usize, usize)) -> OwnCode
+    ensures { result ≡ own_by slots }
+{
+    OwnCode {
+        first: slots.0,
+        behind: slots.1,
     }
 }
 

@@ -28,10 +28,11 @@ use bpf_origin::{
     Extent, Part, Parts, Question, Told, Wanted, What, WhatFault, parts_asked, put_answer,
 };
 use bpf_session::run_kept;
+use bpf_trace::put_standing;
 use bpf_whynot::{Found, find_branches};
 use bpfdb_faults::{JobFault, JobRefusal, flush_after, give_up};
 use bpfdb_options::{OriginAsk, Scope};
-use bpfdb_script::{SlotTexts, write_place};
+use bpfdb_script::SlotTexts;
 use counted_io::{Counted, WriteFault, put};
 use std::alloc::{AllocError, Global};
 use std::io::Write;
@@ -429,7 +430,7 @@ fn put_found<K: Keeper, W: Write>(
         StandsFor K.holds timeline.old.keeper timeline.old.state h →
         result.extent ≡ (answer_about question.entry parts.now h timeline.old.state).extent }
 {
-    let placed = write_place(timeline.cpu(), writer);
+    let placed = put_standing(writer, Ok(()), question.places, timeline.cpu());
     let ended = put(writer, placed, b"\n");
     let told = put_answer(timeline, wanted, parts, question, writer, ended);
     let all = put(writer, told.written, tail);

@@ -10,8 +10,9 @@ use crate::job::Job;
 use crate::opening::{machine_of, open_again};
 use bpf_isa::Program;
 use bpf_machine::Cpu;
-use bpf_trace::{Unwritten, find_unwritten, put_unwritten};
+use bpf_trace::{OwnCode, Unwritten, find_unwritten, put_unwritten};
 use bpfdb_faults::{JobRefusal, flush_after};
+use bpfdb_script::SlotTexts;
 use counted_io::{Counted, WriteFault};
 use std::alloc::Global;
 use std::io::Write;
@@ -24,15 +25,16 @@ pub struct Strict {
 }
 
 /// The machine of a program on the job's context before its first step. Of a strict run it is looked
-/// for the read that stops it, and then the machine is opened again.
+/// for the read that stops it, by FILE's own code, and then the machine is opened again.
 pub fn strict_machine(
     alloc: Global,
     job: &Job<'_>,
     is_strict: bool,
+    own: OwnCode,
     program: Program,
 ) -> Result<Strict, JobRefusal<'static>>
     ensures ok { IfOk result (λ strict. OpensMachine job.now program strict.cpu
-        × (strict.unwritten ≡ unwritten_in is_strict job.now strict.cpu)) }
+        × (strict.unwritten ≡ unwritten_in is_strict own job.now strict.cpu)) }
     ensures err { IfErr result (RefusesMachine job.now) }
 {
     let mut cpu = match machine_of(alloc, job, program) {
@@ -45,7 +47,7 @@ pub fn strict_machine(
             unwritten: None,
         });
     }
-    let unwritten = find_unwritten(&mut cpu, job.options.limit);
+    let unwritten = find_unwritten(&mut cpu, own, job.options.limit);
     match open_again(alloc, &job.options, &mut cpu, job.context) {
         Ok(()) => Ok(Strict { cpu, unwritten }),
         Err(fault) => Err(JobRefusal::Open(fault)),
@@ -53,9 +55,13 @@ pub fn strict_machine(
 }
 
 /// Writes the line of a read of the stack where nothing was written to standard error, and flushes.
-pub fn tell_unwritten<E: Write>(errors: &mut Counted<E>, read: &Unwritten) -> Result<(), WriteFault>
-    ensures { Writes E.contents errors.old errors.new result (unwritten_line read.now) }
+pub fn tell_unwritten<E: Write>(
+    errors: &mut Counted<E>,
+    places: SlotTexts<'_>,
+    read: &Unwritten,
+) -> Result<(), WriteFault>
+    ensures { Writes E.contents errors.old errors.new result (unwritten_line places.entry read.now) }
 {
-    let written = put_unwritten(errors, Ok(()), read);
+    let written = put_unwritten(errors, Ok(()), places, read);
     flush_after(errors, written)
 }

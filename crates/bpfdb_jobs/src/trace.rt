@@ -46,7 +46,7 @@ pub fn trace_job<W: Write, E: Write>(
         (stream E.contents errors.old errors.new) result }
     ensures status { result ≤ 2 }
 {
-    let mut strict = match strict_machine(alloc, job, trace.is_strict, loaded.program) {
+    let mut strict = match strict_machine(alloc, job, trace.is_strict, known.own, loaded.program) {
         Ok(strict) => strict,
         Err(refusal) => return give_up(errors, &JobFault::Refused(refusal)),
     };

@@ -27,10 +27,10 @@ use bpf_journal::{JournalFault, Keeper, Timeline};
 use bpf_lines::{Names, is_place, listing_slots, put_named};
 use bpf_load::{LinkedObject, Loaded, SourceKind};
 use bpf_origin::{Question, Told, Wanted};
+use bpf_trace::put_standing;
 use bpf_whynot::{Aim, AimFault, GoalFault, Search, put_whynot};
 use bpfdb_faults::{JobFault, JobRefusal, flush_after, give_up};
 use bpfdb_options::WhynotAsk;
-use bpfdb_script::write_place;
 use counted_io::{Counted, WriteFault, put};
 use std::alloc::{AllocError, Global};
 use std::io::Write;
@@ -216,7 +216,7 @@ fn put_why<K: Keeper, W: Write>(
     ensures text { (program : Checked) (goals : List ℕ) (h : List Record) →
         AreGoals program goals search.now.goals.now →
         StandsFor K.holds timeline.old.keeper timeline.old.state h →
-        Writes W.contents writer.old writer.new result.written (found_text timeline.old.state
+        Writes W.contents writer.old writer.new result.written (found_text search.now.question.places timeline.old.state
         (why_not (told_by search.now.reach.now) (query search.now goals) h timeline.old.state)) }
     ensures extent { (program : Checked) (goals : List ℕ) (h : List Record) →
         AreGoals program goals search.now.goals.now →
@@ -224,7 +224,7 @@ fn put_why<K: Keeper, W: Write>(
         ≡ (why_not (told_by search.now.reach.now) (query search.now goals) h
         timeline.old.state).extent }
 {
-    let placed = write_place(timeline.cpu(), writer);
+    let placed = put_standing(writer, Ok(()), search.question.places, timeline.cpu());
     let ended = put(writer, placed, b"\n");
     let told = put_whynot(timeline, search, wanted, writer, ended);
     Told {
@@ -286,8 +286,8 @@ fn why_found<K: Keeper>(
     ensures text { (program : Checked) (goals : List ℕ) (h : List Record) →
         AreGoals program goals search.now.goals.now →
         StandsFor K.holds timeline.old.keeper timeline.old.state h →
-        IfOk result (λ found. found.text.items ≡ found_text timeline.old.state
-        (why_not (told_by search.now.reach.now) (query search.now goals) h timeline.old.state)) }
+        IfOk result (λ found. found.text.items ≡ found_text search.now.question.places
+        timeline.old.state (why_not (told_by search.now.reach.now) (query search.now goals) h timeline.old.state)) }
     ensures extent { (program : Checked) (goals : List ℕ) (h : List Record) →
         AreGoals program goals search.now.goals.now →
         StandsFor K.holds timeline.old.keeper timeline.old.state h →

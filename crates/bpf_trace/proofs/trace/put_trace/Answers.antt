@@ -30,7 +30,7 @@ returns-clause-text g c =
     let most = c.min-2.ensures in
     let whole = whole_run c.args.limit _ _ _ _ _ _ _ _ c.run-passed.ensures.steps c.put_steps-taken.ensures.taken.steps (omega arith) refl c.run-rest.ensures in
     let run = rw (c.min.ensures, c.before-2.ensures) at c.run-passed.ensures in
-    WritesAfter-WritesAfter g.W.Write.contents _ _ _ _ _ _ _ _ _ c.put_steps-taken.ensures.text c.put_end.ensures
+    WritesAfter-WritesAfter g.W.Write.contents _ _ _ _ _ _ _ _ _ c.put_steps-taken.ensures.text c.put_told_end.ensures
     (trace_is c.args.limit c.min-2.result c.run-passed.result c.args.shown c.args.cpu.now _ _ run c.min-2.ensures (whole_end _ _ _ _ whole))
 
 pub returns-clause-next : goal.returns-clause-next
@@ -40,7 +40,7 @@ returns-clause-next g c =
     let least = c.min.ensures in
     let most = c.min-2.ensures in
     let whole = whole_run c.args.limit _ _ _ _ _ _ _ _ c.run-passed.ensures.steps c.put_steps-taken.ensures.taken.steps (omega arith) refl c.run-rest.ensures in
-    anyway c.put_end.result (whole_end _ _ _ _ whole)
+    anyway c.put_told_end.result (whole_end _ _ _ _ whole)
 
 pub returns-clause-way : goal.returns-clause-way
 returns-clause-way g c =

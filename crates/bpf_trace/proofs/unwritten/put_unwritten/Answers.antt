@@ -1,12 +1,11 @@
-use Rattle.std.proofs.Common.{append_assoc}
-use Rattle.bpf_trace.specs.UnwrittenTexts.{unwritten_line}
+use Rattle.std.proofs.Common.{refl}
+use Rattle.counted_io.proofs.Appending.{WritesAfter-WritesAfter}
 use Rattle.bpf_trace.proofs.unwritten.put_unwritten.Goals as goal
 
 pub returns : goal.returns
-unfolding unwritten_line
-returns g c = λ first front known.
-    let begun = c.put-begun.ensures first front known in
-    let told = c.put_hexadecimal-told.ensures first _ begun in
-    let parted = c.put-parted.ensures first _ told in
-    let placed = rw c.from.ensures at (c.put_decimal-placed.ensures first _ parted) in
-    simp append_assoc (simp append_assoc at (c.put.ensures first _ placed))
+returns g c =
+    let after = WritesAfter-WritesAfter g.W.Write.contents in
+    let text = rw c.from.ensures at c.text_of_slot.ensures in
+    let two = after _ _ _ _ _ _ _ _ _ c.put_read-read_at.ensures (rw text at c.put-placed.ensures) refl in
+    let three = after _ _ _ _ _ _ _ _ _ two c.put_call-called.ensures refl in
+    after _ _ _ _ _ _ _ _ _ three c.put.ensures refl

@@ -30,7 +30,12 @@ returns-in-None-clause-does g c =
 pub program_tool-requires-clause-known : goal.program_tool-requires-clause-known
 program_tool-requires-clause-known g c =
     let are = rw c.as_ref.ensures.value at c.in-Some-places_told.ensures.some.0 in
-    record { goals = rw c.known.ensures.goals are.goals; places = rw c.known.ensures.places are.texts; code = rw (c.known.ensures.names, c.known.ensures.first, c.known.ensures.behind) are.functions }
+    record {
+      goals = rw c.known.ensures.goals are.goals;
+      places = rw c.known.ensures.places are.texts;
+      own = rw (c.known.ensures.places, c.known.ensures.own) are.own;
+      code = rw (c.known.ensures.names, c.known.ensures.first, c.known.ensures.behind) are.functions;
+    }
 
 pub returns-clause-does : goal.returns-clause-does
 returns-clause-does g c =

@@ -15,7 +15,7 @@ use Rattle.bpfdb_jobs.proofs.dispatch.places_told.Goals as goal
 
 pub returns-in-None-clause-some : goal.returns-in-None-clause-some
 returns-in-None-clause-some g c =
-    rw c.in-None.is (none-known c.args.job.now c.nowhere.result c.nowhere.ensures.texts c.nowhere.ensures.goals c.nowhere.ensures.functions, Silent tt refl)
+    rw c.in-None.is (none-known c.args.job.now c.nowhere.result c.nowhere.ensures.texts c.nowhere.ensures.own c.nowhere.ensures.goals c.nowhere.ensures.functions, Silent tt refl)
 
 -- why nothing is known of an object's slots
 refused : {E : Type 0} (job : Job) (linked : LinkedObject) (errors : Stream E) (r : Option Places)

@@ -32,7 +32,7 @@ returns-in-Ok-written-clause-does g c =
     let tail : Answer = record { text = c.args.tail.text.now; extent = c.args.tail.extent } in
     let w = rw (c.in-Ok-written.is, c.as_ref.ensures.value) at c.in-Ok-put_told.ensures.text h s.arrived.held in
     let extent = c.in-Ok-put_told.ensures.extent h s.arrived.held in
-    Printed (named_print c.in-Ok.names x (followed_by (answer_about q c.args.parts.now h x) tail))
+    Printed (named_print c.in-Ok.names q.places x (followed_by (answer_about q c.args.parts.now h x) tail))
     (origin-prints c.args.origin.now job _ at.timeline at.moves c.args.parts.now q s tail c.requires.is c.in-Ok.names c.in-Ok.ensures.ok)
     (w.ok, w.same) refl (c.status_of.ensures ∙ ap status_of_extent (c.both_of.ensures ∙ ap (λ (e : Extent). both_extents e c.args.tail.extent) extent))
 
@@ -46,7 +46,7 @@ returns-in-Ok-put_told-clause-does g c =
     let q = c.args.question in
     let tail : Answer = record { text = c.args.tail.text.now; extent = c.args.tail.extent } in
     let w = rw (c.in-Err-written.is, c.as_ref.ensures.value) at c.in-Ok-put_told.ensures.text h s.arrived.held in
-    OutLost (named_print c.in-Ok.names x (followed_by (answer_about q c.args.parts.now h x) tail))
+    OutLost (named_print c.in-Ok.names q.places x (followed_by (answer_about q c.args.parts.now h x) tail))
     (origin-prints c.args.origin.now job _ at.timeline at.moves c.args.parts.now q s tail c.requires.is c.in-Ok.names c.in-Ok.ensures.ok)
     (w.err, w.fault) c.give_up.ensures.told c.give_up.ensures.value
 

@@ -14,25 +14,28 @@ returns-in-Exited-clause-does g c =
     let end = c.run_quietly.new.cpu in
     let is : Exited ≡ ending_of end.status = ap ending_of (sym c.in-Exited.is ∙ c.status.ensures) in
     out-printed (Run c.args.is_strict) c.args.job.now (result_text c.args.job.now.target end) c.write_result.result c.ended.result
-    (run-prints c.args.is_strict c.args.job.now c.in-Ok.strict.cpu end c.in-Ok.strict.unwritten Exited (opens-strict c.args.is_strict c.args.job.now c.args.loaded c.in-Ok.strict.cpu c.in-Ok.strict.unwritten c.requires.loaded c.in-Ok.ensures.ok) c.in-None.is c.run_quietly.ensures is)
+    (run-prints c.args.is_strict c.args.job.now c.args.known c.in-Ok.strict.cpu c.in-Ok.strict.unwritten
+    (opens-strict c.args.is_strict c.args.known.own c.args.job.now c.args.loaded c.in-Ok.strict.cpu c.in-Ok.strict.unwritten c.requires.loaded c.in-Ok.ensures.ok) c.requires.known end Exited c.in-None.is c.run_quietly.ensures is)
     c.write_result.ensures c.ended.ensures.ok c.ended.ensures.err
 
 pub returns-in-Faulted-clause-does : goal.returns-in-Faulted-clause-does
 returns-in-Faulted-clause-does g c =
     let end = c.run_quietly.new.cpu in
     let is : Faulted ≡ ending_of end.status = ap ending_of (sym c.in-Faulted.is ∙ c.status.ensures) in
-    let w = c.tell_place.ensures in
-    err-printed (Run c.args.is_strict) c.args.job.now (run_print c.args.job.now.target c.args.job.now.options.limit Faulted end) c.tell_place.result c.told_as-in-Faulted.result
-    (run-prints c.args.is_strict c.args.job.now c.in-Ok.strict.cpu end c.in-Ok.strict.unwritten Faulted (opens-strict c.args.is_strict c.args.job.now c.args.loaded c.in-Ok.strict.cpu c.in-Ok.strict.unwritten c.requires.loaded c.in-Ok.ensures.ok) c.in-None.is c.run_quietly.ensures is)
+    let w = c.tell_end.ensures in
+    err-printed (Run c.args.is_strict) c.args.job.now (run_print c.args.job.now.target c.args.known.places c.args.job.now.options.limit Faulted end) c.tell_end.result c.told_as-in-Faulted.result
+    (run-prints c.args.is_strict c.args.job.now c.args.known c.in-Ok.strict.cpu c.in-Ok.strict.unwritten
+    (opens-strict c.args.is_strict c.args.known.own c.args.job.now c.args.loaded c.in-Ok.strict.cpu c.in-Ok.strict.unwritten c.requires.loaded c.in-Ok.ensures.ok) c.requires.known end Faulted c.in-None.is c.run_quietly.ensures is)
     refl (line-got _ _ w) (line-lost _ _ w) c.told_as-in-Faulted.ensures.ok c.told_as-in-Faulted.ensures.err
 
 pub returns-clause-does : goal.returns-clause-does
 returns-clause-does g c =
     let end = c.run_quietly.new.cpu in
     let is : Limit ≡ ending_of end.status = ap ending_of (sym c.in-Running.is ∙ c.status.ensures) in
-    let w = rw c.pc.ensures at c.tell.ensures in
-    err-printed (Run c.args.is_strict) c.args.job.now (run_print c.args.job.now.target c.args.job.now.options.limit Limit end) c.tell.result c.told_as-in-Running.result
-    (run-prints c.args.is_strict c.args.job.now c.in-Ok.strict.cpu end c.in-Ok.strict.unwritten Limit (opens-strict c.args.is_strict c.args.job.now c.args.loaded c.in-Ok.strict.cpu c.in-Ok.strict.unwritten c.requires.loaded c.in-Ok.ensures.ok) c.in-None.is c.run_quietly.ensures is)
+    let w = c.tell_end-in-Running.ensures in
+    err-printed (Run c.args.is_strict) c.args.job.now (run_print c.args.job.now.target c.args.known.places c.args.job.now.options.limit Limit end) c.tell_end-in-Running.result c.told_as-in-Running.result
+    (run-prints c.args.is_strict c.args.job.now c.args.known c.in-Ok.strict.cpu c.in-Ok.strict.unwritten
+    (opens-strict c.args.is_strict c.args.known.own c.args.job.now c.args.loaded c.in-Ok.strict.cpu c.in-Ok.strict.unwritten c.requires.loaded c.in-Ok.ensures.ok) c.requires.known end Limit c.in-None.is c.run_quietly.ensures is)
     refl (line-got _ _ w) (line-lost _ _ w) c.told_as-in-Running.ensures.ok c.told_as-in-Running.ensures.err
 
 pub returns-in-Err-clause-does : goal.returns-in-Err-clause-does
@@ -41,6 +44,7 @@ returns-in-Err-clause-does g c = Refused c.in-Err.refusal c.in-Err.ensures.err r
 pub returns-in-Some-clause-does : goal.returns-in-Some-clause-does
 returns-in-Some-clause-does g c =
     let w = c.tell_unwritten.ensures in
-    err-printed (Run c.args.is_strict) c.args.job.now (stopped (unwritten_line c.in-Some.read)) c.tell_unwritten.result c.told_as.result
-    (stopped-prints c.args.is_strict c.args.job.now c.in-Ok.strict.cpu c.in-Ok.strict.unwritten c.in-Some.read (opens-strict c.args.is_strict c.args.job.now c.args.loaded c.in-Ok.strict.cpu c.in-Ok.strict.unwritten c.requires.loaded c.in-Ok.ensures.ok) c.in-Some.is) refl
+    err-printed (Run c.args.is_strict) c.args.job.now (stopped (unwritten_line c.args.known.places c.in-Some.read)) c.tell_unwritten.result c.told_as.result
+    (stopped-prints c.args.is_strict c.args.job.now c.args.known c.in-Ok.strict.cpu c.in-Ok.strict.unwritten
+    (opens-strict c.args.is_strict c.args.known.own c.args.job.now c.args.loaded c.in-Ok.strict.cpu c.in-Ok.strict.unwritten c.requires.loaded c.in-Ok.ensures.ok) c.requires.known c.in-Some.read c.in-Some.is) refl
     (line-got _ _ w) (line-lost _ _ w) c.told_as.ensures.ok c.told_as.ensures.err

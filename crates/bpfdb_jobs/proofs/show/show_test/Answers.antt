@@ -38,7 +38,6 @@ hidden part ask job test (fault.Unwritable name) status same asked hides told tw
 hidden part ask job test fault.NotText status same asked hides told two = absurd hides
 hidden part ask job test fault.Input status same asked hides told two = absurd hides
 hidden part ask job test fault.Output status same asked hides told two = absurd hides
-hidden part ask job test (fault.StepLimit limit slot) status same asked hides told two = absurd hides
 hidden part ask job test (fault.Refused (Maps why)) status same asked hides told two = absurd hides
 hidden part ask job test (fault.Refused (Load why)) status same asked hides told two = absurd hides
 hidden part ask job test (fault.Refused (Open why)) status same asked hides told two = absurd hides

@@ -46,7 +46,7 @@ returns-in-Ok-written-clause-does g c =
     let flags = subst (λ (flags : List Bool). AreGoals x.program p.goals flags) (sym c.as_slice.ensures.value) p.flags in
     let w = rw (c.in-Ok-written.is, c.as_ref.ensures.value) at c.in-Ok-put_told.ensures.text x.program p.goals h flags c.requires.arrived.held in
     let extent = c.in-Ok-put_told.ensures.extent x.program p.goals h flags c.requires.arrived.held in
-    Printed (named_print c.in-Ok-names_of.names x (why_not can q h x))
+    Printed (named_print c.in-Ok-names_of.names c.args.known.places x (why_not can q h x))
     (whynot-prints c.args.why.now job _ c.args.known c.requires.known at.timeline at.moves c.requires.arrived q p.goals can as-asked (asked.0, asked.1, p.named) p.tells c.in-Ok-names_of.names c.in-Ok-names_of.ensures.ok)
     (w.ok, w.same) refl (c.status_of.ensures ∙ ap status_of_extent extent)
 
@@ -67,7 +67,7 @@ returns-in-Ok-put_told-clause-does g c =
     let as-asked = ap (λ (m : ℕ). record q { question = record q.question { opening = m == at.moves } }) (c.len.ensures h c.requires.arrived.held) in
     let flags = subst (λ (flags : List Bool). AreGoals x.program p.goals flags) (sym c.as_slice.ensures.value) p.flags in
     let w = rw (c.in-Err-written.is, c.as_ref.ensures.value) at c.in-Ok-put_told.ensures.text x.program p.goals h flags c.requires.arrived.held in
-    OutLost (named_print c.in-Ok-names_of.names x (why_not can q h x))
+    OutLost (named_print c.in-Ok-names_of.names c.args.known.places x (why_not can q h x))
     (whynot-prints c.args.why.now job _ c.args.known c.requires.known at.timeline at.moves c.requires.arrived q p.goals can as-asked (asked.0, asked.1, p.named) p.tells c.in-Ok-names_of.names c.in-Ok-names_of.ensures.ok)
     (w.err, w.fault) c.give_up-in-Err-written.ensures.told c.give_up-in-Err-written.ensures.value
 
