@@ -187,6 +187,81 @@ for compiler in $compilers; do
     (cd place/bin && ln -s "$own" linked && PATH=$PWD:$PATH && bpfdb run --entry first -m ../../frame ../../seen.o) > found/out 2>&1
     count=$((count + 1))
     [ "$(cat found/out)" = '0x1 XDP_DROP' ] || complain "by the name on the PATH: $(cat found/out)"
+
+    # Beside it in parts: those of the helpers that the program calls, and that of lookups, are joined as objects of --with are, the greatest number first. Of the whole
+    # library nothing is read; what helpers have in common is one, as the entries of the hash, which the first of two programs stores.
+    rm place/bin/bpfdb-linux.o
+    whole=place/share/bpfdb/bpfdb-linux.o in_parts=place/share/bpfdb/bpfdb-linux/parts
+    mkdir -p $in_parts
+    cp word $whole
+    for part in bpf_map_update_elem bpf_get_current_pid_tgid bpf_fib_lookup 'bpf_map_lookup_elem -DBPFDB_SHARED'; do
+        # shellcheck disable=SC2086
+        set -- $part
+        "$compiler" -target bpf -mcpu=v3 -O2 -gline-tables-only -DBPFDB_PART="$1" ${2:-} -c "$top/share/bpfdb-linux.c" -o $in_parts/"$1.o" 2> found/err || complain "$compiler: $1: $(cat found/err)"
+    done
+    cp frame context
+    object=seen.o by_itself='--entry first' said="--entry first --struct xdp --with $in_parts/bpf_map_update_elem.o --with $in_parts/bpf_map_lookup_elem.o"
+    result '0x1 XDP_DROP\n' run --entry first -m frame seen.o
+    everywhere ''
+    linked --entry first
+    result '0x2 XDP_PASS\n' run --entry first --entry first --struct xdp -m frame seen.o
+    by_itself='--entry routed' said="--entry routed --struct xdp --with $in_parts/bpf_fib_lookup.o --with $in_parts/bpf_map_lookup_elem.o"
+    row 'a route, in parts' 0 '' '0x4 XDP_REDIRECT\n' "$note" run --entry routed -m frame seen.o
+    row 'a route, in parts, --faithful' 2 '' '' "$note$faithful" run --entry routed --faithful -m frame seen.o
+    everywhere "$note"
+    row 'no parts either' 2 '' '' 'refused E50: map is a hash, and no array: seen\n' run --entry first --no-linux -m frame seen.o
+    cp word context
+    object=fields.o by_itself='--entry thread' said="--entry thread --with $in_parts/bpf_get_current_pid_tgid.o --with $in_parts/bpf_map_lookup_elem.o"
+    row 'a field and a helper, in parts' 0 '' '0x4db\n' 'fields left as compiled: 2\n' run --entry thread -m word fields.o
+    linked --entry thread
+    # What --with calls is found, too, and what it answers isn't asked of the library.
+    printf 'static unsigned long long (*current)(void) = (void *)14;\nunsigned long long bpf_ktime_get_ns(void)\n{\n\treturn (current() & 0xffff) + 1;\n}\n' > clock.c
+    printf 'static unsigned long long (*now)(void) = (void *)5;\n__attribute__((section("tp/enter"))) int asked(void *context)\n{\n\treturn now();\n}\n' > asked.c
+    printf 'unsigned long long bpf_get_current_pid_tgid(void);\n__attribute__((section("tp/enter"))) int named(void *context)\n{\n\treturn bpf_get_current_pid_tgid();\n}\n' > named.c
+    printf 'extern int LINUX_KERNEL_VERSION;\n__attribute__((section("tp/enter"))) int version(void *context)\n{\n\treturn LINUX_KERNEL_VERSION;\n}\n' > version.c
+    for name in clock asked named version; do
+        "$compiler" -g -O2 -target bpf -c $name.c 2> found/err || complain "$compiler: $name.c: $(cat found/err)"
+    done
+    result '0x4d3\n' run --with clock.o asked.o
+    # What has another name than a helper lies in the part of lookups: Linux is 6.1.0.
+    result '0x60100\n' run version.o
+    # The whole library is read where two programs run, where a helper is called by its name, where a part isn't there, as of a helper that has none, and where the
+    # folder is none. Here it is no library; then it is one.
+    none='refused E1: no ELF file (--with)\n'
+    row 'two programs, in parts' 2 '' '' "fields left as compiled: 2\n$none" diff --entry thread -m word fields.o fields.o
+    row 'a helper by its name, in parts' 2 '' '' "$none" run named.o
+    row 'a helper without a part' 2 '' '' "refused E1: no ELF file (--with)\n" run asked.o
+    mv $in_parts/bpf_map_update_elem.o kept.o
+    row 'a part that is not there' 2 '' '' "$none" run --entry first -m frame seen.o
+    mv $in_parts kept
+    row 'no folder of parts' 2 '' '' "$none" run --entry first -m frame seen.o
+    : > $in_parts
+    row 'a folder of parts that is a file' 2 '' '' "$none" run --entry first -m frame seen.o
+    cp library.o $whole
+    result '0x1 XDP_DROP\n' run --entry first -m frame seen.o
+    rm $in_parts
+    mv kept $in_parts
+    result '0x1 XDP_DROP\n' run --entry first -m frame seen.o
+    result '0x4d2000004d2\n' run named.o
+    rm $whole
+    row 'parts beside no library' 2 '' '' "$missing$lacks" run --entry first -m frame seen.o
+    cp library.o $whole
+    # A part is an object, or is refused as one is that --with names.
+    cp word $in_parts/bpf_map_update_elem.o
+    row 'a part that is no object' 2 '' '' 'refused E1: no ELF file (--with)\n' run --entry first -m frame seen.o
+    : > $in_parts/bpf_map_update_elem.o
+    row 'a part that is empty' 2 '' '' 'refused E1: no ELF file (--with)\n' run --entry first -m frame seen.o
+    mv kept.o $in_parts/bpf_map_update_elem.o
+    # What the environment names is joined as a whole.
+    export BPFDB_LINUX=word
+    row 'one that is named, beside parts' 2 '' '' "$none" run --entry first -m frame seen.o
+    BPFDB_LINUX=$in_parts
+    row 'a folder that is named' 2 '' '' "cannot read $in_parts\n" run --entry first -m frame seen.o
+    BPFDB_LINUX=$PWD/library.o
+    cp frame context
+    object=seen.o by_itself='--entry first' said='--entry first --struct xdp --with library.o'
+    linked --entry first
+    unset BPFDB_LINUX
     program=$own
     rm -r place
 

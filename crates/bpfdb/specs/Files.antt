@@ -5,6 +5,7 @@ use Rattle.std.specs.Borrow.{Bor}
 use Rattle.bpfdb_cli.specs.declared.plans.Plan.{Plan}
 use Rattle.bpfdb.specs.Contents.{Contents}
 use Rattle.bpfdb.specs.Linux.{DoesLack}
+use Rattle.bpfdb.specs.Parts.{ArePartsFor}
 use Rattle.bpfdb.specs.declared.files.FileContents.{FileContents}
 use Rattle.bpfdb.specs.declared.host.Host.{Host}
 use Rattle.bpfdb.specs.declared.linux.Linux.TheVariants.{Joined, Missing, Unneeded}
@@ -77,11 +78,13 @@ abbrev pub NamesOne : (List ℕ → Option (List ℕ)) → FileKind → List (Li
 NamesOne bytes_at kind paths fault = (n : ℕ) × (n < length paths) × (all : List (List ℕ)) × GivesFirst bytes_at kind paths n all
     × Names (get_or paths n []) fault
 
--- Where a plan is done: the bytes of files by their paths, where they are known; whether Linux's library may be joined by itself, and its path, where that is known.
+-- Where a plan is done: the bytes of files by their paths, where they are known; whether Linux's library may be joined by itself, its path
+-- and the folder of its parts, where those are known.
 pub record World : Type 0 where
   pub bytes_at : List ℕ → Option (List ℕ)
   pub wants_linux : Bool
   pub linux : Option (List ℕ)
+  pub parts : Option (List ℕ)
   pub at_terminal : Bool
 
 abbrev pub world_of : {F : Type 0} → (F → List ℕ → Option (List ℕ)) → Host F → World
@@ -89,6 +92,7 @@ world_of bytes_at host = record {
   bytes_at = bytes_at host.files.now;
   wants_linux = host.wants_linux;
   linux = option_map (λ path. path.now) host.linux;
+  parts = option_map (λ path. path.now) host.parts;
   at_terminal = host.at_terminal;
 }
 
@@ -109,7 +113,8 @@ pub record AreGiven (bytes_at : List ℕ → Option (List ℕ)) (plan : Plan) (o
   pub with : GivesFirst bytes_at Source (texts plan.target.with.items) (length plan.target.with.items) of.with
   pub linux : of.linux ≡ Unneeded
 
--- Linux's library stands behind the objects with functions where it is wanted, something lacks it and there is one.
+-- Linux's library stands behind the objects with functions where it is wanted, something lacks it and there is one: those of its parts that the program
+-- calls, where they are known and can be read; else the whole library.
 abbrev pub LacksWhere : Bool → Plan → Contents → Bool → Type 0
 LacksWhere false plan of lacks = lacks ≡ false
 LacksWhere true plan of lacks = DoesLack plan of lacks
@@ -117,10 +122,18 @@ LacksWhere true plan of lacks = DoesLack plan of lacks
 abbrev pub LacksIn : World → Plan → Contents → Bool → Type 0
 LacksIn world plan of lacks = LacksWhere world.wants_linux plan of lacks
 
+-- Parts of it are known.
+pub record HasParts (world : World) (plan : Plan) (of : Contents) (parts : List (List ℕ)) : Type 0 where
+  pub folder : List ℕ
+  pub known : world.parts ≡ Some folder
+  pub parts_are : ArePartsFor world.bytes_at folder plan of parts
+
 pub data AreRead (world : World) (plan : Plan) (of : Contents) : Type 0 where
   Whole : AreGiven world.bytes_at plan of → LacksIn world plan of false → AreRead world plan of
   Alone : (given : Contents) → AreGiven world.bytes_at plan given → LacksIn world plan given true → world.linux ≡ None
       → of ≡ record given { linux = Missing } → AreRead world plan of
+  InParts : (given : Contents) → AreGiven world.bytes_at plan given → LacksIn world plan given true → (parts : List (List ℕ))
+      → HasParts world plan given parts → of ≡ record given { with = given.with ++ parts; linux = Joined } → AreRead world plan of
   Completed : (given : Contents) → AreGiven world.bytes_at plan given → LacksIn world plan given true → (path : List ℕ) → world.linux ≡ Some path
       → (library : List ℕ) → Gives Source (world.bytes_at path) (Some library)
       → of ≡ record given { with = given.with ++ library ∷ []; linux = Joined } → AreRead world plan of

@@ -10,3 +10,4 @@ pub mod Jobs
 pub mod Kinds
 pub mod Telling
 pub mod Words
+pub mod Parts

@@ -1,9 +1,9 @@
 //! FILE, PATH and the other file: files by their names.
-ghost use Rattle.std.specs.Prelude.{◌≡◌, [], ◌∷◌, ◌++◌, IfErr, IfOk, Some, length};
+ghost use Rattle.std.specs.Prelude.{◌≡◌, [], ◌∷◌, ◌++◌, IfErr, IfOk, IfSome, Some, true, length};
 ghost use Rattle.bpfdb.specs.declared.linux.Linux.TheVariants.{Joined};
 ghost use Rattle.bpfdb_faults.specs.declared.fault.JobFault.TheVariants.{Memory};
 ghost use Rattle.bpfdb.specs.Contents.{contents_in};
-ghost use Rattle.bpfdb.specs.Files.{AreGiven, AreRead, GivesFirst, GivesNamed, IsFileOf, IsUnread, Names, NamesGiven, NamesOne, context_kind, is_whole, kind_of, read_of, world_of};
+ghost use Rattle.bpfdb.specs.Files.{AreGiven, AreRead, GivesFirst, GivesNamed, IsFileOf, HasParts, IsUnread, LacksIn, Names, NamesGiven, NamesOne, context_kind, is_whole, kind_of, read_of, world_of};
 ghost use Rattle.bpf_load.specs.Targets.{contents, texts};
 ghost use Rattle.bpfdb_files.specs.Reading.{Gives};
 
@@ -11,6 +11,7 @@ use crate::host::Host;
 use crate::job::Bytes;
 use crate::kind::source_kind;
 use crate::linux::{Linux, lacks_linux};
+use crate::parts::parts_for;
 use bpf_load::SourceKind;
 use bpfdb_cli::Plan;
 use bpfdb_faults::JobFault;
@@ -105,6 +106,41 @@ fn completed<'a, F: Opener>(
     if !host.wants_linux || !lacks_linux(alloc, plan, &given.bytes()) {
         return Ok(given);
     }
+    match known_parts(alloc, host, plan, &given) {
+        Some(parts) => with_parts(given, parts),
+        None => with_whole(alloc, host, plan, given),
+    }
+}
+
+/// The parts of Linux's library that are joined, where they are known and can be read.
+fn known_parts<'a, F: Opener>(
+    alloc: Global,
+    host: &Host<'a, F>,
+    plan: &Plan<'a>,
+    given: &FileContents,
+) -> Option<Vec<Vec<u8>>>
+    ensures { IfSome result (λ parts. HasParts (world_of F.bytes_at host.now) plan.now
+        (read_of given.now) (contents parts.items)) }
+{
+    match host.parts {
+        Some(folder) => parts_for(alloc, host.files, folder, plan, &given.bytes()),
+        None => None,
+    }
+}
+
+/// What was read, which lacks Linux's library, with all of it behind the objects with functions, where
+/// there is one.
+fn with_whole<'a, F: Opener>(
+    alloc: Global,
+    host: &Host<'a, F>,
+    plan: &Plan<'a>,
+    given: FileContents,
+) -> Result<FileContents, JobFault<'a>>
+    requires given { AreGiven (F.bytes_at host.now.files.now) plan.now (read_of given) }
+    requires lacks { LacksIn (world_of F.bytes_at host.now) plan.now (read_of given) true }
+    ensures ok { IfOk result (λ read. AreRead (world_of F.bytes_at host.now) plan.now (read_of read)) }
+    ensures err { IfErr result (IsUnread (world_of F.bytes_at host.now) plan.now) }
+{
     let Some(path) = host.linux else {
         return Ok(FileContents {
             linux: Linux::Missing,
@@ -133,6 +169,36 @@ fn with_library<'a>(given: FileContents, library: Vec<u8>) -> Result<FileContent
             linux: Linux::Joined,
         }),
         Err(_) => Err(JobFault::Memory),
+    }
+}
+
+/// What was read, with the parts of a library behind the objects with functions.
+fn with_parts<'a>(given: FileContents, parts: Vec<Vec<u8>>) -> Result<FileContents, JobFault<'a>>
+    ensures ok { IfOk result (λ read. read_of read ≡ record (read_of given) {
+      with = (read_of given).with ++ contents parts.items;
+      linux = Joined;
+    }) }
+    ensures err { IfErr result (λ fault. fault ≡ Memory) }
+{
+    match with_others(given.with, parts) {
+        Some(with) => Ok(FileContents {
+            file: given.file,
+            context: given.context,
+            other: given.other,
+            with,
+            linux: Linux::Joined,
+        }),
+        None => Err(JobFault::Memory),
+    }
+}
+
+/// Objects with others behind them; None where memory ran out.
+fn with_others(mut objects: Vec<Vec<u8>>, mut others: Vec<Vec<u8>>) -> Option<Vec<Vec<u8>>>
+    ensures { IfSome result (λ all. contents all.items ≡ contents objects.items ++ contents others.items) }
+{
+    match objects.append(&mut others) {
+        Ok(()) => Some(objects),
+        Err(_) => None,
     }
 }
 

@@ -9,6 +9,8 @@ pub struct Host<'a, F> {
     pub wants_linux: bool,
     /// The path of that library, where one is known.
     pub linux: Option<&'a str>,
+    /// The folder of its parts, where one is known.
+    pub parts: Option<&'a str>,
     /// Standard error is a terminal.
     pub at_terminal: bool,
 }

@@ -5,7 +5,10 @@ use std::{env, fs};
 const VARIABLE: &str = "BPFDB_LINUX";
 
 /// Where it lies else, from the folder of the program on: beside it, or as it is installed.
-const PLACES: [&str; 2] = ["bpfdb-linux.o", "../share/bpfdb/bpfdb-linux.o"];
+const PLACES: [&str; 2] = ["bpfdb-linux", "../share/bpfdb/bpfdb-linux"];
+
+/// How its path ends, as a whole; its parts lie in a folder beside it.
+const OBJECT: &str = ".o";
 
 /// What is known of it.
 #[derive(Drop)]
@@ -14,6 +17,8 @@ pub struct Library {
     pub is_wanted: bool,
     /// Its path, where one is known.
     pub path: Option<String>,
+    /// The folder of its parts, where one is known: that of the program's own library alone.
+    pub parts: Option<String>,
 }
 
 impl Library {
@@ -21,10 +26,7 @@ impl Library {
     pub fn of(rt: &HostRuntime) -> Library {
         match env::var(rt, VARIABLE) {
             Ok(path) => Library::named(path),
-            Err(_) => Library {
-                is_wanted: true,
-                path: path_beside(rt),
-            },
+            Err(_) => Library::beside(rt),
         }
     }
 
@@ -36,6 +38,7 @@ impl Library {
             Library {
                 is_wanted: true,
                 path: Some(path),
+                parts: None,
             }
         }
     }
@@ -45,6 +48,25 @@ impl Library {
         Library {
             is_wanted: false,
             path: None,
+            parts: None,
+        }
+    }
+
+    /// The one that belongs to the program, where there is one.
+    fn beside(rt: &HostRuntime) -> Library {
+        let place = place_beside(rt);
+        let parts = match &place {
+            Some(place) => ended(rt, place.as_str(), "/parts"),
+            None => None,
+        };
+        let path = match &place {
+            Some(place) => ended(rt, place.as_str(), OBJECT),
+            None => None,
+        };
+        Library {
+            is_wanted: true,
+            path,
+            parts,
         }
     }
 
@@ -55,10 +77,18 @@ impl Library {
             None => None,
         }
     }
+
+    /// The folder of its parts, lent.
+    pub fn parts(&self) -> Option<&str> {
+        match &self.parts {
+            Some(parts) => Some(parts.as_str()),
+            None => None,
+        }
+    }
 }
 
-/// The path of the one that belongs to the program, where there is one.
-fn path_beside(rt: &HostRuntime) -> Option<String> {
+/// Where the one lies that belongs to the program, where there is one: its path without its end.
+fn place_beside(rt: &HostRuntime) -> Option<String> {
     let Ok(program) = env::current_exe(rt) else {
         return None;
     };
@@ -67,15 +97,31 @@ fn path_beside(rt: &HostRuntime) -> Option<String> {
     };
     for place in PLACES {
         match format!(in rt.alloc(); "{}/{place}", folder.as_str()) {
-            Ok(path) => {
-                if is_there(rt, path.as_str()) {
-                    return Some(path);
+            Ok(place) => {
+                if is_library(rt, place.as_str()) {
+                    return Some(place);
                 }
             }
             Err(_) => return None,
         }
     }
     None
+}
+
+/// Whether a library lies in a place.
+fn is_library(rt: &HostRuntime, place: &str) -> bool {
+    match ended(rt, place, OBJECT) {
+        Some(path) => is_there(rt, path.as_str()),
+        None => false,
+    }
+}
+
+/// A place with this end; None where memory ran out.
+fn ended(rt: &HostRuntime, place: &str, end: &str) -> Option<String> {
+    match format!(in rt.alloc(); "{place}{end}") {
+        Ok(path) => Some(path),
+        Err(_) => None,
+    }
 }
 
 /// Whether there is a file of a path, and it can be read.

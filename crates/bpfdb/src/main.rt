@@ -20,6 +20,7 @@ mod linux;
 mod notes;
 mod opening;
 mod output;
+mod parts;
 mod prompt;
 mod telling;
 mod tests;
@@ -176,6 +177,7 @@ fn do_over_streams<F: Opener>(
         files,
         wants_linux: library.is_wanted,
         linux: library.path(),
+        parts: library.parts(),
         at_terminal: rt.stderr().is_terminal(),
     };
     let mut input = Retrying::new(rt.reader());
