@@ -11,8 +11,8 @@ use crate::files::read_named;
 use crate::job::{Bytes, job_of};
 use crate::kind::runs_two;
 use bpf_link::{
-    Plan as Planned, SymbolEntry, calls_helper, helper_name, is_called, planned,
-    reached_code, symbol_place,
+    Plan as Planned, SymbolEntry, calls_helper, helper_name, is_called, planned, reached_code,
+    symbol_place,
 };
 use bpf_load::gathered;
 use bpfdb_cli::Plan;
