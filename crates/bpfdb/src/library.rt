@@ -1,4 +1,6 @@
 //! Where Linux's library of helpers lies.
+ghost use Rattle.std.specs.Prelude.{◌≡◌, None, false, option_map, string_bytes};
+
 use std::{env, fs};
 
 /// The variable of the environment that names it. Where it is set to nothing, none is joined by itself.
@@ -13,12 +15,14 @@ pub struct Library {
     /// It may be joined by itself.
     pub is_wanted: bool,
     /// Its path, where one is known.
-    pub path: Option<String>,
+    path: Option<String>,
 }
 
 impl Library {
     /// The library of this system.
-    pub fn of(rt: &HostRuntime) -> Library {
+    pub fn of(rt: &HostRuntime) -> Library
+        ensures { result.is_wanted ≡ false → result.path ≡ None }
+    {
         match env::var(rt, VARIABLE) {
             Ok(path) => Library::named(path),
             Err(_) => Library {
@@ -29,7 +33,9 @@ impl Library {
     }
 
     /// The one of this path; none where it is empty.
-    fn named(path: String) -> Library {
+    fn named(path: String) -> Library
+        ensures { result.is_wanted ≡ false → result.path ≡ None }
+    {
         if path.is_empty() {
             Library::none()
         } else {
@@ -41,7 +47,10 @@ impl Library {
     }
 
     /// None.
-    pub fn none() -> Library {
+    pub fn none() -> Library
+        ensures wanted { result.is_wanted ≡ false }
+        ensures path { result.path ≡ None }
+    {
         Library {
             is_wanted: false,
             path: None,
@@ -49,7 +58,9 @@ impl Library {
     }
 
     /// Its path, lent.
-    pub fn path(&self) -> Option<&str> {
+    pub fn path(&self) -> Option<&str>
+        ensures { option_map (λ path. path.now) result ≡ option_map string_bytes self.now.path }
+    {
         match &self.path {
             Some(path) => Some(path.as_str()),
             None => None,

@@ -4,10 +4,11 @@ ghost use Rattle.bpf_load.specs.Targets.{Loads};
 ghost use Rattle.bpf_session.specs.Plain.{plain_end};
 ghost use Rattle.bpfdb_jobs.specs.Endings.{EndsPrinted};
 ghost use Rattle.bpfdb_options.specs.declared.ask.Ask.TheVariants.{Run};
-ghost use Rattle.bpfdb_faults.specs.Streams.{stream};
+ghost use Rattle.bpfdb_jobs.specs.Streams.{between};
 
 use crate::job::Job;
 use crate::result::write_result;
+use crate::streams::Streams;
 use crate::strict::{strict_machine, tell_unwritten};
 use bpf_load::Loaded;
 use bpf_machine::{Cpu, Status};
@@ -24,29 +25,30 @@ pub fn run_job<W: Write, E: Write>(
     job: &Job<'_>,
     is_strict: bool,
     loaded: Loaded,
-    writer: &mut Counted<W>,
-    errors: &mut Counted<E>,
+    streams: &mut Streams<W, E>,
 ) -> u8
     requires loaded { Loads job.now.target job.now.file.now loaded }
-    ensures does { EndsPrinted (Run is_strict) job.now (stream W.contents writer.old writer.new)
-        (stream E.contents errors.old errors.new) result }
+    ensures does { EndsPrinted (Run is_strict) job.now (between W.contents E.contents streams.old streams.new) result }
     ensures status { result ≤ 2 }
 {
     let mut strict = match strict_machine(alloc, job, is_strict, loaded.program) {
         Ok(strict) => strict,
-        Err(refusal) => return give_up(errors, &JobFault::Refused(refusal)),
+        Err(refusal) => return give_up(&mut streams.errors, &JobFault::Refused(refusal)),
     };
     match strict.unwritten {
-        Some(read) => return told_as(tell_unwritten(errors, &read), 1),
+        Some(read) => return told_as(tell_unwritten(&mut streams.errors, &read), 1),
         None => {}
     }
     run_quietly(&mut strict.cpu, job.options.limit);
     match strict.cpu.status() {
-        Status::Exited => ended(write_result(writer, &job.target, &strict.cpu), errors),
-        Status::Faulted(_) => told_as(tell_place(errors, &strict.cpu), 1),
+        Status::Exited => ended(
+            write_result(&mut streams.output, &job.target, &strict.cpu),
+            &mut streams.errors,
+        ),
+        Status::Faulted(_) => told_as(tell_place(&mut streams.errors, &strict.cpu), 1),
         Status::Running => {
             let limit = JobFault::StepLimit(job.options.limit, strict.cpu.pc());
-            told_as(tell(errors, &limit), 1)
+            told_as(tell(&mut streams.errors, &limit), 1)
         }
     }
 }
