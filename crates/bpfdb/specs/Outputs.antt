@@ -3,21 +3,17 @@ use Rattle.std.specs.Prelude.{ℕ, ◌≡◌, ◌≢◌, List, [], Vec, Some, co
 use Rattle.std.specs.declared.alloc.Global.{Global}
 use Rattle.bpfdb_cli.specs.declared.plans.Plan.{Plan}
 use Rattle.bpfdb_faults.specs.Faults.{file_line, line_of}
-use Rattle.bpfdb_faults.specs.Streams.{Gets, Loses, Spared, Stream, Told}
+use Rattle.bpfdb_faults.specs.Streams.{Gets, Loses, Stream, Told}
 use Rattle.bpfdb_faults.specs.declared.fault.JobFault.TheVariants.{Memory}
 use Rattle.bpfdb.specs.Done.{DoesPlan}
 use Rattle.bpfdb.specs.Files.{World}
+use Rattle.bpfdb.specs.Telling.{AreHeld}
+use Rattle.bpfdb_jobs.specs.Streams.{Outputs}
 
--- The plan was done over writers in memory, which took all of it: so it prints this text, and this on standard error.
-pub record PrintsInMemory {R : Type 0} (world : World) (plan : Plan) (reader : Stream R) (text err : List ℕ) (status : ℕ) : Type 0 where
-  pub out : Stream (Vec ℕ Global)
-  pub told : Stream (Vec ℕ Global)
-  pub does : DoesPlan world plan reader out told status
-  pub empty : out.bytes out.old.inner ≡ Some []
-  pub printed : out.bytes out.new.inner ≡ Some text
-  pub quiet : told.bytes told.old.inner ≡ Some []
-  pub said : told.bytes told.new.inner ≡ Some err
-  pub spared : Spared out × Spared told
+-- The plan was done over two streams in memory, which took all of it: so it prints this text, and this on standard error.
+abbrev pub PrintsInMemory : {R : Type 0} → World → Plan → Stream R → List ℕ → List ℕ → ℕ → Type 0
+PrintsInMemory world plan reader text err status =
+    (s : Outputs (Vec ℕ Global) (Vec ℕ Global)) × DoesPlan world plan reader s status × AreHeld s text err
 
 -- The file of a path takes an output where all went well, and then standard error what was told; or that it can't be written is told alone. Where not
 -- all went well the file is as it was.
@@ -34,5 +30,5 @@ pub data DoesForFile {R W E : Type 0} (world : World) (plan : Plan) (path : List
     : Type 0 where
   Does : (text err : List ℕ) → (done : ℕ) → PrintsInMemory world plan reader text err done → EndsForFile path text err done file errors status
       → DoesForFile world plan path reader file errors status
-  Exhausted : (out told : Stream (Vec ℕ Global)) → (done : ℕ) → DoesPlan world plan reader out told done
+  Exhausted : (memory : Outputs (Vec ℕ Global) (Vec ℕ Global)) → (done : ℕ) → DoesPlan world plan reader memory done
       → file.new ≡ file.old → Told errors (line_of Memory) → status ≡ 2 → DoesForFile world plan path reader file errors status

@@ -8,6 +8,7 @@ use Rattle.bpfdb_faults.specs.Faults.{line_of}
 use Rattle.bpfdb_faults.specs.Streams.{Gets, Loses, Spared, Stream, Told}
 use Rattle.bpfdb_faults.specs.declared.fault.JobFault.TheVariants.{Memory, Output}
 use Rattle.bpfdb_jobs.specs.Done.{DoesJob}
+use Rattle.bpfdb_jobs.specs.Streams.{Outputs}
 use Rattle.bpfdb_jobs.specs.declared.job.Job.{Job}
 use Rattle.bpfdb_options.specs.declared.ask.Ask.{Ask}
 use Rattle.bpfdb_options.specs.declared.ask.Ask.TheVariants as ask
@@ -42,32 +43,33 @@ abbrev pub told_in : Telling → List ℕ → List ℕ
 told_in (Json answer) text = json_of answer text
 told_in Graph text = dot_of text
 
--- The job was done over writers in memory, which took all of it: so it prints this text, and this on standard error.
-pub record TellsInMemory {R : Type 0} (job : Job) (reader : Stream R) (text err : List ℕ) (status : ℕ) : Type 0 where
-  pub out : Stream (Vec ℕ Global)
-  pub told : Stream (Vec ℕ Global)
-  pub does : DoesJob job.ask job reader out told status
-  pub empty : out.bytes out.old.inner ≡ Some []
-  pub printed : out.bytes out.new.inner ≡ Some text
-  pub quiet : told.bytes told.old.inner ≡ Some []
-  pub said : told.bytes told.new.inner ≡ Some err
-  pub spared : Spared out × Spared told
+-- Two streams in memory took all that was written: this text, and this on standard error.
+pub record AreHeld (s : Outputs (Vec ℕ Global) (Vec ℕ Global)) (text err : List ℕ) : Type 0 where
+  pub empty : s.output.bytes s.output.old.inner ≡ Some []
+  pub printed : s.output.bytes s.output.new.inner ≡ Some text
+  pub quiet : s.errors.bytes s.errors.old.inner ≡ Some []
+  pub said : s.errors.bytes s.errors.new.inner ≡ Some err
+  pub spared : Spared s.output × Spared s.errors
+
+-- A job was done over two of them: so it prints this text, and this on standard error.
+abbrev pub TellsInMemory : {R : Type 0} → Job → Stream R → List ℕ → List ℕ → ℕ → Type 0
+TellsInMemory job reader text err status =
+    (s : Outputs (Vec ℕ Global) (Vec ℕ Global)) × DoesJob job.ask job reader s status × AreHeld s text err
 
 -- An output is written, and then what was told on standard error; or one of them is lost.
-pub data EndsRetold {W E : Type 0} (output err : List ℕ) (done : ℕ) (writer : Stream W) (errors : Stream E) (status : ℕ) : Type 0 where
-  Written : Gets writer (Some output) → Gets errors (Some err) → status ≡ done → EndsRetold output err done writer errors status
-  OutLost : Loses writer (Some output) → Told errors (line_of Output) → status ≡ 2 → EndsRetold output err done writer errors status
-  ErrLost : Gets writer (Some output) → Loses errors (Some err) → status ≡ 2 → EndsRetold output err done writer errors status
+pub data EndsRetold {W E : Type 0} (output err : List ℕ) (done : ℕ) (s : Outputs W E) (status : ℕ) : Type 0 where
+  Written : Gets s.output (Some output) → Gets s.errors (Some err) → status ≡ done → EndsRetold output err done s status
+  OutLost : Loses s.output (Some output) → Told s.errors (line_of Output) → status ≡ 2 → EndsRetold output err done s status
+  ErrLost : Gets s.output (Some output) → Loses s.errors (Some err) → status ≡ 2 → EndsRetold output err done s status
 
 -- What the job prints is told in a form; or memory ran out for that, and nothing is written.
-pub data Retells {R W E : Type 0} (telling : Telling) (job : Job) (reader : Stream R) (writer : Stream W) (errors : Stream E) (status : ℕ)
-    : Type 0 where
-  Tells : (text err : List ℕ) → (done : ℕ) → TellsInMemory job reader text err done
-      → EndsRetold (told_in telling text) err done writer errors status → Retells telling job reader writer errors status
-  Exhausted : (out told : Stream (Vec ℕ Global)) → (done : ℕ) → DoesJob job.ask job reader out told done
-      → writer.new ≡ writer.old → Told errors (line_of Memory) → status ≡ 2 → Retells telling job reader writer errors status
+pub data Retells {R W E : Type 0} (telling : Telling) (job : Job) (reader : Stream R) (s : Outputs W E) (status : ℕ) : Type 0 where
+  Tells : (text err : List ℕ) → (done : ℕ) → TellsInMemory job reader text err done → EndsRetold (told_in telling text) err done s status
+      → Retells telling job reader s status
+  Exhausted : (memory : Outputs (Vec ℕ Global) (Vec ℕ Global)) → (done : ℕ) → DoesJob job.ask job reader memory done
+      → s.output.new ≡ s.output.old → Told s.errors (line_of Memory) → status ≡ 2 → Retells telling job reader s status
 
 -- A job is done as it is, or its answer told in another form.
-abbrev pub DoesTold : {R W E : Type 0} → Option Telling → Job → Stream R → Stream W → Stream E → ℕ → Type 0
-DoesTold None job reader writer errors status = DoesJob job.ask job reader writer errors status
-DoesTold (Some telling) job reader writer errors status = Retells telling job reader writer errors status
+abbrev pub DoesTold : {R W E : Type 0} → Option Telling → Job → Stream R → Outputs W E → ℕ → Type 0
+DoesTold None job reader s status = DoesJob job.ask job reader s status
+DoesTold (Some telling) job reader s status = Retells telling job reader s status

@@ -6,6 +6,7 @@ ghost use Rattle.bpfdb.specs.Files.{world_of};
 ghost use Rattle.bpfdb.specs.Jobs.{IsJobOf};
 ghost use Rattle.bpfdb.specs.Telling.{DoesTold};
 ghost use Rattle.bpfdb_jobs.specs.declared.job.Job.{Job};
+ghost use Rattle.bpfdb_jobs.specs.Streams.{between};
 ghost use Rattle.bpfdb_limits.specs.Limits.{IsLimit};
 ghost use Rattle.counted_io.specs.Writing.{Writes};
 ghost use Rattle.bpfdb_faults.specs.Streams.{stream};
@@ -22,7 +23,7 @@ use crate::tests::{asks_tests, lent, library_of, place_of, refuse_tests};
 use bpfdb_cli::Plan;
 use bpfdb_faults::{JobFault, JobRefusal, KindFault, give_up};
 use bpfdb_files::Opener;
-use bpfdb_jobs::{Job, add_hint, tool};
+use bpfdb_jobs::{Job, Streams, add_hint, tool};
 use bpfdb_options::TestAsk;
 use clap::Error;
 use counted_io::{Counted, WriteFault, write_text};
@@ -38,18 +39,16 @@ pub fn do_plan<'a, F: Opener, R: Read, W: Write, E: Write>(
     host: &Host<'a, F>,
     plan: &Plan<'a>,
     reader: &mut Counted<R>,
-    writer: &mut Counted<W>,
-    errors: &mut Counted<E>,
+    streams: &mut Streams<W, E>,
 ) -> u8
     requires limit { IsLimit plan.now.options.limit }
     ensures does { DoesPlan (world_of F.bytes_at host.now) plan.now
-        (stream R.remaining reader.old reader.new) (stream W.contents writer.old writer.new)
-        (stream E.contents errors.old errors.new) result }
+        (stream R.remaining reader.old reader.new) (between W.contents E.contents streams.old streams.new) result }
     ensures status { result ≤ 2 }
 {
     match read_all(alloc, host, plan) {
-        Ok(read) => do_read(alloc, host, plan, &read.bytes(), reader, writer, errors),
-        Err(fault) => give_up(errors, &fault),
+        Ok(read) => do_read(alloc, host, plan, &read.bytes(), reader, streams),
+        Err(fault) => give_up(&mut streams.errors, &fault),
     }
 }
 
@@ -61,22 +60,20 @@ fn do_read<F: Opener, R: Read, W: Write, E: Write>(
     plan: &Plan<'_>,
     bytes: &Bytes<'_>,
     reader: &mut Counted<R>,
-    writer: &mut Counted<W>,
-    errors: &mut Counted<E>,
+    streams: &mut Streams<W, E>,
 ) -> u8
     requires limit { IsLimit plan.now.options.limit }
     ensures does { DoesRead (world_of F.bytes_at host.now) plan.now (contents_in bytes.now)
-        (stream R.remaining reader.old reader.new) (stream W.contents writer.old writer.new)
-        (stream E.contents errors.old errors.new) result }
+        (stream R.remaining reader.old reader.new) (between W.contents E.contents streams.old streams.new) result }
     ensures status { result ≤ 2 }
 {
     let contexts = match contexts_of(alloc, plan, bytes) {
         Ok(contexts) => contexts,
-        Err(fault) => return refuse_context(&fault, errors),
+        Err(fault) => return refuse_context(&fault, &mut streams.errors),
     };
-    say_contexts(&contexts, errors);
+    say_contexts(&contexts, &mut streams.errors);
     let bytes = with_contexts(bytes, &contexts);
-    do_replaced(alloc, host, plan, &bytes, reader, writer, errors)
+    do_replaced(alloc, host, plan, &bytes, reader, streams)
 }
 
 /// Does a plan with the bytes of its files: over FILE, or over the file of tests in which what
@@ -87,18 +84,16 @@ fn do_replaced<F: Opener, R: Read, W: Write, E: Write>(
     plan: &Plan<'_>,
     bytes: &Bytes<'_>,
     reader: &mut Counted<R>,
-    writer: &mut Counted<W>,
-    errors: &mut Counted<E>,
+    streams: &mut Streams<W, E>,
 ) -> u8
     requires limit { IsLimit plan.now.options.limit }
     ensures does { DoesReplaced (world_of F.bytes_at host.now) plan.now (contents_in bytes.now)
-        (stream R.remaining reader.old reader.new) (stream W.contents writer.old writer.new)
-        (stream E.contents errors.old errors.new) result }
+        (stream R.remaining reader.old reader.new) (between W.contents E.contents streams.old streams.new) result }
     ensures status { result ≤ 2 }
 {
     match asks_tests(&plan.ask) {
-        Some(ask) => do_tests(alloc, host, plan, &ask, bytes, reader, writer, errors),
-        None => do_job(alloc, plan, bytes, host.at_terminal, reader, writer, errors),
+        Some(ask) => do_tests(alloc, host, plan, &ask, bytes, reader, streams),
+        None => do_job(alloc, plan, bytes, host.at_terminal, reader, streams),
     }
 }
 
@@ -112,35 +107,25 @@ fn do_tests<F: Opener, R: Read, W: Write, E: Write>(
     ask: &TestAsk<'_>,
     bytes: &Bytes<'_>,
     reader: &mut Counted<R>,
-    writer: &mut Counted<W>,
-    errors: &mut Counted<E>,
+    streams: &mut Streams<W, E>,
 ) -> u8
     requires limit { IsLimit plan.now.options.limit }
     requires tests { asks_tests plan.now.ask ≡ Some ask.now }
     ensures does { DoesReplaced (world_of F.bytes_at host.now) plan.now (contents_in bytes.now)
-        (stream R.remaining reader.old reader.new) (stream W.contents writer.old writer.new)
-        (stream E.contents errors.old errors.new) result }
+        (stream R.remaining reader.old reader.new) (between W.contents E.contents streams.old streams.new) result }
     ensures status { result ≤ 2 }
 {
     let library = library_of(alloc, host);
     let place = place_of(plan.file, ask, lent(&library));
     let tests = match replaced(alloc, host.files, &place, bytes.file) {
         Ok(tests) => tests,
-        Err(fault) => return refuse_tests(&fault, errors),
+        Err(fault) => return refuse_tests(&fault, &mut streams.errors),
     };
     let tested = Bytes {
         file: tests.as_slice(),
         ..*bytes
     };
-    do_job(
-        alloc,
-        plan,
-        &tested,
-        host.at_terminal,
-        reader,
-        writer,
-        errors,
-    )
+    do_job(alloc, plan, &tested, host.at_terminal, reader, streams)
 }
 
 /// Does the job of a plan, with the bytes of its files.
@@ -150,29 +135,21 @@ fn do_job<R: Read, W: Write, E: Write>(
     bytes: &Bytes<'_>,
     at_terminal: bool,
     reader: &mut Counted<R>,
-    writer: &mut Counted<W>,
-    errors: &mut Counted<E>,
+    streams: &mut Streams<W, E>,
 ) -> u8
     requires limit { IsLimit plan.now.options.limit }
     ensures does { (job : Job) × IsJobOf plan.now (contents_in bytes.now) job
         × DoesFitting at_terminal plan.now (contents_in bytes.now) job
-        (stream R.remaining reader.old reader.new) (stream W.contents writer.old writer.new)
-        (stream E.contents errors.old errors.new) result }
+        (stream R.remaining reader.old reader.new) (between W.contents E.contents streams.old streams.new) result }
     ensures status { result ≤ 2 }
 {
     let job = job_of(alloc, plan, bytes);
     match misfit_of(&job) {
-        Some(why) => give_up(errors, &JobFault::Refused(JobRefusal::Kind(why))),
-        None => noted_tool(
-            alloc,
-            plan,
-            bytes,
-            &job,
-            at_terminal,
-            reader,
-            writer,
-            errors,
+        Some(why) => give_up(
+            &mut streams.errors,
+            &JobFault::Refused(JobRefusal::Kind(why)),
         ),
+        None => noted_tool(alloc, plan, bytes, &job, at_terminal, reader, streams),
     }
 }
 
@@ -185,29 +162,19 @@ fn noted_tool<R: Read, W: Write, E: Write>(
     job: &Job<'_>,
     at_terminal: bool,
     reader: &mut Counted<R>,
-    writer: &mut Counted<W>,
-    errors: &mut Counted<E>,
+    streams: &mut Streams<W, E>,
 ) -> u8
     requires limit { IsLimit job.now.options.limit }
     ensures does { DoesNoted at_terminal plan.now (contents_in bytes.now) job.now
-        (stream R.remaining reader.old reader.new) (stream W.contents writer.old writer.new)
-        (stream E.contents errors.old errors.new) result }
+        (stream R.remaining reader.old reader.new) (between W.contents E.contents streams.old streams.new) result }
     ensures status { result ≤ 2 }
 {
-    let unlike = say_notes(alloc, plan, job, bytes, errors);
+    let unlike = say_notes(alloc, plan, job, bytes, &mut streams.errors);
     if plan.target.is_faithful && unlike {
         let why = JobRefusal::Kind(KindFault::Unfaithful);
-        give_up(errors, &JobFault::Refused(why))
+        give_up(&mut streams.errors, &JobFault::Refused(why))
     } else {
-        hinted_tool(
-            alloc,
-            telling_of(plan),
-            job,
-            at_terminal,
-            reader,
-            writer,
-            errors,
-        )
+        hinted_tool(alloc, telling_of(plan), job, at_terminal, reader, streams)
     }
 }
 
@@ -218,16 +185,15 @@ fn hinted_tool<R: Read, W: Write, E: Write>(
     job: &Job<'_>,
     at_terminal: bool,
     reader: &mut Counted<R>,
-    writer: &mut Counted<W>,
-    errors: &mut Counted<E>,
+    streams: &mut Streams<W, E>,
 ) -> u8
     requires limit { IsLimit job.now.options.limit }
     ensures does { DoesHinted at_terminal telling job.now (stream R.remaining reader.old reader.new)
-        (stream W.contents writer.old writer.new) (stream E.contents errors.old errors.new) result }
+        (between W.contents E.contents streams.old streams.new) result }
     ensures status { result ≤ 2 }
 {
-    let status = told_tool(alloc, telling, job, reader, writer, errors);
-    add_hint(alloc, job, at_terminal, status, errors);
+    let status = told_tool(alloc, telling, job, reader, streams);
+    add_hint(alloc, job, at_terminal, status, &mut streams.errors);
     status
 }
 
@@ -237,17 +203,16 @@ fn told_tool<R: Read, W: Write, E: Write>(
     telling: Option<Telling>,
     job: &Job<'_>,
     reader: &mut Counted<R>,
-    writer: &mut Counted<W>,
-    errors: &mut Counted<E>,
+    streams: &mut Streams<W, E>,
 ) -> u8
     requires limit { IsLimit job.now.options.limit }
     ensures does { DoesTold telling job.now (stream R.remaining reader.old reader.new)
-        (stream W.contents writer.old writer.new) (stream E.contents errors.old errors.new) result }
+        (between W.contents E.contents streams.old streams.new) result }
     ensures status { result ≤ 2 }
 {
     match telling {
-        Some(telling) => retold_tool(alloc, telling, job, reader, writer, errors),
-        None => tool(alloc, job, reader, writer, errors),
+        Some(telling) => retold_tool(alloc, telling, job, reader, streams),
+        None => tool(alloc, job, reader, streams),
     }
 }
 

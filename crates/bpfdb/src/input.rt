@@ -1,4 +1,6 @@
 //! Standard input: whether there is one.
+ghost use Rattle.std.specs.Io.KnownBytes.{Keeps};
+
 use std::fs;
 use std::io::Read;
 
@@ -10,8 +12,10 @@ const NULL_DEVICE: &str = "/dev/null";
 
 /// Whether a reader's descriptor, the lowest of all, is closed, and not open for something else
 /// than reading. Both fail alike at each read; but a file that is opened then takes the place of a
-/// closed one, and can be read there.
-pub fn is_closed<R: Read>(rt: &HostRuntime, input: &mut R) -> bool {
+/// closed one, and can be read there. Its bytes stay.
+pub fn is_closed<R: Read>(rt: &HostRuntime, input: &mut R) -> bool
+    ensures { Keeps (R.remaining input.old) (R.remaining input.new) }
+{
     if can_read(input) {
         return false;
     }
@@ -27,7 +31,9 @@ pub fn is_closed<R: Read>(rt: &HostRuntime, input: &mut R) -> bool {
 
 /// Whether a reader's descriptor can be read: then a read that asks for no byte doesn't fail as one
 /// of a bad descriptor does.
-fn can_read<R: Read>(input: &mut R) -> bool {
+fn can_read<R: Read>(input: &mut R) -> bool
+    ensures { Keeps (R.remaining input.old) (R.remaining input.new) }
+{
     match input.read(&mut []) {
         Ok(_) => true,
         Err(error) => error.raw_os_error() != Some(BAD_DESCRIPTOR),

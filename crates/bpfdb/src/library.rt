@@ -1,4 +1,6 @@
 //! Where Linux's library of helpers lies.
+ghost use Rattle.std.specs.Prelude.{◌≡◌, None, false, option_map, string_bytes, true};
+
 use std::{env, fs};
 
 /// The variable of the environment that names it. Where it is set to nothing, none is joined by itself.
@@ -16,14 +18,16 @@ pub struct Library {
     /// It may be joined by itself.
     pub is_wanted: bool,
     /// Its path, where one is known.
-    pub path: Option<String>,
+    path: Option<String>,
     /// The folder of its parts, where one is known: that of the program's own library alone.
-    pub parts: Option<String>,
+    parts: Option<String>,
 }
 
 impl Library {
     /// The library of this system.
-    pub fn of(rt: &HostRuntime) -> Library {
+    pub fn of(rt: &HostRuntime) -> Library
+        ensures { result.is_wanted ≡ false → result.path ≡ None }
+    {
         match env::var(rt, VARIABLE) {
             Ok(path) => Library::named(path),
             Err(_) => Library::beside(rt),
@@ -31,7 +35,9 @@ impl Library {
     }
 
     /// The one of this path; none where it is empty.
-    fn named(path: String) -> Library {
+    fn named(path: String) -> Library
+        ensures { result.is_wanted ≡ false → result.path ≡ None }
+    {
         if path.is_empty() {
             Library::none()
         } else {
@@ -44,7 +50,10 @@ impl Library {
     }
 
     /// None.
-    pub fn none() -> Library {
+    pub fn none() -> Library
+        ensures wanted { result.is_wanted ≡ false }
+        ensures path { result.path ≡ None }
+    {
         Library {
             is_wanted: false,
             path: None,
@@ -53,7 +62,9 @@ impl Library {
     }
 
     /// The one that belongs to the program, where there is one.
-    fn beside(rt: &HostRuntime) -> Library {
+    fn beside(rt: &HostRuntime) -> Library
+        ensures { result.is_wanted ≡ true }
+    {
         let place = place_beside(rt);
         let parts = match &place {
             Some(place) => ended(rt, place.as_str(), "/parts"),
@@ -71,7 +82,9 @@ impl Library {
     }
 
     /// Its path, lent.
-    pub fn path(&self) -> Option<&str> {
+    pub fn path(&self) -> Option<&str>
+        ensures { option_map (λ path. path.now) result ≡ option_map string_bytes self.now.path }
+    {
         match &self.path {
             Some(path) => Some(path.as_str()),
             None => None,
@@ -79,7 +92,9 @@ impl Library {
     }
 
     /// The folder of its parts, lent.
-    pub fn parts(&self) -> Option<&str> {
+    pub fn parts(&self) -> Option<&str>
+        ensures { option_map (λ parts. parts.now) result ≡ option_map string_bytes self.now.parts }
+    {
         match &self.parts {
             Some(parts) => Some(parts.as_str()),
             None => None,

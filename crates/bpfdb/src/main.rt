@@ -29,6 +29,7 @@ mod words;
 use bpfdb_cli::{Plan, PlanFault, plan};
 use bpfdb_faults::{JobFault, give_up, tell_usage};
 use bpfdb_files::{Opener, Retrying};
+use bpfdb_jobs::Streams;
 use bpfdb_options::Ask;
 use clap::Error;
 use counted_io::Counted;
@@ -44,14 +45,17 @@ use std::io::{BufReader, BufWriter, IsTerminal, Read, Stderr, Write};
 use std::process::ExitCode;
 use words::{shown_words, texts_of, words_of};
 
-/// Standard error.
-type Errors = Counted<BufWriter<Retrying<Stderr>>>;
+/// Standard error, in a buffer.
+type ErrorBuffer = BufWriter<Retrying<Stderr>>;
+
+/// The same, counted.
+type Errors = Counted<ErrorBuffer>;
 
 fn main(rt: HostRuntime) -> ExitCode {
     match BufWriter::new(rt.alloc(), Retrying::new(rt.stderr())) {
         Ok(buffer) => {
-            let mut errors = Counted::new(buffer);
-            ExitCode::from(obey(&rt, &mut errors))
+            let errors = Counted::new(buffer);
+            ExitCode::from(obey(&rt, errors))
         }
         Err(_) => {
             let mut errors = Counted::new(Retrying::new(rt.stderr()));
@@ -61,19 +65,19 @@ fn main(rt: HostRuntime) -> ExitCode {
 }
 
 /// Does what the command line says. Answers the exit status, as all that follows: 0, 1 or 2.
-fn obey(rt: &HostRuntime, errors: &mut Errors) -> u8
+fn obey(rt: &HostRuntime, mut errors: Errors) -> u8
     ensures { result ≤ 2 }
 {
     let words = match words_of(rt) {
         Ok(words) => words,
-        Err(fault) => return give_up(errors, &fault),
+        Err(fault) => return give_up(&mut errors, &fault),
     };
     obey_words(rt, words.as_slice(), errors)
 }
 
 /// Does what these words say, the program's name first. Where no other follows, the program that is
 /// built in is debugged.
-fn obey_words(rt: &HostRuntime, words: &[String], errors: &mut Errors) -> u8
+fn obey_words(rt: &HostRuntime, words: &[String], mut errors: Errors) -> u8
     ensures value { result ≢ 2 → IsStatusOf (map string_bytes words.now) result }
     ensures status { result ≤ 2 }
 {
@@ -89,15 +93,15 @@ fn obey_words(rt: &HostRuntime, words: &[String], errors: &mut Errors) -> u8
         );
     }
     let Some(texts) = texts_of(rt.alloc(), words) else {
-        return give_up(errors, &JobFault::Memory);
+        return give_up(&mut errors, &JobFault::Memory);
     };
     match plan(rt.alloc(), texts.as_slice()) {
         Ok(plan) => {
-            let files = SystemFiles::new(rt);
+            let files = SystemFiles { rt };
             let library = Library::of(rt);
             do_over_streams(rt, &files, &library, &plan, GREETING, errors)
         }
-        Err(fault) => show(rt, words, &fault, errors),
+        Err(fault) => show(rt, words, &fault, &mut errors),
     }
 }
 
@@ -163,16 +167,19 @@ fn do_over_streams<F: Opener>(
     library: &Library,
     plan: &Plan<'_>,
     greeting: &'static str,
-    errors: &mut Errors,
+    mut errors: Errors,
 ) -> u8
     requires limit { IsLimit plan.now.options.limit }
     ensures value { result ≢ 2 → EndsPlanWith plan.now result }
     ensures status { result ≤ 2 }
 {
     let Ok(output) = BufWriter::new(rt.alloc(), Retrying::new(io::writer(rt))) else {
-        return give_up(errors, &JobFault::Memory);
+        return give_up(&mut errors, &JobFault::Memory);
     };
-    let mut writer = Counted::new(output);
+    let mut streams = Streams {
+        output: Counted::new(output),
+        errors,
+    };
     let host = Host {
         files,
         wants_linux: library.is_wanted,
@@ -183,31 +190,31 @@ fn do_over_streams<F: Opener>(
     let mut input = Retrying::new(rt.reader());
     if is_closed(rt, &mut input) {
         let mut reader = Counted::new(b"".as_slice());
-        return do_over(rt, &host, plan, &mut reader, &mut writer, errors);
+        return do_over(rt, &host, plan, &mut reader, &mut streams);
     }
     if is_typed(rt, plan) {
         let input = Prompting::new(&mut input, Retrying::new(rt.stderr()), greeting);
         let Ok(input) = BufReader::new(rt.alloc(), input) else {
-            return give_up(errors, &JobFault::Memory);
+            return give_up(&mut streams.errors, &JobFault::Memory);
         };
         let mut reader = Counted::new(input);
-        return do_over(rt, &host, plan, &mut reader, &mut writer, errors);
+        return do_over(rt, &host, plan, &mut reader, &mut streams);
     }
     let Ok(input) = BufReader::new(rt.alloc(), &mut input) else {
-        return give_up(errors, &JobFault::Memory);
+        return give_up(&mut streams.errors, &JobFault::Memory);
     };
     let mut reader = Counted::new(input);
-    do_over(rt, &host, plan, &mut reader, &mut writer, errors)
+    do_over(rt, &host, plan, &mut reader, &mut streams)
 }
 
-/// Does a plan over a reader, and over a writer, or over a file in its place where the plan names one.
+/// Does a plan over a reader and the standard streams, or over a file in place of standard output where
+/// the plan names one.
 fn do_over<'a, F: Opener, R: Read, W: Write>(
     rt: &HostRuntime,
     host: &Host<'a, F>,
     plan: &Plan<'a>,
     reader: &mut Counted<R>,
-    writer: &mut Counted<W>,
-    errors: &mut Errors,
+    streams: &mut Streams<W, ErrorBuffer>,
 ) -> u8
     requires limit { IsLimit plan.now.options.limit }
     ensures value { result ≢ 2 → EndsPlanWith plan.now result }
@@ -216,9 +223,10 @@ fn do_over<'a, F: Opener, R: Read, W: Write>(
     match plan.output {
         Some(path) => {
             let mut file = Counted::new(Retrying::new(LateFile::new(rt, path)));
+            let errors = &mut streams.errors;
             do_for_file(rt.alloc(), host, plan, path, reader, &mut file, errors)
         }
-        None => do_plan(rt.alloc(), host, plan, reader, writer, errors),
+        None => do_plan(rt.alloc(), host, plan, reader, streams),
     }
 }
 

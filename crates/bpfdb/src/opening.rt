@@ -15,14 +15,7 @@ use std::fs::File;
 /// The files of the system. Reads that it interrupts are made again.
 #[derive(Clone, Copy)]
 pub struct SystemFiles<'a> {
-    rt: &'a HostRuntime,
-}
-
-impl<'a> SystemFiles<'a> {
-    /// The files of this system.
-    pub fn new(rt: &'a HostRuntime) -> SystemFiles<'a> {
-        SystemFiles { rt }
-    }
+    pub rt: &'a HostRuntime,
 }
 
 impl<'a> Opener for SystemFiles<'a> {

@@ -1,5 +1,5 @@
 //! The file of `-o`: what takes an output in place of standard output.
-ghost use Rattle.std.specs.Prelude.{◌≤◌};
+ghost use Rattle.std.specs.Prelude.{◌≡◌, ◌≤◌, None};
 ghost use Rattle.bpfdb.specs.Files.{world_of};
 ghost use Rattle.bpfdb.specs.Outputs.{DoesForFile, EndsForFile};
 ghost use Rattle.bpfdb_faults.specs.Streams.{stream};
@@ -10,6 +10,7 @@ use crate::host::Host;
 use bpfdb_cli::Plan;
 use bpfdb_faults::{JobFault, give_up, told_as, write_out};
 use bpfdb_files::Opener;
+use bpfdb_jobs::Streams;
 use counted_io::{Counted, WriteFault};
 use std::alloc::Global;
 use std::fs::File;
@@ -26,7 +27,10 @@ pub struct LateFile<'a> {
 
 impl<'a> LateFile<'a> {
     /// The file of this path, which isn't made yet.
-    pub fn new(rt: &'a HostRuntime, path: &'a str) -> LateFile<'a> {
+    pub fn new(rt: &'a HostRuntime, path: &'a str) -> LateFile<'a>
+        ensures path { result.path ≡ path }
+        ensures file { result.file ≡ None }
+    {
         LateFile {
             rt,
             path,
@@ -74,14 +78,16 @@ pub fn do_for_file<'a, F: Opener, R: Read, W: Write, E: Write>(
         (stream E.contents errors.old errors.new) result }
     ensures status { result ≤ 2 }
 {
-    let mut out = Counted::new(Vec::new(alloc));
-    let mut told = Counted::new(Vec::new(alloc));
-    let status = do_plan(alloc, host, plan, reader, &mut out, &mut told);
-    if out.failures() > 0 || told.failures() > 0 {
+    let mut memory = Streams {
+        output: Counted::new(Vec::new(alloc)),
+        errors: Counted::new(Vec::new(alloc)),
+    };
+    let status = do_plan(alloc, host, plan, reader, &mut memory);
+    if memory.output.failures() > 0 || memory.errors.failures() > 0 {
         return give_up(errors, &JobFault::Memory);
     }
-    let out = out.into_inner();
-    let told = told.into_inner();
+    let out = memory.output.into_inner();
+    let told = memory.errors.into_inner();
     end_for_file(path, out.as_slice(), told.as_slice(), status, file, errors)
 }
 

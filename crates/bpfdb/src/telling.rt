@@ -2,12 +2,13 @@
 ghost use Rattle.std.specs.Prelude.{◌≡◌, ◌≤◌, IfOk};
 ghost use Rattle.bpfdb.specs.Telling.{EndsRetold, Retells, answer_for, told_in, telling_of};
 ghost use Rattle.bpfdb_faults.specs.Streams.{stream};
+ghost use Rattle.bpfdb_jobs.specs.Streams.{between};
 ghost use Rattle.bpfdb_limits.specs.Limits.{IsLimit};
 
 use answer_forms::{Answer, dot_of, json_of};
 use bpfdb_cli::{Form, Plan};
 use bpfdb_faults::{JobFault, give_up, told_as, write_out};
-use bpfdb_jobs::{Job, tool};
+use bpfdb_jobs::{Job, Streams, tool};
 use bpfdb_options::Ask;
 use counted_io::{Counted, WriteFault};
 use std::alloc::{AllocError, Global};
@@ -74,26 +75,27 @@ pub fn retold_tool<R: Read, W: Write, E: Write>(
     telling: Telling,
     job: &Job<'_>,
     reader: &mut Counted<R>,
-    writer: &mut Counted<W>,
-    errors: &mut Counted<E>,
+    streams: &mut Streams<W, E>,
 ) -> u8
     requires limit { IsLimit job.now.options.limit }
     ensures does { Retells telling job.now (stream R.remaining reader.old reader.new)
-        (stream W.contents writer.old writer.new) (stream E.contents errors.old errors.new) result }
+        (between W.contents E.contents streams.old streams.new) result }
     ensures status { result ≤ 2 }
 {
-    let mut out = Counted::new(Vec::new(alloc));
-    let mut told = Counted::new(Vec::new(alloc));
-    let status = tool(alloc, job, reader, &mut out, &mut told);
-    if out.failures() > 0 || told.failures() > 0 {
-        return give_up(errors, &JobFault::Memory);
-    }
-    let out = out.into_inner();
-    let told = told.into_inner();
-    let Ok(text) = told_in(alloc, telling, out.as_slice()) else {
-        return give_up(errors, &JobFault::Memory);
+    let mut memory = Streams {
+        output: Counted::new(Vec::new(alloc)),
+        errors: Counted::new(Vec::new(alloc)),
     };
-    write_told(text.as_slice(), told.as_slice(), status, writer, errors)
+    let status = tool(alloc, job, reader, &mut memory);
+    if memory.output.failures() > 0 || memory.errors.failures() > 0 {
+        return give_up(&mut streams.errors, &JobFault::Memory);
+    }
+    let out = memory.output.into_inner();
+    let told = memory.errors.into_inner();
+    let Ok(text) = told_in(alloc, telling, out.as_slice()) else {
+        return give_up(&mut streams.errors, &JobFault::Memory);
+    };
+    write_told(text.as_slice(), told.as_slice(), status, streams)
 }
 
 /// Writes an output, and then what was told on standard error. Answers the exit status.
@@ -101,15 +103,13 @@ fn write_told<W: Write, E: Write>(
     output: &[u8],
     told: &[u8],
     status: u8,
-    writer: &mut Counted<W>,
-    errors: &mut Counted<E>,
+    streams: &mut Streams<W, E>,
 ) -> u8
-    ensures ends { EndsRetold output.now told.now status (stream W.contents writer.old writer.new)
-        (stream E.contents errors.old errors.new) result }
+    ensures ends { EndsRetold output.now told.now status (between W.contents E.contents streams.old streams.new) result }
     ensures status { status ≤ 2 → result ≤ 2 }
 {
-    match write_out(writer, output) {
-        Ok(()) => told_as(write_out(errors, told), status),
-        Err(WriteFault) => give_up(errors, &JobFault::Output),
+    match write_out(&mut streams.output, output) {
+        Ok(()) => told_as(write_out(&mut streams.errors, told), status),
+        Err(WriteFault) => give_up(&mut streams.errors, &JobFault::Output),
     }
 }

@@ -1,5 +1,6 @@
 //! The words of the command line.
-ghost use Rattle.std.specs.Prelude.{◌≡◌, IfSome, map, string_bytes};
+ghost use Rattle.std.specs.Prelude.{◌≡◌, ◌⊎◌, IfErr, IfSome, map, string_bytes};
+ghost use Rattle.bpfdb_faults.specs.declared.fault.JobFault.TheVariants.{Memory, NotText};
 ghost use Rattle.bpfdb_script.specs.Shown.{shown};
 
 use bpfdb_faults::JobFault;
@@ -9,7 +10,9 @@ use std::env;
 use std::io::ErrorKind;
 
 /// The words of the command line, the program's name first.
-pub fn words_of<'a>(rt: &HostRuntime) -> Result<Vec<String>, JobFault<'a>> {
+pub fn words_of<'a>(rt: &HostRuntime) -> Result<Vec<String>, JobFault<'a>>
+    ensures err { IfErr result (λ fault. (fault ≡ Memory) ⊎ (fault ≡ NotText)) }
+{
     let args = match env::args(rt) {
         Ok(args) => args,
         Err(error) => match error.kind() {

@@ -14,7 +14,7 @@ use Rattle.bpf_ring.specs.Opening.{RefusesSize}
 use Rattle.bpf_ring.specs.declared.fault.JournalFault.{JournalFault}
 use Rattle.counted_io.specs.Writing.{Writes}
 use Rattle.bpfdb_faults.specs.Faults.{output_line}
-use Rattle.bpfdb_faults.specs.Streams.{Stream, Told}
+use Rattle.bpfdb_faults.specs.Streams.{Told}
 use Rattle.bpfdb_faults.specs.declared.refusal.JobRefusal.{JobRefusal}
 use Rattle.bpfdb_faults.specs.declared.refusal.JobRefusal.TheVariants.{OtherMap, OtherObject, Kind, Maps, Listing, Load, Opening, Open, OtherRun, TraceLine, Journal, What, Goal, NoPlace, Object, Functions, Tests, NoTest, ManyTests, Script}
 use Rattle.bpfdb_jobs.specs.Endings.{EndsPrinted, OutLost, Printed}
@@ -24,10 +24,10 @@ use Rattle.bpfdb_jobs.specs.Origins.{RefusesNames}
 use Rattle.bpfdb_jobs.specs.Programs.{AreSameMaps, IsOtherMap}
 use Rattle.bpfdb_jobs.specs.Sources.{sources}
 use Rattle.bpfdb_jobs.specs.Refusals.{RefusesAgainst, RefusesDiff, RefusesEither, RefusesMachine, RefusesOtherRun, RefusesRuns}
+use Rattle.bpfdb_jobs.specs.Streams.{Outputs}
 use Rattle.bpfdb_jobs.specs.declared.job.Job.{Job}
 use Rattle.bpfdb_options.specs.Asks.{is_context, is_trace}
 use Rattle.bpfdb_options.specs.declared.ask.DiffAsk.{DiffAsk}
-use Rattle.bpfdb_options.specs.declared.options.Options.{Options}
 use Rattle.bpfdb_options.specs.declared.ask.Ask.TheVariants.{Diff}
 use Rattle.input_texts.specs.TraceFaults.{bad_line}
 use Rattle.input_texts.specs.TraceForms.{form_in, told}
@@ -205,10 +205,10 @@ pub opened-initial : (job : Job) (x : State) → OpensAs job x → x ≡ begun_f
 opened-initial job x o = o.2 ∙ ap (λ (z : State). begun_for job.options z.program job.context.now) (sym o.2)
 
 -- two runs that were compared, and told or not
-pub told-ends : {W E A F : Type 0} {writer : Stream W} {errors : Stream E} (diff : DiffAsk) (job : Job) (text : List ℕ) (verdict same : Bool) (r : Result A F)
+pub told-ends : {W E A F : Type 0} {s : Outputs W E} (diff : DiffAsk) (job : Job) (text : List ℕ) (verdict same : Bool) (r : Result A F)
     (status : ℕ) → Prints (Diff diff) job (record { out = Some text; err = None; status = diff_status verdict }) → same ≡ verdict
-    → Writes writer.bytes writer.old writer.new r text → OnOk r ((errors.new ≡ errors.old) × (status ≡ diff_status same))
-    → OnErr r (Told errors output_line × (status ≡ 2)) → EndsPrinted (Diff diff) job writer errors status
+    → Writes s.output.bytes s.output.old s.output.new r text → OnOk r ((s.errors.new ≡ s.errors.old) × (status ≡ diff_status same))
+    → OnErr r (Told s.errors output_line × (status ≡ 2)) → EndsPrinted (Diff diff) job s status
 told-ends diff job text verdict same (Ok v) status prints e w ok err =
     Printed (record { out = Some text; err = None; status = diff_status verdict }) prints (w.ok, w.same) ok.0 (ok.1 ∙ ap diff_status e)
 told-ends diff job text verdict same (Err fault) status prints e w ok err =

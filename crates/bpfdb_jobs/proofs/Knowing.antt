@@ -1,6 +1,6 @@
 -- What is known of the slots of a program whose lines can't be read.
 use Rattle.std.proofs.Common.{ℕ, ◌≡◌, ◌∙◌, Bool, true, false, List, Option, Some, None, ap, subst, sym, refl}
-use Rattle.std.specs.Prelude.{◌||◌, is_some, map, option_map}
+use Rattle.std.specs.Prelude.{◌||◌, is_some}
 use Rattle.bpf_lines.specs.declared.objects.ObjectLines.{ObjectLines}
 use Rattle.bpf_lines.specs.Lookups.{AreFunctionsOf}
 use Rattle.bpf_lines.specs.declared.lookups.Functions.{Functions}

@@ -15,23 +15,24 @@ use Rattle.bpfdb_jobs.specs.Endings.{EndsPrinted, ErrLost, OutLost, Printed}
 use Rattle.bpfdb_faults.specs.Faults.{line_of}
 use Rattle.bpfdb_jobs.specs.Jobs.{IsKnown, Opens, OpensMachine, Print, Prints, initial_of, printed, run_end, run_or_stopped, run_print, stopped, unwritten_in}
 use Rattle.bpfdb_faults.specs.declared.fault.JobFault.TheVariants.{Output}
+use Rattle.bpfdb_jobs.specs.Streams.{Outputs}
 use Rattle.bpfdb_jobs.specs.declared.job.Job.{Job}
 use Rattle.bpfdb_jobs.specs.declared.known.Known.{Known}
 use Rattle.bpfdb_options.specs.declared.ask.Ask.{Ask}
 use Rattle.bpfdb_options.specs.declared.ask.Ask.TheVariants.{Run}
 
-module _ {W E A F : Type 0} {writer : Stream W} {errors : Stream E} (ask : Ask) (job : Job) where
+module _ {W E A F : Type 0} {s : Outputs W E} (ask : Ask) (job : Job) where
   -- a result was written, or a beginning of it
   pub out-printed : (out : List ℕ) (r : Result A F) (status : ℕ) → Prints ask job (printed out)
-      → Writes writer.bytes writer.old writer.new r out → OnOk r ((errors.new ≡ errors.old) × (status ≡ 0))
-      → OnErr r (Told errors (line_of Output) × (status ≡ 2)) → EndsPrinted ask job writer errors status
+      → Writes s.output.bytes s.output.old s.output.new r out → OnOk r ((s.errors.new ≡ s.errors.old) × (status ≡ 0))
+      → OnErr r (Told s.errors (line_of Output) × (status ≡ 2)) → EndsPrinted ask job s status
   out-printed out (Ok v) status prints w ok err = Printed (printed out) prints (w.ok, w.same) ok.0 ok.1
   out-printed out (Err e) status prints w ok err = OutLost (printed out) prints (w.err, w.fault) err.0 err.1
 
   -- what goes to standard error was told, or a beginning of it
-  pub err-printed : (a : Print) (r : Result A F) (status : ℕ) → Prints ask job a → Gets writer a.out
-      → OnOk r (Gets errors a.err) → OnErr r (Loses errors a.err) → OnOk r (status ≡ a.status) → OnErr r (status ≡ 2)
-      → EndsPrinted ask job writer errors status
+  pub err-printed : (a : Print) (r : Result A F) (status : ℕ) → Prints ask job a → Gets s.output a.out
+      → OnOk r (Gets s.errors a.err) → OnErr r (Loses s.errors a.err) → OnOk r (status ≡ a.status) → OnErr r (status ≡ 2)
+      → EndsPrinted ask job s status
   err-printed a (Ok v) status prints out err lost ends two = Printed a prints out err ends
   err-printed a (Err e) status prints out err lost ends two = ErrLost a prints out lost two
 

@@ -13,6 +13,7 @@ use Rattle.bpfdb_jobs.specs.Jobs.{Print, Prints}
 use Rattle.bpfdb_jobs.specs.Shown.{EndsTest}
 use Rattle.bpfdb_jobs.specs.Shown as shown
 use Rattle.bpfdb_jobs.specs.Statuses.{EndsBatchWith, EndsSessionWith, EndsTestWith, EndsWith}
+use Rattle.bpfdb_jobs.specs.Streams.{Outputs, behind}
 use Rattle.bpfdb_jobs.specs.Suites as tests
 use Rattle.bpfdb_jobs.specs.declared.job.Job.{Job}
 use Rattle.bpfdb_options.specs.declared.ask.Ask.{Ask}
@@ -31,55 +32,55 @@ reported_with writer ask job reported (tests.Refused refusal why w is) = cc
 reported_with writer ask job reported (tests.Exhausted w is) = cc
 reported_with writer ask job reported (tests.BrokenOff why asked are breaks is) = cc
 
-told_with : {W E : Type 0} (writer : Stream W) (errors : Stream E) (form : CoverForm) (ask : TestAsk) (job : Job) (reported status : ℕ)
-    → tests.EndsTold form ask job reported writer errors status → status ≢ 2 → EndsTestWith None ask job reported → EndsTestWith None ask job status
-told_with writer errors form ask job reported status (tests.Covered text covers out err is) other same = subst (EndsTestWith None ask job) (sym is) same
-told_with writer errors form ask job reported status (tests.Unfound w told two) other same = absurd (other two)
-told_with writer errors form ask job reported status (tests.Lost text covers out told two) other same = absurd (other two)
+told_with : {W E : Type 0} (w : Outputs W E) (form : CoverForm) (ask : TestAsk) (job : Job) (reported status : ℕ)
+    → tests.EndsTold form ask job reported w status → status ≢ 2 → EndsTestWith None ask job reported → EndsTestWith None ask job status
+told_with w form ask job reported status (tests.Covered text covers out err is) other same = subst (EndsTestWith None ask job) (sym is) same
+told_with w form ask job reported status (tests.Unfound same told two) other same = absurd (other two)
+told_with w form ask job reported status (tests.Lost text covers out told two) other same = absurd (other two)
 
-run_with : {W E : Type 0} (writer : Stream W) (errors : Stream E) (traced covers : Bool) (ask : TestAsk) (job : Job) (status : ℕ)
-    → tests.EndsRun traced covers ask job writer errors status → status ≢ 2 → EndsTestWith None ask job status
-run_with writer errors true covers ask job status (tests.Beside file middle reported named reports told) other =
-    told_with _ _ _ ask job reported status told other (reported_with _ ask job reported reports)
-run_with writer errors true covers ask job status (tests.Untraced why middle reports told same two) other = absurd (other two)
-run_with writer errors false true ask job status (tests.Behind middle reported reports told) other =
-    told_with _ _ _ ask job reported status told other (reported_with _ ask job reported reports)
-run_with writer errors false true ask job status (tests.Uncovered why reports told two) other = absurd (other two)
-run_with writer errors false false ask job status (tests.Done reported reports same is) other =
+run_with : {W E : Type 0} (w : Outputs W E) (traced covers : Bool) (ask : TestAsk) (job : Job) (status : ℕ)
+    → tests.EndsRun traced covers ask job w status → status ≢ 2 → EndsTestWith None ask job status
+run_with w true covers ask job status (tests.Beside file middle reported named reports told) other =
+    told_with _ _ ask job reported status told other (reported_with _ ask job reported reports)
+run_with w true covers ask job status (tests.Untraced why middle reports told same two) other = absurd (other two)
+run_with w false true ask job status (tests.Behind middle reported reports told) other =
+    told_with _ _ ask job reported status told other (reported_with _ ask job reported reports)
+run_with w false true ask job status (tests.Uncovered why reports told two) other = absurd (other two)
+run_with w false false ask job status (tests.Done reported reports same is) other =
     subst (EndsTestWith None ask job) (sym is) (reported_with _ ask job reported reports)
-run_with writer errors false false ask job status (tests.Undone why reports told two) other = absurd (other two)
+run_with w false false ask job status (tests.Undone why reports told two) other = absurd (other two)
 
-module _ {R W E : Type 0} (reader : Stream R) (writer : Stream W) (errors : Stream E) where
+module _ {R W E : Type 0} (reader : Stream R) (w : Outputs W E) where
   session_with : (job : Job) (loaded : Loaded) → Loads job.target job.file.now loaded → (Serves : Type 0) (Breaks : RunFault → Type 0) (status : ℕ)
-      → EndsSession job Serves Breaks reader writer errors status → status ≢ 2 → EndsSessionWith job status
-  session_with job loaded loads Serves Breaks status (Served room serves r w e zero) other =
+      → EndsSession job Serves Breaks reader w.output w.errors status → status ≢ 2 → EndsSessionWith job status
+  session_with job loaded loads Serves Breaks status (Served room serves r spared e zero) other =
       (loaded, record { opens = record { loads = loads; asked = room.asked; short = room.short }; sized = room.sized }, zero)
-  session_with job loaded loads Serves Breaks status (Refused refusal why r w told two) other = absurd (other two)
+  session_with job loaded loads Serves Breaks status (Refused refusal why r kept told two) other = absurd (other two)
   session_with job loaded loads Serves Breaks status (Broken why room breaks fails told two) other = absurd (other two)
 
-  batch_with : (job : Job) (status : ℕ) → batches.EndsBatch job reader writer errors status → status ≢ 2 → EndsBatchWith job status
-  batch_with job status (batches.Served b is answers r w e zero) other = (b.maps.now, is.maps, zero)
-  batch_with job status (batches.Refused refusal why r w told two) other = absurd (other two)
+  batch_with : (job : Job) (status : ℕ) → batches.EndsBatch job reader w status → status ≢ 2 → EndsBatchWith job status
+  batch_with job status (batches.Served b is answers r spared e zero) other = (b.maps.now, is.maps, zero)
+  batch_with job status (batches.Refused refusal why only) other = absurd (other only.3)
   batch_with job status (batches.Broken b why is breaks fails told two) other = absurd (other two)
 
-  test_with : (show : Option TestPart) (ask : TestAsk) (job : Job) (status : ℕ) → EndsTest show ask job writer errors status → status ≢ 2
+  test_with : (show : Option TestPart) (ask : TestAsk) (job : Job) (status : ℕ) → EndsTest show ask job w status → status ≢ 2
       → EndsTestWith show ask job status
-  test_with None ask job status ends other = run_with writer errors ask.is_tracefile ask.covers ask job status ends other
+  test_with None ask job status ends other = run_with w ask.is_tracefile ask.covers ask job status ends other
   test_with (Some part) ask job status (shown.Shown test bytes are shows out err is) other = (test, bytes, are, shows, is)
-  test_with (Some part) ask job status (shown.Refused refusal why w told two) other = absurd (other two)
-  test_with (Some part) ask job status (shown.Exhausted w told two) other = absurd (other two)
+  test_with (Some part) ask job status (shown.Refused refusal why kept told two) other = absurd (other two)
+  test_with (Some part) ask job status (shown.Exhausted kept told two) other = absurd (other two)
   test_with (Some part) ask job status (shown.Lost test bytes are shows out told two) other = absurd (other two)
 
-  printed_with : (s : Ask) (job : Job) (status : ℕ) → EndsPrinted s job writer errors status → status ≢ 2
+  printed_with : (s : Ask) (job : Job) (status : ℕ) → EndsPrinted s job w status → status ≢ 2
       → (a : Print) × Prints s job a × (status ≡ a.status)
   printed_with s job status (Printed a prints out err is) other = (a, prints, is)
-  printed_with s job status (Refused refusal why w told two) other = absurd (other two)
-  printed_with s job status (Exhausted a prints may w told two) other = absurd (other two)
+  printed_with s job status (Refused refusal why kept told two) other = absurd (other two)
+  printed_with s job status (Exhausted a prints may kept told two) other = absurd (other two)
   printed_with s job status (OutLost a prints lost told two) other = absurd (other two)
   printed_with s job status (ErrLost a prints out lost two) other = absurd (other two)
 
   -- the status of a job over FILE's bytes or its listing
-  plain_with : (s : Ask) (job : Job) (status : ℕ) → DoesPlain s job reader writer errors status → status ≢ 2 → EndsWith s job status
+  plain_with : (s : Ask) (job : Job) (status : ℕ) → DoesPlain s job reader w status → status ≢ 2 → EndsWith s job status
   plain_with Debug job status does other = session_with job does.0 does.1 _ _ status does.2 other
   plain_with (Gdb registers) job status does other = session_with job does.0 does.1 _ _ status does.2 other
   plain_with Batch job status does other = batch_with job status does other
@@ -97,9 +98,9 @@ module _ {R W E : Type 0} (reader : Stream R) (writer : Stream W) (errors : Stre
   plain_with (Link joined) job status does other = printed_with (Link joined) job status does.1 other
 
 -- the status of a job that is done
-pub ends_with : {R W E : Type 0} (reader : Stream R) (writer : Stream W) (errors : Stream E) (s : Ask) (job : Job) (status : ℕ)
-    → DoesJob s job reader writer errors status → status ≢ 2 → EndsWith s job status
-ends_with reader writer errors s job status (Does other_file does) other = plain_with reader writer errors s job status does other
-ends_with reader writer errors s job status (DoesLoaded checks loaded loads said says does) other =
-    plain_with reader writer (record errors { old = said }) s job status does other
-ends_with reader writer errors s job status (Unloaded checks refusal refuses r-same w-same told two) other = absurd (other two)
+pub ends_with : {R W E : Type 0} (reader : Stream R) (w : Outputs W E) (s : Ask) (job : Job) (status : ℕ)
+    → DoesJob s job reader w status → status ≢ 2 → EndsWith s job status
+ends_with reader w s job status (Does other_file does) other = plain_with reader w s job status does other
+ends_with reader w s job status (DoesLoaded checks loaded loads said says does) other =
+    plain_with reader (behind said w) s job status does other
+ends_with reader w s job status (Unloaded checks refusal refuses only) other = absurd (other only.3)

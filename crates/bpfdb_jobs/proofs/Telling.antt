@@ -6,10 +6,11 @@ use Rattle.bpf_session.specs.Plain.{plain_end}
 use Rattle.bpf_trace.specs.UnwrittenTexts.{trace_until}
 use Rattle.bpf_trace.specs.declared.strict_run.Unwritten.{Unwritten}
 use Rattle.bpf_trace.specs.Profiles.{counts_text, profile_of, profile_text}
-use Rattle.bpfdb_faults.specs.Streams.{Stream, Told}
+use Rattle.bpfdb_faults.specs.Streams.{Told}
 use Rattle.bpfdb_jobs.specs.Endings.{EndsPrinted, Exhausted, OutLost, Printed}
 use Rattle.bpfdb_faults.specs.Faults.{line_of}
 use Rattle.bpfdb_jobs.specs.Jobs.{IsKnown, Prints, initial_of, run_end, shown_of, status_of_end, trace_or_stopped, trace_out, trace_print}
+use Rattle.bpfdb_jobs.specs.Streams.{Outputs}
 use Rattle.bpfdb_jobs.proofs.Printing.{OpensStrict, strict-read}
 use Rattle.bpf_trace.specs.Tellings.{Tells}
 use Rattle.bpfdb_jobs.specs.Tellings.{fault_of_told}
@@ -34,12 +35,12 @@ trace-prints trace job known x end read o is_known none e = (
       ∙ ap (λ (r : Option Unwritten). trace_or_stopped r trace job known (initial_of job o.0) (run_end job o.0)) (strict-read trace.is_strict known.own job x read None o none),
 )
 
-pub trace-ends : {W E : Type 0} {writer : Stream W} {errors : Stream E} (trace : TraceAsk) (job : Job) (known : Known) (x end : State) (read : Option Unwritten)
+pub trace-ends : {W E : Type 0} {s : Outputs W E} (trace : TraceAsk) (job : Job) (known : Known) (x end : State) (read : Option Unwritten)
     (r : Result (Unit {0}) TraceFault) (status : ℕ) → (o : OpensStrict trace.is_strict known.own job x read) → IsKnown job o.0.object known → read ≡ None
-    → Tells writer.bytes writer.old writer.new r (trace_out trace job known x) → OnOk r (end ≡ plain_end job.options.limit x)
-    → OnOk r ((errors.new ≡ errors.old) × (status ≡ status_of_end end.status))
-    → IfErr r (λ why. Told errors (line_of (fault_of_told why)) × (status ≡ 2))
-    → EndsPrinted (Trace trace) job writer errors status
+    → Tells s.output.bytes s.output.old s.output.new r (trace_out trace job known x) → OnOk r (end ≡ plain_end job.options.limit x)
+    → OnOk r ((s.errors.new ≡ s.errors.old) × (status ≡ status_of_end end.status))
+    → IfErr r (λ why. Told s.errors (line_of (fault_of_told why)) × (status ≡ 2))
+    → EndsPrinted (Trace trace) job s status
 trace-ends trace job known x end read (Ok done) status o is_known none told e ok err =
     Printed (trace_print trace job known x end) (trace-prints trace job known x end read o is_known none e) (told.ok, told.same) ok.0 ok.1
 trace-ends trace job known x end read (Err Memory) status o is_known none told e ok err =
@@ -61,12 +62,12 @@ until-prints trace job known x read at o is_known is = (
       ∙ ap (λ (r : Option Unwritten). trace_or_stopped r trace job known (initial_of job o.0) (run_end job o.0)) (strict-read trace.is_strict known.own job x read (Some at) o is),
 )
 
-pub until-ends : {W E : Type 0} {writer : Stream W} {errors : Stream E} (trace : TraceAsk) (job : Job) (known : Known) (x : State) (read : Option Unwritten) (at : Unwritten)
+pub until-ends : {W E : Type 0} {s : Outputs W E} (trace : TraceAsk) (job : Job) (known : Known) (x : State) (read : Option Unwritten) (at : Unwritten)
     (r : Result (Unit {0}) TraceFault) (status : ℕ) → (o : OpensStrict trace.is_strict known.own job x read) → IsKnown job o.0.object known → read ≡ Some at
-    → Tells writer.bytes writer.old writer.new r (trace_until at (shown_of trace known) x)
-    → OnOk r ((errors.new ≡ errors.old) × (status ≡ 1))
-    → IfErr r (λ why. Told errors (line_of (fault_of_told why)) × (status ≡ 2))
-    → EndsPrinted (Trace trace) job writer errors status
+    → Tells s.output.bytes s.output.old s.output.new r (trace_until at (shown_of trace known) x)
+    → OnOk r ((s.errors.new ≡ s.errors.old) × (status ≡ 1))
+    → IfErr r (λ why. Told s.errors (line_of (fault_of_told why)) × (status ≡ 2))
+    → EndsPrinted (Trace trace) job s status
 until-ends trace job known x read at (Ok done) status o is_known is told ok err =
     Printed (trace_or_stopped (Some at) trace job known x x) (until-prints trace job known x read at o is_known is) (told.ok, told.same) ok.0 ok.1
 until-ends trace job known x read at (Err Memory) status o is_known is told ok err =

@@ -11,6 +11,7 @@ use Rattle.bpfdb_faults.specs.declared.fault.JobFault.TheVariants as fault
 use Rattle.bpfdb_faults.specs.declared.refusal.JobRefusal.{JobRefusal}
 use Rattle.bpfdb_jobs.specs.Refusals.{RefusesBatch}
 use Rattle.bpfdb_jobs.specs.Scripts.{Exchanges}
+use Rattle.bpfdb_jobs.specs.Streams.{Outputs, TellsOnly}
 use Rattle.bpfdb_jobs.specs.declared.job.Job.{Job}
 
 -- What the cases of a job share: its maps, its limit of steps, and FILE's bytes as the words of those that have none of their own.
@@ -27,11 +28,9 @@ batch_line batch.Memory = line_of fault.Memory
 
 -- All lines were read and answered; or the maps were refused, and nothing was read and written; or reading or writing failed, or memory ran
 -- out, behind the first lines.
-pub data EndsBatch {R W E : Type 0} (job : Job) (reader : Stream R) (writer : Stream W) (errors : Stream E) (status : ℕ) : Type 0 where
-  Served : (b : Batch) → IsBatchOf job b → Exchanges reader writer (AnswersAll b) → Spared reader → Spared writer → errors.new ≡ errors.old
-      → status ≡ 0 → EndsBatch job reader writer errors status
-  Refused : (refusal : JobRefusal) → RefusesBatch job refusal → reader.new ≡ reader.old → writer.new ≡ writer.old
-      → Told errors (line_of (fault.Refused refusal)) → status ≡ 2 → EndsBatch job reader writer errors status
-  Broken : (b : Batch) → (why : BatchFault) → IsBatchOf job b → Exchanges reader writer (BreaksOff why b)
-      → FailsBy why reader.old reader.new writer.old writer.new → Told errors (batch_line why) → status ≡ 2
-      → EndsBatch job reader writer errors status
+pub data EndsBatch {R W E : Type 0} (job : Job) (reader : Stream R) (s : Outputs W E) (status : ℕ) : Type 0 where
+  Served : (b : Batch) → IsBatchOf job b → Exchanges reader s.output (AnswersAll b) → Spared reader → Spared s.output → s.errors.new ≡ s.errors.old
+      → status ≡ 0 → EndsBatch job reader s status
+  Refused : (refusal : JobRefusal) → RefusesBatch job refusal → TellsOnly reader s (line_of (fault.Refused refusal)) status → EndsBatch job reader s status
+  Broken : (b : Batch) → (why : BatchFault) → IsBatchOf job b → Exchanges reader s.output (BreaksOff why b)
+      → FailsBy why reader.old reader.new s.output.old s.output.new → Told s.errors (batch_line why) → status ≡ 2 → EndsBatch job reader s status

@@ -7,6 +7,7 @@ use Rattle.bpfdb_faults.specs.Faults.{input_line, line_of, output_line, session_
 use Rattle.bpfdb_faults.specs.Streams.{Gets, Loses, Spared, Stream, Told}
 use Rattle.bpfdb_jobs.specs.Jobs.{HasRoom, Print, Prints}
 use Rattle.bpfdb_jobs.specs.Refusals.{Refuses, RefusesAs}
+use Rattle.bpfdb_jobs.specs.Streams.{Outputs}
 use Rattle.bpfdb_faults.specs.declared.fault.JobFault.TheVariants as fault
 use Rattle.bpfdb_jobs.specs.declared.job.Job.{Job}
 use Rattle.bpfdb_faults.specs.declared.refusal.JobRefusal.{JobRefusal}
@@ -22,17 +23,14 @@ MayExhaust ask job = ⊥
 
 -- How a job ends that prints: all was printed; or it was refused; or memory ran out, before anything was written; or standard output failed,
 -- which got a beginning; or standard error failed while it was told what follows the output.
-pub data EndsPrinted {W E : Type 0} (ask : Ask) (job : Job) (writer : Stream W) (errors : Stream E) (status : ℕ) : Type 0 where
-  Printed : (a : Print) → Prints ask job a → Gets writer a.out → Gets errors a.err → status ≡ a.status
-      → EndsPrinted ask job writer errors status
-  Refused : (refusal : JobRefusal) → RefusesAs ask job refusal → writer.new ≡ writer.old → Told errors (line_of (fault.Refused refusal))
-      → status ≡ 2 → EndsPrinted ask job writer errors status
-  Exhausted : (a : Print) → Prints ask job a → MayExhaust ask job → writer.new ≡ writer.old → Told errors (line_of fault.Memory)
-      → status ≡ 2 → EndsPrinted ask job writer errors status
-  OutLost : (a : Print) → Prints ask job a → Loses writer a.out → Told errors (line_of fault.Output) → status ≡ 2
-      → EndsPrinted ask job writer errors status
-  ErrLost : (a : Print) → Prints ask job a → Gets writer a.out → Loses errors a.err → status ≡ 2
-      → EndsPrinted ask job writer errors status
+pub data EndsPrinted {W E : Type 0} (ask : Ask) (job : Job) (s : Outputs W E) (status : ℕ) : Type 0 where
+  Printed : (a : Print) → Prints ask job a → Gets s.output a.out → Gets s.errors a.err → status ≡ a.status → EndsPrinted ask job s status
+  Refused : (refusal : JobRefusal) → RefusesAs ask job refusal → s.output.new ≡ s.output.old → Told s.errors (line_of (fault.Refused refusal))
+      → status ≡ 2 → EndsPrinted ask job s status
+  Exhausted : (a : Print) → Prints ask job a → MayExhaust ask job → s.output.new ≡ s.output.old → Told s.errors (line_of fault.Memory)
+      → status ≡ 2 → EndsPrinted ask job s status
+  OutLost : (a : Print) → Prints ask job a → Loses s.output a.out → Told s.errors (line_of fault.Output) → status ≡ 2 → EndsPrinted ask job s status
+  ErrLost : (a : Print) → Prints ask job a → Gets s.output a.out → Loses s.errors a.err → status ≡ 2 → EndsPrinted ask job s status
 
 -- The line of a session that is broken off.
 abbrev pub broken_line : RunFault → List ℕ

@@ -18,6 +18,7 @@ pub mod Sources
 pub mod Scripts
 pub mod Shown
 pub mod Statuses
+pub mod Streams
 pub mod Suites
 pub mod Tellings
 pub mod Whynots

@@ -5,9 +5,10 @@ use Rattle.bpf_suite.specs.Shown.{IsWordsFault, options_text, script_text}
 use Rattle.bpf_suite.specs.Tests.{context, has_listing, program}
 use Rattle.bpf_suite.specs.declared.section.Section.{Section}
 use Rattle.bpf_suite.specs.declared.shown.WordsFault.TheVariants as words
-use Rattle.bpfdb_faults.specs.Streams.{Gets, Loses, Stream, Told}
+use Rattle.bpfdb_faults.specs.Streams.{Gets, Loses, Told}
 use Rattle.bpfdb_faults.specs.Faults.{line_of}
 use Rattle.bpfdb_jobs.specs.Refusals.{RefusesTests}
+use Rattle.bpfdb_jobs.specs.Streams.{Outputs}
 use Rattle.bpfdb_jobs.specs.Suites.{AreTestsOf, EndsRun}
 use Rattle.bpfdb_faults.specs.declared.fault.JobFault.{JobFault}
 use Rattle.bpfdb_faults.specs.declared.fault.JobFault.TheVariants as fault
@@ -40,16 +41,16 @@ RefusesShown ask job part refusal = RefusesTests ask.only job refusal
 
 -- How a job of `test` ends that shows a part: it was shown; or it was refused, or memory ran out before, and nothing was written; or standard
 -- output failed, which got a beginning.
-pub data EndsShown {W E : Type 0} (part : TestPart) (ask : TestAsk) (job : Job) (writer : Stream W) (errors : Stream E) (status : ℕ) : Type 0 where
-  Shown : (test : List Section) (bytes : List ℕ) → AreTestsOf ask job (test ∷ []) → Shows part test bytes → Gets writer (Some bytes)
-      → errors.new ≡ errors.old → status ≡ 0 → EndsShown part ask job writer errors status
-  Refused : (refusal : JobRefusal) → RefusesShown ask job part refusal → writer.new ≡ writer.old → Told errors (line_of (fault.Refused refusal))
-      → status ≡ 2 → EndsShown part ask job writer errors status
-  Exhausted : writer.new ≡ writer.old → Told errors (line_of fault.Memory) → status ≡ 2 → EndsShown part ask job writer errors status
-  Lost : (test : List Section) (bytes : List ℕ) → AreTestsOf ask job (test ∷ []) → Shows part test bytes → Loses writer (Some bytes)
-      → Told errors (line_of fault.Output) → status ≡ 2 → EndsShown part ask job writer errors status
+pub data EndsShown {W E : Type 0} (part : TestPart) (ask : TestAsk) (job : Job) (s : Outputs W E) (status : ℕ) : Type 0 where
+  Shown : (test : List Section) (bytes : List ℕ) → AreTestsOf ask job (test ∷ []) → Shows part test bytes → Gets s.output (Some bytes)
+      → s.errors.new ≡ s.errors.old → status ≡ 0 → EndsShown part ask job s status
+  Refused : (refusal : JobRefusal) → RefusesShown ask job part refusal → s.output.new ≡ s.output.old → Told s.errors (line_of (fault.Refused refusal))
+      → status ≡ 2 → EndsShown part ask job s status
+  Exhausted : s.output.new ≡ s.output.old → Told s.errors (line_of fault.Memory) → status ≡ 2 → EndsShown part ask job s status
+  Lost : (test : List Section) (bytes : List ℕ) → AreTestsOf ask job (test ∷ []) → Shows part test bytes → Loses s.output (Some bytes)
+      → Told s.errors (line_of fault.Output) → status ≡ 2 → EndsShown part ask job s status
 
 -- How a job of `test` ends, by the part that is to be shown, if there is one.
-abbrev pub EndsTest : {W E : Type 0} → Option TestPart → TestAsk → Job → Stream W → Stream E → ℕ → Type 0
-EndsTest None ask job writer errors status = EndsRun ask.is_tracefile ask.covers ask job writer errors status
-EndsTest (Some part) ask job writer errors status = EndsShown part ask job writer errors status
+abbrev pub EndsTest : {W E : Type 0} → Option TestPart → TestAsk → Job → Outputs W E → ℕ → Type 0
+EndsTest None ask job s status = EndsRun ask.is_tracefile ask.covers ask job s status
+EndsTest (Some part) ask job s status = EndsShown part ask job s status

@@ -18,6 +18,7 @@ use Rattle.std.specs.Borrow.{Bor}
 use Rattle.bpfdb_faults.specs.Streams.{Gets, Loses, Stream, Told}
 use Rattle.bpfdb_faults.specs.Faults.{line_of}
 use Rattle.bpfdb_jobs.specs.Refusals.{RefusesTests}
+use Rattle.bpfdb_jobs.specs.Streams.{Outputs, behind}
 use Rattle.bpfdb_faults.specs.declared.fault.JobFault.{JobFault}
 use Rattle.bpfdb_faults.specs.declared.fault.JobFault.TheVariants as fault
 use Rattle.bpfdb_jobs.specs.declared.job.Job.{Job}
@@ -72,34 +73,34 @@ pub data Reports {W : Type 0} (ask : TestAsk) (job : Job) (writer : Stream W) (r
       → Reports ask job writer result
 
 -- How a job of `test` ends that reports: with the status of its report; or it tells why there is none, and the status is 2.
-pub data EndsTests {W E : Type 0} (ask : TestAsk) (job : Job) (writer : Stream W) (errors : Stream E) (status : ℕ) : Type 0 where
-  Done : (reported : ℕ) → Reports ask job writer (Ok reported) → errors.new ≡ errors.old → status ≡ reported → EndsTests ask job writer errors status
-  Undone : (why : JobFault) → Reports ask job writer (Err why) → Told errors (line_of why) → status ≡ 2 → EndsTests ask job writer errors status
+pub data EndsTests {W E : Type 0} (ask : TestAsk) (job : Job) (s : Outputs W E) (status : ℕ) : Type 0 where
+  Done : (reported : ℕ) → Reports ask job s.output (Ok reported) → s.errors.new ≡ s.errors.old → status ≡ reported → EndsTests ask job s status
+  Undone : (why : JobFault) → Reports ask job s.output (Err why) → Told s.errors (line_of why) → status ≡ 2 → EndsTests ask job s status
 
 -- How a job ends that reported on tests, with this status, and then tells what ran: that was written; or memory ran out, and no more was written;
 -- or standard output failed, which got a beginning.
-pub data EndsTold {W E : Type 0} (form : CoverForm) (ask : TestAsk) (job : Job) (reported : ℕ) (writer : Stream W) (errors : Stream E) (status : ℕ) : Type 0 where
-  Covered : (text : List ℕ) → CoversTests form ask job text → Gets writer (Some text) → errors.new ≡ errors.old → status ≡ reported
-      → EndsTold form ask job reported writer errors status
-  Unfound : writer.new ≡ writer.old → Told errors (line_of fault.Memory) → status ≡ 2 → EndsTold form ask job reported writer errors status
-  Lost : (text : List ℕ) → CoversTests form ask job text → Loses writer (Some text) → Told errors (line_of fault.Output) → status ≡ 2
-      → EndsTold form ask job reported writer errors status
+pub data EndsTold {W E : Type 0} (form : CoverForm) (ask : TestAsk) (job : Job) (reported : ℕ) (s : Outputs W E) (status : ℕ) : Type 0 where
+  Covered : (text : List ℕ) → CoversTests form ask job text → Gets s.output (Some text) → s.errors.new ≡ s.errors.old → status ≡ reported
+      → EndsTold form ask job reported s status
+  Unfound : s.output.new ≡ s.output.old → Told s.errors (line_of fault.Memory) → status ≡ 2 → EndsTold form ask job reported s status
+  Lost : (text : List ℕ) → CoversTests form ask job text → Loses s.output (Some text) → Told s.errors (line_of fault.Output) → status ≡ 2
+      → EndsTold form ask job reported s status
 
 -- How a job of `test` ends that tells in tables what ran: they stand behind the report.
-pub data EndsCovered {W E : Type 0} (ask : TestAsk) (job : Job) (writer : Stream W) (errors : Stream E) (status : ℕ) : Type 0 where
-  Behind : (middle : Tally W) (reported : ℕ) → Reports ask job (record writer { new = middle }) (Ok reported)
-      → EndsTold Tables ask job reported (record writer { old = middle }) errors status → EndsCovered ask job writer errors status
-  Uncovered : (why : JobFault) → Reports ask job writer (Err why) → Told errors (line_of why) → status ≡ 2 → EndsCovered ask job writer errors status
+pub data EndsCovered {W E : Type 0} (ask : TestAsk) (job : Job) (s : Outputs W E) (status : ℕ) : Type 0 where
+  Behind : (middle : Tally W) (reported : ℕ) → Reports ask job (record s.output { new = middle }) (Ok reported)
+      → EndsTold Tables ask job reported (record s { output = record s.output { old = middle } }) status → EndsCovered ask job s status
+  Uncovered : (why : JobFault) → Reports ask job s.output (Err why) → Told s.errors (line_of why) → status ≡ 2 → EndsCovered ask job s status
 
 -- How one ends that tells it as a tracefile over the file of this name: that is all of standard output, and the report stands on standard error.
-pub data EndsTraced {W E : Type 0} (ask : TestAsk) (job : Job) (writer : Stream W) (errors : Stream E) (status : ℕ) : Type 0 where
-  Beside : (file : Bor (List ℕ)) (middle : Tally E) (reported : ℕ) → file.now ≡ job.name.now → Reports ask job (record errors { new = middle }) (Ok reported)
-      → EndsTold (Tracefile file) ask job reported writer (record errors { old = middle }) status → EndsTraced ask job writer errors status
-  Untraced : (why : JobFault) (middle : Tally E) → Reports ask job (record errors { new = middle }) (Err why)
-      → Told (record errors { old = middle }) (line_of why) → writer.new ≡ writer.old → status ≡ 2 → EndsTraced ask job writer errors status
+pub data EndsTraced {W E : Type 0} (ask : TestAsk) (job : Job) (s : Outputs W E) (status : ℕ) : Type 0 where
+  Beside : (file : Bor (List ℕ)) (middle : Tally E) (reported : ℕ) → file.now ≡ job.name.now → Reports ask job (record s.errors { new = middle }) (Ok reported)
+      → EndsTold (Tracefile file) ask job reported (behind middle s) status → EndsTraced ask job s status
+  Untraced : (why : JobFault) (middle : Tally E) → Reports ask job (record s.errors { new = middle }) (Err why)
+      → Told (record s.errors { old = middle }) (line_of why) → s.output.new ≡ s.output.old → status ≡ 2 → EndsTraced ask job s status
 
 -- By the options: a tracefile, or tables, or neither.
-abbrev pub EndsRun : {W E : Type 0} → Bool → Bool → TestAsk → Job → Stream W → Stream E → ℕ → Type 0
-EndsRun true covers ask job writer errors status = EndsTraced ask job writer errors status
-EndsRun false true ask job writer errors status = EndsCovered ask job writer errors status
-EndsRun false false ask job writer errors status = EndsTests ask job writer errors status
+abbrev pub EndsRun : {W E : Type 0} → Bool → Bool → TestAsk → Job → Outputs W E → ℕ → Type 0
+EndsRun true covers ask job s status = EndsTraced ask job s status
+EndsRun false true ask job s status = EndsCovered ask job s status
+EndsRun false false ask job s status = EndsTests ask job s status

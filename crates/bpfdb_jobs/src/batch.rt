@@ -2,8 +2,10 @@
 ghost use Rattle.std.specs.Prelude.{◌≡◌, ◌≤◌, IfErr, OnOk};
 ghost use Rattle.bpfdb_faults.specs.Streams.{Told, stream};
 ghost use Rattle.bpfdb_jobs.specs.Cases.{EndsBatch, batch_line};
+ghost use Rattle.bpfdb_jobs.specs.Streams.{between};
 
 use crate::job::Job;
+use crate::streams::Streams;
 use bpf_batch::{Batch, BatchFault, run_batch};
 use bpf_load::named_maps;
 use bpfdb_faults::{JobFault, JobRefusal, give_up};
@@ -18,23 +20,28 @@ pub fn batch_job<R: Read, W: Write, E: Write>(
     alloc: Global,
     job: &Job<'_>,
     reader: &mut Counted<R>,
-    writer: &mut Counted<W>,
-    errors: &mut Counted<E>,
+    streams: &mut Streams<W, E>,
 ) -> u8
     ensures does { EndsBatch job.now (stream R.remaining reader.old reader.new)
-        (stream W.contents writer.old writer.new) (stream E.contents errors.old errors.new) result }
+        (between W.contents E.contents streams.old streams.new) result }
     ensures status { result ≤ 2 }
 {
     let maps = match named_maps(&job.target) {
         Ok(maps) => maps,
-        Err(fault) => return give_up(errors, &JobFault::Refused(JobRefusal::Maps(fault))),
+        Err(fault) => return give_up(
+            &mut streams.errors,
+            &JobFault::Refused(JobRefusal::Maps(fault)),
+        ),
     };
     let batch = Batch {
         maps: &maps,
         limit: job.options.limit,
         program: job.file,
     };
-    batch_ended(run_batch(alloc, &batch, reader, writer), errors)
+    batch_ended(
+        run_batch(alloc, &batch, reader, &mut streams.output),
+        &mut streams.errors,
+    )
 }
 
 /// The exit status of a batch: 0, or 2 where it broke off, which is told.

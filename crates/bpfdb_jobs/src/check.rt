@@ -5,9 +5,10 @@ ghost use Rattle.counted_io.specs.Writing.{Writes};
 ghost use Rattle.bpfdb_jobs.specs.Endings.{EndsPrinted};
 ghost use Rattle.bpfdb_jobs.specs.Programs.{check_line};
 ghost use Rattle.bpfdb_options.specs.declared.ask.Ask.TheVariants.{Check};
-ghost use Rattle.bpfdb_faults.specs.Streams.{stream};
+ghost use Rattle.bpfdb_jobs.specs.Streams.{between};
 
 use crate::job::Job;
+use crate::streams::Streams;
 use bpf_isa::Program;
 use bpf_load::Loaded;
 use bpfdb_faults::{ended, flush_after};
@@ -18,16 +19,14 @@ use std::io::Write;
 pub fn check_job<W: Write, E: Write>(
     job: &Job<'_>,
     loaded: &Loaded,
-    writer: &mut Counted<W>,
-    errors: &mut Counted<E>,
+    streams: &mut Streams<W, E>,
 ) -> u8
     requires loaded { Loads job.now.target job.now.file.now loaded.now }
-    ensures does { EndsPrinted Check job.now (stream W.contents writer.old writer.new)
-        (stream E.contents errors.old errors.new) result }
+    ensures does { EndsPrinted Check job.now (between W.contents E.contents streams.old streams.new) result }
     ensures status { result ≤ 2 }
 {
-    let written = write_size(&loaded.program, writer);
-    ended(written, errors)
+    let written = write_size(&loaded.program, &mut streams.output);
+    ended(written, &mut streams.errors)
 }
 
 /// Writes how many instructions and slots a program has, and flushes.

@@ -1,9 +1,10 @@
 //! What a job of `test` does that tells what ran.
 ghost use Rattle.std.specs.Prelude.{◌≤◌, IfOk};
-ghost use Rattle.bpfdb_faults.specs.Streams.{stream};
 ghost use Rattle.bpfdb_jobs.specs.Suites.{CoversTests, EndsCovered, EndsTold, EndsTraced};
+ghost use Rattle.bpfdb_jobs.specs.Streams.{between};
 
 use crate::job::Job;
+use crate::streams::Streams;
 use crate::suite::report_on;
 use bpf_suite::{CoverForm, Suite};
 use bpfdb_faults::{JobFault, give_up, write_out};
@@ -17,24 +18,14 @@ pub fn cover_job<W: Write, E: Write>(
     alloc: Global,
     ask: &TestAsk<'_>,
     job: &Job<'_>,
-    writer: &mut Counted<W>,
-    errors: &mut Counted<E>,
+    streams: &mut Streams<W, E>,
 ) -> u8
-    ensures does { EndsCovered ask.now job.now (stream W.contents writer.old writer.new)
-        (stream E.contents errors.old errors.new) result }
+    ensures does { EndsCovered ask.now job.now (between W.contents E.contents streams.old streams.new) result }
     ensures status { result ≤ 2 }
 {
-    match report_on(alloc, ask, job, writer) {
-        Ok(reported) => tell_cover(
-            alloc,
-            ask,
-            job,
-            &CoverForm::Tables,
-            reported,
-            writer,
-            errors,
-        ),
-        Err(why) => give_up(errors, &why),
+    match report_on(alloc, ask, job, &mut streams.output) {
+        Ok(reported) => tell_cover(alloc, ask, job, &CoverForm::Tables, reported, streams),
+        Err(why) => give_up(&mut streams.errors, &why),
     }
 }
 
@@ -44,19 +35,17 @@ pub fn tracefile_job<W: Write, E: Write>(
     alloc: Global,
     ask: &TestAsk<'_>,
     job: &Job<'_>,
-    writer: &mut Counted<W>,
-    errors: &mut Counted<E>,
+    streams: &mut Streams<W, E>,
 ) -> u8
-    ensures does { EndsTraced ask.now job.now (stream W.contents writer.old writer.new)
-        (stream E.contents errors.old errors.new) result }
+    ensures does { EndsTraced ask.now job.now (between W.contents E.contents streams.old streams.new) result }
     ensures status { result ≤ 2 }
 {
-    match report_on(alloc, ask, job, errors) {
+    match report_on(alloc, ask, job, &mut streams.errors) {
         Ok(reported) => {
             let form = CoverForm::Tracefile(job.name.as_bytes());
-            tell_cover(alloc, ask, job, &form, reported, writer, errors)
+            tell_cover(alloc, ask, job, &form, reported, streams)
         }
-        Err(why) => give_up(errors, &why),
+        Err(why) => give_up(&mut streams.errors, &why),
     }
 }
 
@@ -67,21 +56,19 @@ fn tell_cover<W: Write, E: Write>(
     job: &Job<'_>,
     form: &CoverForm<'_>,
     reported: u8,
-    writer: &mut Counted<W>,
-    errors: &mut Counted<E>,
+    streams: &mut Streams<W, E>,
 ) -> u8
     requires { reported ≤ 2 }
-    ensures does { EndsTold form.now ask.now job.now reported (stream W.contents writer.old writer.new)
-        (stream E.contents errors.old errors.new) result }
+    ensures does { EndsTold form.now ask.now job.now reported (between W.contents E.contents streams.old streams.new) result }
     ensures status { result ≤ 2 }
 {
     let text = match cover_of(alloc, ask, job, form) {
         Ok(text) => text,
-        Err(_) => return give_up(errors, &JobFault::Memory),
+        Err(_) => return give_up(&mut streams.errors, &JobFault::Memory),
     };
-    match write_out(writer, text.as_slice()) {
+    match write_out(&mut streams.output, text.as_slice()) {
         Ok(()) => reported,
-        Err(WriteFault) => give_up(errors, &JobFault::Output),
+        Err(WriteFault) => give_up(&mut streams.errors, &JobFault::Output),
     }
 }
 

@@ -18,6 +18,7 @@ ghost use Rattle.bpfdb_faults.specs.Faults.{line_of, output_line};
 ghost use Rattle.bpfdb_faults.specs.Streams.{Told, stream};
 ghost use Rattle.bpfdb_options.specs.Asks.{is_context, is_trace};
 ghost use Rattle.bpfdb_options.specs.declared.ask.Ask.TheVariants.{Diff};
+ghost use Rattle.bpfdb_jobs.specs.Streams.{between};
 
 use crate::against::against_job;
 use crate::job::Job;
@@ -28,6 +29,7 @@ use crate::origin::{bytes_of as object_bytes, names_of};
 use crate::other_map::other_map;
 use crate::runs::{ComparedRuns, compare};
 use crate::source::{AskedRun, Sources, sources_of};
+use crate::streams::Streams;
 use bpf_diff::{BothTexts, put_marked};
 use bpf_lines::Names;
 use bpf_link::{LinkFault, fault_names};
@@ -60,19 +62,17 @@ pub fn diff_job<W: Write, E: Write>(
     job: &Job<'_>,
     loaded: Loaded,
     known: Known<'_>,
-    writer: &mut Counted<W>,
-    errors: &mut Counted<E>,
+    streams: &mut Streams<W, E>,
 ) -> u8
     requires loaded { Loads job.now.target job.now.file.now loaded }
     requires known { IsKnown job.now loaded.object known }
-    ensures does { EndsPrinted (Diff diff.now) job.now (stream W.contents writer.old writer.new)
-        (stream E.contents errors.old errors.new) result }
+    ensures does { EndsPrinted (Diff diff.now) job.now (between W.contents E.contents streams.old streams.new) result }
     ensures status { result ≤ 2 }
 {
     if diff.other.is_trace() {
-        against_job(alloc, diff, job, loaded, writer, errors)
+        against_job(alloc, diff, job, loaded, streams)
     } else {
-        runs_job(alloc, diff, job, loaded, known.places, writer, errors)
+        runs_job(alloc, diff, job, loaded, known.places, streams)
     }
 }
 
@@ -83,6 +83,15 @@ pub(crate) struct Side<'a> {
     pub(crate) cpu: Cpu,
     pub(crate) object: Option<&'a LinkedObject>,
     pub(crate) places: SlotTexts<'a>,
+}
+
+/// By what places of two runs are told: the names in the maps of each one's object, and where its slots
+/// stand in C.
+#[derive(Clone, Copy)]
+struct BothPlaces<'a> {
+    names: Option<&'a Names<'a>>,
+    others: Option<&'a Names<'a>>,
+    texts: BothTexts<'a>,
 }
 
 /// The machine of the other run, and the object of its own that its program comes from, if there is
@@ -100,26 +109,24 @@ fn runs_job<W: Write, E: Write>(
     job: &Job<'_>,
     loaded: Loaded,
     places: SlotTexts<'_>,
-    writer: &mut Counted<W>,
-    errors: &mut Counted<E>,
+    streams: &mut Streams<W, E>,
 ) -> u8
     requires runs { is_trace diff.now.other ≡ false }
     requires loaded { Loads job.now.target job.now.file.now loaded }
     requires places { AreTold job.now loaded.object places }
-    ensures does { EndsPrinted (Diff diff.now) job.now (stream W.contents writer.old writer.new)
-        (stream E.contents errors.old errors.new) result }
+    ensures does { EndsPrinted (Diff diff.now) job.now (between W.contents E.contents streams.old streams.new) result }
     ensures status { result ≤ 2 }
 {
     let Loaded { program, object } = loaded;
     let file = object.as_ref();
     let first = match machine_of(alloc, job, program) {
         Ok(cpu) => cpu,
-        Err(refusal) => return give_up(errors, &JobFault::Refused(refusal)),
+        Err(refusal) => return give_up(&mut streams.errors, &JobFault::Refused(refusal)),
     };
     let other = other_run(diff, job);
     let machine = match other_machine(alloc, diff, job, &other, file) {
         Ok(machine) => machine,
-        Err(fault) => return refuse_other(&fault, errors),
+        Err(fault) => return refuse_other(&fault, &mut streams.errors),
     };
     let OtherMachine {
         cpu: second,
@@ -128,7 +135,7 @@ fn runs_job<W: Write, E: Write>(
     let beside = object_beside(diff, file, own.as_ref());
     let others = match other_places(alloc, &other, beside) {
         Ok(places) => places,
-        Err(fault) => return refuse_other(&OtherFault::Object(fault), errors),
+        Err(fault) => return refuse_other(&OtherFault::Object(fault), &mut streams.errors),
     };
     let one = Side {
         cpu: first,
@@ -140,7 +147,7 @@ fn runs_job<W: Write, E: Write>(
         object: beside,
         places: others.known().places,
     };
-    sides_job(alloc, diff, job, &other, one, another, writer, errors)
+    sides_job(alloc, diff, job, &other, one, another, streams)
 }
 
 /// Where the slots of the other run stand in C; nothing where its lines can't be read.
@@ -209,21 +216,22 @@ fn sides_job<W: Write, E: Write>(
     other: &Job<'_>,
     first: Side<'_>,
     second: Side<'_>,
-    writer: &mut Counted<W>,
-    errors: &mut Counted<E>,
+    streams: &mut Streams<W, E>,
 ) -> u8
     requires runs { (is_trace diff.now.other ≡ false) × IsOtherRun diff.now job.now other.now }
     requires first { OpensOf job.now (lent first.object) first.cpu }
     requires second { OpensOf other.now (lent second.object) second.cpu }
     requires told { AreTold job.now (lent first.object) first.places
         × AreTold other.now (lent second.object) second.places }
-    ensures does { EndsPrinted (Diff diff.now) job.now (stream W.contents writer.old writer.new)
-        (stream E.contents errors.old errors.new) result }
+    ensures does { EndsPrinted (Diff diff.now) job.now (between W.contents E.contents streams.old streams.new) result }
     ensures status { result ≤ 2 }
 {
     match other_map(&first, &second) {
-        Some(number) => give_up(errors, &JobFault::Refused(JobRefusal::OtherMap(number))),
-        None => alike_job(alloc, diff, job, other, first, second, writer, errors),
+        Some(number) => give_up(
+            &mut streams.errors,
+            &JobFault::Refused(JobRefusal::OtherMap(number)),
+        ),
+        None => alike_job(alloc, diff, job, other, first, second, streams),
     }
 }
 
@@ -235,8 +243,7 @@ fn alike_job<W: Write, E: Write>(
     other: &Job<'_>,
     first: Side<'_>,
     second: Side<'_>,
-    writer: &mut Counted<W>,
-    errors: &mut Counted<E>,
+    streams: &mut Streams<W, E>,
 ) -> u8
     requires runs { (is_trace diff.now.other ≡ false) × IsOtherRun diff.now job.now other.now }
     requires opened { OpensOf job.now (lent first.object) first.cpu
@@ -245,17 +252,21 @@ fn alike_job<W: Write, E: Write>(
         × AreTold other.now (lent second.object) second.places }
     requires maps { AreSameMaps (loaded_of first.cpu.program (lent first.object))
         (loaded_of second.cpu.program (lent second.object)) }
-    ensures does { EndsPrinted (Diff diff.now) job.now (stream W.contents writer.old writer.new)
-        (stream E.contents errors.old errors.new) result }
+    ensures does { EndsPrinted (Diff diff.now) job.now (between W.contents E.contents streams.old streams.new) result }
     ensures status { result ≤ 2 }
 {
     let names = match names_for(alloc, diff, job, first.object) {
         Ok(names) => names,
-        Err(why) => return refuse(job, object_bytes(first.object), errors, why),
+        Err(why) => return refuse(job, object_bytes(first.object), &mut streams.errors, why),
     };
     let others = match names_for(alloc, diff, other, second.object) {
         Ok(names) => names,
-        Err(why) => return refuse_names(other, object_bytes(second.object), errors, why),
+        Err(why) => return refuse_names(
+            other,
+            object_bytes(second.object),
+            &mut streams.errors,
+            why,
+        ),
     };
     let texts = BothTexts {
         first: first.places,
@@ -263,10 +274,14 @@ fn alike_job<W: Write, E: Write>(
     };
     match compare(alloc, diff, job, other, texts, first.cpu, second.cpu) {
         Ok(runs) => {
-            let known = (names.as_ref(), others.as_ref());
-            tell_runs(alloc, diff, job, other, known, texts, runs, writer, errors)
+            let places = BothPlaces {
+                names: names.as_ref(),
+                others: others.as_ref(),
+                texts,
+            };
+            tell_runs(alloc, diff, job, other, places, runs, streams)
         }
-        Err(AllocError) => give_up(errors, &JobFault::Memory),
+        Err(AllocError) => give_up(&mut streams.errors, &JobFault::Memory),
     }
 }
 
@@ -318,15 +333,12 @@ fn tell_runs<W: Write, E: Write>(
     diff: &DiffAsk,
     job: &Job<'_>,
     other: &Job<'_>,
-    names: (Option<&Names<'_>>, Option<&Names<'_>>),
-    texts: BothTexts<'_>,
+    places: BothPlaces<'_>,
     runs: ComparedRuns,
-    writer: &mut Counted<W>,
-    errors: &mut Counted<E>,
+    streams: &mut Streams<W, E>,
 ) -> u8
-    requires { WereCompared diff.now job.now other.now names.0 names.1 texts runs }
-    ensures does { EndsPrinted (Diff diff.now) job.now (stream W.contents writer.old writer.new)
-        (stream E.contents errors.old errors.new) result }
+    requires { WereCompared diff.now job.now other.now places.names places.others places.texts runs }
+    ensures does { EndsPrinted (Diff diff.now) job.now (between W.contents E.contents streams.old streams.new) result }
     ensures status { result ≤ 2 }
 {
     let ComparedRuns {
@@ -339,21 +351,24 @@ fn tell_runs<W: Write, E: Write>(
     let one = AskedRun {
         cpu: first,
         context: job.context,
-        names: names.0,
-        places: texts.first,
+        names: places.names,
+        places: places.texts.first,
     };
     let another = AskedRun {
         cpu: second,
         context: other.context,
-        names: names.1,
-        places: texts.second,
+        names: places.others,
+        places: places.texts.second,
     };
     match sources_of(alloc, diff, job, values, one, another) {
         Ok(sources) => {
             let told = text.as_slice();
-            put_runs(diff, job, told, is_same, &sources, writer, errors)
+            put_runs(diff, job, told, is_same, &sources, streams)
         }
-        Err(fault) => give_up(errors, &JobFault::Refused(JobRefusal::Journal(fault))),
+        Err(fault) => give_up(
+            &mut streams.errors,
+            &JobFault::Refused(JobRefusal::Journal(fault)),
+        ),
     }
 }
 
@@ -364,22 +379,20 @@ fn put_runs<W: Write, E: Write>(
     text: &[u8],
     is_same: bool,
     sources: &Sources,
-    writer: &mut Counted<W>,
-    errors: &mut Counted<E>,
+    streams: &mut Streams<W, E>,
 ) -> u8
     requires { Prints (Diff diff.now) job.now
         (runs_told text.now is_same (sources.now.first.items, sources.now.second.items)) }
-    ensures does { EndsPrinted (Diff diff.now) job.now (stream W.contents writer.old writer.new)
-        (stream E.contents errors.old errors.new) result }
+    ensures does { EndsPrinted (Diff diff.now) job.now (between W.contents E.contents streams.old streams.new) result }
     ensures status { result ≤ 2 }
 {
     let first = sources.first.as_slice();
     let second = sources.second.as_slice();
-    let told = put(writer, Ok(()), text);
-    let half = put_marked(writer, told, b"< ", first);
-    let all = put_marked(writer, half, b"> ", second);
-    let written = flush_after(writer, all);
-    end_of(written, is_same, errors)
+    let told = put(&mut streams.output, Ok(()), text);
+    let half = put_marked(&mut streams.output, told, b"< ", first);
+    let all = put_marked(&mut streams.output, half, b"> ", second);
+    let written = flush_after(&mut streams.output, all);
+    end_of(written, is_same, &mut streams.errors)
 }
 
 /// The exit status of two runs that were compared, and told or not.

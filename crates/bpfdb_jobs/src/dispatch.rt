@@ -13,6 +13,7 @@ ghost use Rattle.counted_io.specs.Writing.{Writes};
 ghost use Rattle.bpfdb_jobs.specs.Refusals.{LacksPlaces, RefusesLoading, TellsFault};
 ghost use Rattle.bpfdb_limits.specs.Limits.{IsLimit};
 ghost use Rattle.bpfdb_faults.specs.Streams.{Told, stream};
+ghost use Rattle.bpfdb_jobs.specs.Streams.{between};
 
 use crate::batch::batch_job;
 use crate::check::check_job;
@@ -26,6 +27,7 @@ use crate::load::load_job;
 use crate::object::{link_job, refuse_object, refuse_target};
 use crate::origin::origin_job;
 use crate::run::run_job;
+use crate::streams::Streams;
 use crate::suite::test_job;
 use crate::trace::trace_job;
 use crate::whynot::whynot_job;
@@ -41,25 +43,24 @@ use std::io::{Read, Write};
 /// program or at the limit of steps, where a test fails, where an answer of `origin` or `whynot` is
 /// cut, and where the runs of `diff` part; 2 where the job is refused, where input or output fails, and where memory runs out.
 ///
-/// Results, replies and answers go to the writer. A refusal, a fault or a limit is one line on
-/// `errors`, and so are the maps of an object that `link` links. The reader is read by `debug`,
+/// Results, replies and answers go to standard output. A refusal, a fault or a limit is one line on
+/// standard error, and so are the maps of an object that `link` links. The reader is read by `debug`,
 /// `gdb` and `batch` alone.
 pub fn tool<R: Read, W: Write, E: Write>(
     alloc: Global,
     job: &Job<'_>,
     reader: &mut Counted<R>,
-    writer: &mut Counted<W>,
-    errors: &mut Counted<E>,
+    streams: &mut Streams<W, E>,
 ) -> u8
     requires limit { IsLimit job.now.options.limit }
     ensures does { DoesJob job.now.ask job.now (stream R.remaining reader.old reader.new)
-        (stream W.contents writer.old writer.new) (stream E.contents errors.old errors.new) result }
+        (between W.contents E.contents streams.old streams.new) result }
     ensures status { result ≤ 2 }
 {
     if is_check(&job.ask) {
-        loaded_tool(alloc, job, reader, writer, errors)
+        loaded_tool(alloc, job, reader, streams)
     } else {
-        file_tool(alloc, job, reader, writer, errors)
+        file_tool(alloc, job, reader, streams)
     }
 }
 
@@ -68,20 +69,19 @@ fn file_tool<R: Read, W: Write, E: Write>(
     alloc: Global,
     job: &Job<'_>,
     reader: &mut Counted<R>,
-    writer: &mut Counted<W>,
-    errors: &mut Counted<E>,
+    streams: &mut Streams<W, E>,
 ) -> u8
     requires { is_check job.now.ask ≡ false }
     ensures does { DoesPlain job.now.ask job.now (stream R.remaining reader.old reader.new)
-        (stream W.contents writer.old writer.new) (stream E.contents errors.old errors.new) result }
+        (between W.contents E.contents streams.old streams.new) result }
     ensures status { result ≤ 2 }
 {
     match &job.ask {
-        Ask::Asm => asm_job(alloc, job, writer, errors),
-        Ask::Lines => lines_job(alloc, job, writer, errors),
-        Ask::Link { is_joined } => link_job(alloc, *is_joined, job, writer, errors),
-        Ask::Test(ask) => test_job(alloc, ask, job, writer, errors),
-        Ask::Batch => batch_job(alloc, job, reader, writer, errors),
+        Ask::Asm => asm_job(alloc, job, streams),
+        Ask::Lines => lines_job(alloc, job, streams),
+        Ask::Link { is_joined } => link_job(alloc, *is_joined, job, streams),
+        Ask::Test(ask) => test_job(alloc, ask, job, streams),
+        Ask::Batch => batch_job(alloc, job, reader, streams),
         _ => unreachable!(),
     }
 }
@@ -91,23 +91,22 @@ fn loaded_tool<R: Read, W: Write, E: Write>(
     alloc: Global,
     job: &Job<'_>,
     reader: &mut Counted<R>,
-    writer: &mut Counted<W>,
-    errors: &mut Counted<E>,
+    streams: &mut Streams<W, E>,
 ) -> u8
     requires limit { IsLimit job.now.options.limit }
     requires checks { is_check job.now.ask ≡ true }
     ensures does { DoesJob job.now.ask job.now (stream R.remaining reader.old reader.new)
-        (stream W.contents writer.old writer.new) (stream E.contents errors.old errors.new) result }
+        (between W.contents E.contents streams.old streams.new) result }
     ensures status { result ≤ 2 }
 {
-    let Some(loaded) = loaded_of(alloc, job, errors) else {
+    let Some(loaded) = loaded_of(alloc, job, &mut streams.errors) else {
         return 2;
     };
-    let places = match places_told(alloc, job, loaded.object.as_ref(), errors) {
+    let places = match places_told(alloc, job, loaded.object.as_ref(), &mut streams.errors) {
         Some(places) => places,
         None => return 2,
     };
-    program_tool(alloc, job, loaded, places.known(), reader, writer, errors)
+    program_tool(alloc, job, loaded, places.known(), reader, streams)
 }
 
 /// The program of FILE; none where it isn't loaded, which is told. What a refusal needs of the stack is
@@ -228,31 +227,36 @@ fn program_tool<R: Read, W: Write, E: Write>(
     loaded: Loaded,
     known: Known<'_>,
     reader: &mut Counted<R>,
-    writer: &mut Counted<W>,
-    errors: &mut Counted<E>,
+    streams: &mut Streams<W, E>,
 ) -> u8
     requires checks { IsLimit job.now.options.limit × (is_check job.now.ask ≡ true) }
     requires loaded { Loads job.now.target job.now.file.now loaded }
     requires known { IsKnown job.now loaded.object known }
     ensures does { DoesPlain job.now.ask job.now (stream R.remaining reader.old reader.new)
-        (stream W.contents writer.old writer.new) (stream E.contents errors.old errors.new) result }
+        (between W.contents E.contents streams.old streams.new) result }
     ensures status { result ≤ 2 }
 {
     match &job.ask {
-        Ask::Run { is_strict } => run_job(alloc, job, *is_strict, loaded, known, writer, errors),
-        Ask::Trace(trace) => trace_job(alloc, trace, job, loaded, known, writer, errors),
-        Ask::Debug => debug_job(alloc, job, loaded.program, reader, writer, errors),
-        Ask::Origin(origin) => origin_job(alloc, origin, job, loaded, known, writer, errors),
-        Ask::Whynot(why) => whynot_job(alloc, why, job, loaded, known, writer, errors),
-        Ask::Diff(diff) => diff_job(alloc, diff, job, loaded, known, writer, errors),
-        Ask::Gdb(registers) => {
-            gdb_job(
-                alloc, *registers, job, loaded, known, reader, writer, errors,
+        Ask::Run { is_strict } => run_job(alloc, job, *is_strict, loaded, known, streams),
+        Ask::Trace(trace) => trace_job(alloc, trace, job, loaded, known, streams),
+        Ask::Debug => {
+            let program = loaded.program;
+            debug_job(
+                alloc,
+                job,
+                program,
+                reader,
+                &mut streams.output,
+                &mut streams.errors,
             )
-        }
-        Ask::Disasm => disasm_job(alloc, job, &loaded, writer, errors),
-        Ask::Check => check_job(job, &loaded, writer, errors),
-        Ask::Load => load_job(alloc, job, &loaded, writer, errors),
+        },
+        Ask::Origin(origin) => origin_job(alloc, origin, job, loaded, known, streams),
+        Ask::Whynot(why) => whynot_job(alloc, why, job, loaded, known, streams),
+        Ask::Diff(diff) => diff_job(alloc, diff, job, loaded, known, streams),
+        Ask::Gdb(registers) => gdb_job(alloc, *registers, job, loaded, known, reader, streams),
+        Ask::Disasm => disasm_job(alloc, job, &loaded, streams),
+        Ask::Check => check_job(job, &loaded, streams),
+        Ask::Load => load_job(alloc, job, &loaded, streams),
         _ => unreachable!(),
     }
 }

@@ -1,18 +1,19 @@
 //! What a job of `gdb` does.
 ghost use Rattle.std.specs.Prelude.{◌≡◌, ◌≤◌};
-ghost use Rattle.bpf_load.specs.Targets.{lent, loaded_of};
+ghost use Rattle.bpf_load.specs.Targets.{lent};
 ghost use Rattle.bpfdb_jobs.specs.Connections.{KnowsNames, layout_of};
 ghost use Rattle.bpfdb_jobs.specs.Done.{ServesGdb};
 ghost use Rattle.bpfdb_jobs.specs.Jobs.{IsKnown};
 ghost use Rattle.bpfdb_limits.specs.Limits.{IsLimit};
 ghost use Rattle.bpfdb_faults.specs.Streams.{stream};
+ghost use Rattle.bpfdb_jobs.specs.Streams.{between};
 
 use crate::ending::session_ended;
 use crate::job::Job;
 use crate::known::Known;
 use crate::opening::{session_of, wanted_of};
 use crate::origin::names_of;
-use bpf_isa::Program;
+use crate::streams::Streams;
 use bpf_lines::Names;
 use bpf_load::{LinkedObject, Loaded};
 use bpf_remote::{Layout, Target, serve};
@@ -33,63 +34,33 @@ pub fn gdb_job<R: Read, W: Write, E: Write>(
     loaded: Loaded,
     known: Known<'_>,
     reader: &mut Counted<R>,
-    writer: &mut Counted<W>,
-    errors: &mut Counted<E>,
+    streams: &mut Streams<W, E>,
 ) -> u8
     requires limit { IsLimit job.now.options.limit }
     requires known { IsKnown job.now loaded.object known }
     ensures does { ServesGdb registers job.now loaded (stream R.remaining reader.old reader.new)
-        (stream W.contents writer.old writer.new) (stream E.contents errors.old errors.new) result }
+        (between W.contents E.contents streams.old streams.new) result }
     ensures status { result ≤ 2 }
 {
     let Loaded { program, object } = loaded;
-    serve_program(
-        alloc,
-        registers,
-        job,
-        program,
-        object.as_ref(),
-        known,
-        reader,
-        writer,
-        errors,
-    )
-}
-
-/// Serves gdb over a program, which comes from this object, if it comes from one.
-fn serve_program<R: Read, W: Write, E: Write>(
-    alloc: Global,
-    registers: Registers,
-    job: &Job<'_>,
-    program: Program,
-    object: Option<&LinkedObject>,
-    known: Known<'_>,
-    reader: &mut Counted<R>,
-    writer: &mut Counted<W>,
-    errors: &mut Counted<E>,
-) -> u8
-    requires limit { IsLimit job.now.options.limit }
-    requires known { IsKnown job.now (lent object) known }
-    ensures does { ServesGdb registers job.now (loaded_of program (lent object.entry)) (stream R.remaining reader.old reader.new)
-        (stream W.contents writer.old writer.new) (stream E.contents errors.old errors.new) result }
-    ensures status { result ≤ 2 }
-{
     let mut session = match session_of(alloc, job, program) {
         Ok(session) => session,
-        Err(refusal) => return give_up(errors, &JobFault::Refused(refusal)),
+        Err(refusal) => return give_up(&mut streams.errors, &JobFault::Refused(refusal)),
     };
     let mut wanted = match wanted_of(alloc) {
         Ok(wanted) => wanted,
-        Err(refusal) => return give_up(errors, &JobFault::Refused(refusal)),
+        Err(refusal) => return give_up(&mut streams.errors, &JobFault::Refused(refusal)),
     };
-    let names = known_names(alloc, job, object);
+    let source = object.as_ref();
+    let names = known_names(alloc, job, source);
     let gdb = Target {
         layout: layout_of(registers),
         names: names.as_ref(),
         places: known.places,
     };
-    let served = serve(alloc, gdb, &mut session, &mut wanted, reader, writer);
-    session_ended(served, errors)
+    let output = &mut streams.output;
+    let served = serve(alloc, gdb, &mut session, &mut wanted, reader, output);
+    session_ended(served, &mut streams.errors)
 }
 
 /// The names in the maps of the object that a program comes from, where they are known: gdb is served

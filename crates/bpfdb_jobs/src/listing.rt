@@ -4,10 +4,11 @@ ghost use Rattle.bpf_load.specs.Targets.{Loads};
 ghost use Rattle.bpfdb_jobs.specs.Endings.{EndsPrinted};
 ghost use Rattle.bpfdb_jobs.specs.Jobs.{links_first};
 ghost use Rattle.bpfdb_options.specs.declared.ask.Ask.TheVariants.{Asm, Disasm, Lines};
-ghost use Rattle.bpfdb_faults.specs.Streams.{stream};
+ghost use Rattle.bpfdb_jobs.specs.Streams.{between};
 
 use crate::job::Job;
 use crate::object_lines::object_lines_job;
+use crate::streams::Streams;
 use bpf_load::{Loaded, SourceKind};
 use bpf_text::{assemble, disassemble, line_table};
 use bpfdb_faults::{JobFault, JobRefusal, ended, give_up, write_out};
@@ -16,22 +17,19 @@ use std::alloc::Global;
 use std::io::Write;
 
 /// Writes the words of a listing. The program isn't checked.
-pub fn asm_job<W: Write, E: Write>(
-    alloc: Global,
-    job: &Job<'_>,
-    writer: &mut Counted<W>,
-    errors: &mut Counted<E>,
-) -> u8
-    ensures does { EndsPrinted Asm job.now (stream W.contents writer.old writer.new)
-        (stream E.contents errors.old errors.new) result }
+pub fn asm_job<W: Write, E: Write>(alloc: Global, job: &Job<'_>, streams: &mut Streams<W, E>) -> u8
+    ensures does { EndsPrinted Asm job.now (between W.contents E.contents streams.old streams.new) result }
     ensures status { result ≤ 2 }
 {
     match assemble(alloc, job.file) {
         Ok(words) => {
-            let written = write_out(writer, words.as_slice());
-            ended(written, errors)
+            let written = write_out(&mut streams.output, words.as_slice());
+            ended(written, &mut streams.errors)
         }
-        Err(fault) => give_up(errors, &JobFault::Refused(JobRefusal::Listing(fault))),
+        Err(fault) => give_up(
+            &mut streams.errors,
+            &JobFault::Refused(JobRefusal::Listing(fault)),
+        ),
     }
 }
 
@@ -39,22 +37,23 @@ pub fn asm_job<W: Write, E: Write>(
 pub fn lines_job<W: Write, E: Write>(
     alloc: Global,
     job: &Job<'_>,
-    writer: &mut Counted<W>,
-    errors: &mut Counted<E>,
+    streams: &mut Streams<W, E>,
 ) -> u8
-    ensures does { EndsPrinted Lines job.now (stream W.contents writer.old writer.new)
-        (stream E.contents errors.old errors.new) result }
+    ensures does { EndsPrinted Lines job.now (between W.contents E.contents streams.old streams.new) result }
     ensures status { result ≤ 2 }
 {
     if links_first(job.target.kind) {
-        return object_lines_job(alloc, job, writer, errors);
+        return object_lines_job(alloc, job, streams);
     }
     match line_table(alloc, job.file) {
         Ok(table) => {
-            let written = write_out(writer, table.as_slice());
-            ended(written, errors)
+            let written = write_out(&mut streams.output, table.as_slice());
+            ended(written, &mut streams.errors)
         }
-        Err(fault) => give_up(errors, &JobFault::Refused(JobRefusal::Listing(fault))),
+        Err(fault) => give_up(
+            &mut streams.errors,
+            &JobFault::Refused(JobRefusal::Listing(fault)),
+        ),
     }
 }
 
@@ -73,19 +72,17 @@ pub fn disasm_job<W: Write, E: Write>(
     alloc: Global,
     job: &Job<'_>,
     loaded: &Loaded,
-    writer: &mut Counted<W>,
-    errors: &mut Counted<E>,
+    streams: &mut Streams<W, E>,
 ) -> u8
     requires loaded { Loads job.now.target job.now.file.now loaded.now }
-    ensures does { EndsPrinted Disasm job.now (stream W.contents writer.old writer.new)
-        (stream E.contents errors.old errors.new) result }
+    ensures does { EndsPrinted Disasm job.now (between W.contents E.contents streams.old streams.new) result }
     ensures status { result ≤ 2 }
 {
     match disassemble(alloc, &loaded.program) {
         Ok(listing) => {
-            let written = write_out(writer, listing.as_slice());
-            ended(written, errors)
+            let written = write_out(&mut streams.output, listing.as_slice());
+            ended(written, &mut streams.errors)
         }
-        Err(_) => give_up(errors, &JobFault::Memory),
+        Err(_) => give_up(&mut streams.errors, &JobFault::Memory),
     }
 }

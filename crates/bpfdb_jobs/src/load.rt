@@ -3,18 +3,19 @@ ghost use Rattle.std.specs.Prelude.{◌≡◌, ◌≤◌, ◌++◌, All, None, S
 ghost use Rattle.bpf_lines.specs.Objects.{HasPartLines, program_table};
 ghost use Rattle.bpf_load.specs.Targets.{Loads, lent};
 ghost use Rattle.counted_io.specs.Writing.{Writes, WritesAfter};
-ghost use Rattle.bpfdb_faults.specs.Streams.{stream};
 ghost use Rattle.bpfdb_jobs.specs.Differences.{differences};
 ghost use Rattle.bpfdb_jobs.specs.Endings.{EndsPrinted};
 ghost use Rattle.bpfdb_jobs.specs.Jobs.{Prints, printed};
 ghost use Rattle.bpfdb_jobs.specs.Programs.{behind_address, map_row, map_rows, name_in, program_text, row_of};
 ghost use Rattle.bpfdb_options.specs.declared.ask.Ask.TheVariants.{Load};
+ghost use Rattle.bpfdb_jobs.specs.Streams.{between};
 
 use crate::check::put_size;
 use crate::differences::put_differences;
 use crate::job::Job;
 use crate::known::lines_fault;
 use crate::object::refuse_object;
+use crate::streams::Streams;
 use bpf_isa::MapShape;
 use bpf_lines::{ObjectLines, program_lines, write_table};
 use bpf_link::short_at;
@@ -33,17 +34,15 @@ pub fn load_job<W: Write, E: Write>(
     alloc: Global,
     job: &Job<'_>,
     loaded: &Loaded,
-    writer: &mut Counted<W>,
-    errors: &mut Counted<E>,
+    streams: &mut Streams<W, E>,
 ) -> u8
     requires loaded { Loads job.now.target job.now.file.now loaded.now }
-    ensures does { EndsPrinted Load job.now (stream W.contents writer.old writer.new)
-        (stream E.contents errors.old errors.new) result }
+    ensures does { EndsPrinted Load job.now (between W.contents E.contents streams.old streams.new) result }
     ensures status { result ≤ 2 }
 {
     match &loaded.object {
-        Some(object) => tell_object(alloc, job, loaded, object, writer, errors),
-        None => tell_source(alloc, job, loaded, writer, errors),
+        Some(object) => tell_object(alloc, job, loaded, object, streams),
+        None => tell_source(alloc, job, loaded, streams),
     }
 }
 
@@ -53,13 +52,11 @@ fn tell_object<W: Write, E: Write>(
     job: &Job<'_>,
     loaded: &Loaded,
     object: &LinkedObject,
-    writer: &mut Counted<W>,
-    errors: &mut Counted<E>,
+    streams: &mut Streams<W, E>,
 ) -> u8
     requires loaded { Loads job.now.target job.now.file.now loaded.now }
     requires object { loaded.now.object ≡ Some object.now }
-    ensures does { EndsPrinted Load job.now (stream W.contents writer.old writer.new)
-        (stream E.contents errors.old errors.new) result }
+    ensures does { EndsPrinted Load job.now (between W.contents E.contents streams.old streams.new) result }
     ensures status { result ≤ 2 }
 {
     let own = object.sources.own.as_slice();
@@ -67,11 +64,18 @@ fn tell_object<W: Write, E: Write>(
     match program_lines(alloc, own, job.target.section, job.target.with) {
         Ok(all) => {
             let words = object.program.words.as_slice();
-            let written = write_object(writer, job, loaded, &notes, words, all.as_slice());
-            let flushed = flush_after(writer, written);
-            ended(flushed, errors)
+            let written = write_object(
+                &mut streams.output,
+                job,
+                loaded,
+                &notes,
+                words,
+                all.as_slice(),
+            );
+            let flushed = flush_after(&mut streams.output, written);
+            ended(flushed, &mut streams.errors)
         }
-        Err(told) => refuse_object(&lines_fault(job, &told), errors),
+        Err(told) => refuse_object(&lines_fault(job, &told), &mut streams.errors),
     }
 }
 
@@ -100,21 +104,22 @@ fn tell_source<W: Write, E: Write>(
     alloc: Global,
     job: &Job<'_>,
     loaded: &Loaded,
-    writer: &mut Counted<W>,
-    errors: &mut Counted<E>,
+    streams: &mut Streams<W, E>,
 ) -> u8
     requires loaded { Loads job.now.target job.now.file.now loaded.now }
     requires object { loaded.now.object ≡ None }
-    ensures does { EndsPrinted Load job.now (stream W.contents writer.old writer.new)
-        (stream E.contents errors.old errors.new) result }
+    ensures does { EndsPrinted Load job.now (between W.contents E.contents streams.old streams.new) result }
     ensures status { result ≤ 2 }
 {
     match job.target.kind {
         SourceKind::Listing => match line_table(alloc, job.file) {
-            Ok(table) => tell_rows(job, loaded, table.as_slice(), writer, errors),
-            Err(fault) => give_up(errors, &JobFault::Refused(JobRefusal::Listing(fault))),
+            Ok(table) => tell_rows(job, loaded, table.as_slice(), streams),
+            Err(fault) => give_up(
+                &mut streams.errors,
+                &JobFault::Refused(JobRefusal::Listing(fault)),
+            ),
         },
-        SourceKind::Words | SourceKind::Object => tell_rows(job, loaded, b"", writer, errors),
+        SourceKind::Words | SourceKind::Object => tell_rows(job, loaded, b"", streams),
     }
 }
 
@@ -123,18 +128,16 @@ fn tell_rows<W: Write, E: Write>(
     job: &Job<'_>,
     loaded: &Loaded,
     rows: &[u8],
-    writer: &mut Counted<W>,
-    errors: &mut Counted<E>,
+    streams: &mut Streams<W, E>,
 ) -> u8
     requires { Prints Load job.now (printed (program_text loaded.now ++ rows.now)) }
-    ensures does { EndsPrinted Load job.now (stream W.contents writer.old writer.new)
-        (stream E.contents errors.old errors.new) result }
+    ensures does { EndsPrinted Load job.now (between W.contents E.contents streams.old streams.new) result }
     ensures status { result ≤ 2 }
 {
-    let begun = write_program(writer, loaded);
-    let told = put(writer, begun, rows);
-    let written = flush_after(writer, told);
-    ended(written, errors)
+    let begun = write_program(&mut streams.output, loaded);
+    let told = put(&mut streams.output, begun, rows);
+    let written = flush_after(&mut streams.output, told);
+    ended(written, &mut streams.errors)
 }
 
 /// Writes the size of a program, and its maps.

@@ -10,9 +10,11 @@ ghost use Rattle.bpfdb_jobs.specs.Jobs.{answered_if, fields_if};
 ghost use Rattle.bpfdb_jobs.specs.Refusals.{TellsFault, TellsTarget};
 ghost use Rattle.bpfdb_faults.specs.declared.refusal.JobRefusal.{JobRefusal as WhyRefused};
 ghost use Rattle.bpfdb_options.specs.declared.ask.Ask.TheVariants.{Link};
+ghost use Rattle.bpfdb_jobs.specs.Streams.{between};
 
 use crate::job::Job;
 use crate::maps::tell_linked;
+use crate::streams::Streams;
 use bpf_link::{LinkFault, fault_names};
 use bpf_load::{LinkedObject, ObjectFault, TargetFault, gathered, link_object};
 use bpfdb_faults::{JobFault, JobRefusal, ended, give_up, told_as, write_out};
@@ -27,39 +29,31 @@ pub fn link_job<W: Write, E: Write>(
     alloc: Global,
     is_joined: bool,
     job: &Job<'_>,
-    writer: &mut Counted<W>,
-    errors: &mut Counted<E>,
+    streams: &mut Streams<W, E>,
 ) -> u8
-    ensures does { EndsPrinted (Link is_joined) job.now (stream W.contents writer.old writer.new)
-        (stream E.contents errors.old errors.new) result }
+    ensures does { EndsPrinted (Link is_joined) job.now (between W.contents E.contents streams.old streams.new) result }
     ensures status { result ≤ 2 }
 {
     if is_joined {
-        return put_object(alloc, job, writer, errors);
+        return put_object(alloc, job, streams);
     }
     match link_object(alloc, job.file, &job.target) {
-        Ok(linked) => put_program(job, &linked, writer, errors),
-        Err(fault) => refuse_object(&fault, errors),
+        Ok(linked) => put_program(job, &linked, streams),
+        Err(fault) => refuse_object(&fault, &mut streams.errors),
     }
 }
 
 /// Writes the object that would be linked.
-fn put_object<W: Write, E: Write>(
-    alloc: Global,
-    job: &Job<'_>,
-    writer: &mut Counted<W>,
-    errors: &mut Counted<E>,
-) -> u8
-    ensures does { EndsPrinted (Link true) job.now (stream W.contents writer.old writer.new)
-        (stream E.contents errors.old errors.new) result }
+fn put_object<W: Write, E: Write>(alloc: Global, job: &Job<'_>, streams: &mut Streams<W, E>) -> u8
+    ensures does { EndsPrinted (Link true) job.now (between W.contents E.contents streams.old streams.new) result }
     ensures status { result ≤ 2 }
 {
     match gathered(alloc, job.file, &job.target) {
         Ok(sources) => {
-            let written = write_out(writer, sources.object());
-            ended(written, errors)
+            let written = write_out(&mut streams.output, sources.object());
+            ended(written, &mut streams.errors)
         }
-        Err(fault) => refuse_object(&fault, errors),
+        Err(fault) => refuse_object(&fault, &mut streams.errors),
     }
 }
 
@@ -67,21 +61,19 @@ fn put_object<W: Write, E: Write>(
 fn put_program<W: Write, E: Write>(
     job: &Job<'_>,
     object: &LinkedObject,
-    writer: &mut Counted<W>,
-    errors: &mut Counted<E>,
+    streams: &mut Streams<W, E>,
 ) -> u8
     requires { LinksTo job.now.target job.now.file.now object.now }
-    ensures does { EndsPrinted (Link false) job.now (stream W.contents writer.old writer.new)
-        (stream E.contents errors.old errors.new) result }
+    ensures does { EndsPrinted (Link false) job.now (between W.contents E.contents streams.old streams.new) result }
     ensures status { result ≤ 2 }
 {
     let linked = &object.program;
     let answered = answered_if(job, linked.answered);
     let fields = fields_if(object.fields());
-    match write_out(writer, linked.words.as_slice()) {
+    match write_out(&mut streams.output, linked.words.as_slice()) {
         Ok(()) => told_as(
             tell_linked(
-                errors,
+                &mut streams.errors,
                 object.sources.object(),
                 linked.shapes.as_slice(),
                 linked.names.as_slice(),
@@ -90,7 +82,7 @@ fn put_program<W: Write, E: Write>(
             ),
             0,
         ),
-        Err(WriteFault) => give_up(errors, &JobFault::Output),
+        Err(WriteFault) => give_up(&mut streams.errors, &JobFault::Output),
     }
 }
 

@@ -12,13 +12,14 @@ ghost use Rattle.bpfdb_jobs.specs.Origins.{AreNamesOf, LacksNames, RefusesWhat, 
 ghost use Rattle.bpfdb_jobs.specs.Refusals.{RefusesArrival};
 ghost use Rattle.bpfdb_limits.specs.Limits.{IsLimit};
 ghost use Rattle.bpfdb_options.specs.declared.ask.Ask.TheVariants.{Origin};
-ghost use Rattle.bpfdb_faults.specs.Streams.{stream};
+ghost use Rattle.bpfdb_jobs.specs.Streams.{between};
 
 use crate::job::Job;
 use crate::known::Known;
 use crate::object::refuse;
 use crate::opening::{session_of, timeline_of, wanted_of};
 use crate::script::obey_script;
+use crate::streams::Streams;
 use bpf_journal::{JournalFault, Keeper, RingKeeper, Timeline};
 use bpf_lines::{Names, map_names, put_named};
 use bpf_link::LinkFault;
@@ -54,6 +55,13 @@ pub(crate) struct Reached {
     pub(crate) object: Option<LinkedObject>,
 }
 
+/// What is asked where a machine stands: about which parts of it, and how.
+#[derive(Clone, Copy)]
+struct Asked<'a> {
+    parts: &'a [Part],
+    question: Question<'a>,
+}
+
 /// What stands behind an answer, and how far it goes.
 #[derive(Clone, Copy)]
 struct Tail<'a> {
@@ -76,30 +84,18 @@ pub fn origin_job<W: Write, E: Write>(
     job: &Job<'_>,
     loaded: Loaded,
     known: Known<'_>,
-    writer: &mut Counted<W>,
-    errors: &mut Counted<E>,
+    streams: &mut Streams<W, E>,
 ) -> u8
     requires limit { IsLimit job.now.options.limit }
     requires loaded { Loads job.now.target job.now.file.now loaded }
     requires known { IsKnown job.now loaded.object known }
-    ensures does { EndsPrinted (Origin origin.now) job.now (stream W.contents writer.old writer.new)
-        (stream E.contents errors.old errors.new) result }
+    ensures does { EndsPrinted (Origin origin.now) job.now (between W.contents E.contents streams.old streams.new) result }
     ensures status { result ≤ 2 }
 {
-    let Reached { arrived, object } = match arrive(alloc, job, loaded) {
-        Ok(reached) => reached,
-        Err(refusal) => return give_up(errors, &JobFault::Refused(refusal)),
-    };
-    ask(
-        alloc,
-        origin,
-        job,
-        object.as_ref(),
-        known,
-        arrived,
-        writer,
-        errors,
-    )
+    match arrive(alloc, job, loaded) {
+        Ok(reached) => ask(alloc, origin, job, known, reached, streams),
+        Err(refusal) => give_up(&mut streams.errors, &JobFault::Refused(refusal)),
+    }
 }
 
 /// Finds what is asked about, and asks.
@@ -107,52 +103,34 @@ fn ask<W: Write, E: Write>(
     alloc: Global,
     origin: &OriginAsk<'_>,
     job: &Job<'_>,
-    object: Option<&LinkedObject>,
     known: Known<'_>,
-    arrived: Arrived,
-    writer: &mut Counted<W>,
-    errors: &mut Counted<E>,
+    reached: Reached,
+    streams: &mut Streams<W, E>,
 ) -> u8
-    requires arrived { HasArrived job.now (lent object) arrived.timeline arrived.moves }
-    requires known { IsKnown job.now (lent object) known }
-    ensures does { EndsPrinted (Origin origin.now) job.now (stream W.contents writer.old writer.new)
-        (stream E.contents errors.old errors.new) result }
+    requires reached { HasArrived job.now reached.object reached.arrived.timeline reached.arrived.moves }
+    requires known { IsKnown job.now reached.object known }
+    ensures does { EndsPrinted (Origin origin.now) job.now (between W.contents E.contents streams.old streams.new) result }
     ensures status { result ≤ 2 }
 {
-    let parts = match parts_of(origin, arrived.timeline.cpu()) {
+    let parts = match parts_of(origin, reached.arrived.timeline.cpu()) {
         Ok(parts) => parts,
-        Err(fault) => return give_up(errors, &JobFault::Refused(JobRefusal::What(fault))),
+        Err(fault) => {
+            let refusal = JobRefusal::What(fault);
+            return give_up(&mut streams.errors, &JobFault::Refused(refusal));
+        }
     };
-    let question = question_of(&origin.scope, &arrived, known.places);
+    let asked = Asked {
+        parts: parts.as_slice(),
+        question: question_of(&origin.scope, &reached.arrived, known.places),
+    };
     if origin.tells_branches {
-        ask_branches(
-            alloc,
-            origin,
-            job,
-            object,
-            arrived,
-            parts.as_slice(),
-            question,
-            writer,
-            errors,
-        )
+        ask_branches(alloc, origin, job, reached, asked, streams)
     } else {
         let tail = Tail {
             text: &[],
             extent: Extent::Whole,
         };
-        tell(
-            alloc,
-            origin,
-            job,
-            object,
-            arrived,
-            parts.as_slice(),
-            question,
-            tail,
-            writer,
-            errors,
-        )
+        tell(alloc, origin, job, reached, asked, tail, streams)
     }
 }
 
@@ -161,26 +139,23 @@ fn ask_branches<W: Write, E: Write>(
     alloc: Global,
     origin: &OriginAsk<'_>,
     job: &Job<'_>,
-    object: Option<&LinkedObject>,
-    arrived: Arrived,
-    parts: &[Part],
-    question: Question<'_>,
-    writer: &mut Counted<W>,
-    errors: &mut Counted<E>,
+    reached: Reached,
+    asked: Asked<'_>,
+    streams: &mut Streams<W, E>,
 ) -> u8
-    requires asked { IsAsked origin.now job.now (lent object) arrived.timeline arrived.moves parts.now
-        question }
+    requires asked { IsAsked origin.now job.now reached.object reached.arrived.timeline reached.arrived.moves
+        asked.parts.now asked.question }
     requires branches { origin.now.tells_branches ≡ true }
-    ensures does { EndsPrinted (Origin origin.now) job.now (stream W.contents writer.old writer.new)
-        (stream E.contents errors.old errors.new) result }
+    ensures does { EndsPrinted (Origin origin.now) job.now (between W.contents E.contents streams.old streams.new) result }
     ensures status { result ≤ 2 }
 {
+    let Reached { arrived, object } = reached;
     let Arrived {
         timeline,
         moves,
         mut wanted,
     } = arrived;
-    match find_branches(alloc, timeline, &mut wanted, parts, question) {
+    match find_branches(alloc, timeline, &mut wanted, asked.parts, asked.question) {
         Ok(found) => {
             let Found {
                 timeline,
@@ -192,16 +167,15 @@ fn ask_branches<W: Write, E: Write>(
                 moves,
                 wanted,
             };
+            let reached = Reached { arrived, object };
             let tail = Tail {
                 text: text.as_slice(),
                 extent,
             };
-            tell(
-                alloc, origin, job, object, arrived, parts, question, tail, writer, errors,
-            )
+            tell(alloc, origin, job, reached, asked, tail, streams)
         }
         Err(_) => give_up(
-            errors,
+            &mut streams.errors,
             &JobFault::Refused(JobRefusal::Journal(JournalFault::OutOfMemory)),
         ),
     }
@@ -321,40 +295,40 @@ fn tell<W: Write, E: Write>(
     alloc: Global,
     origin: &OriginAsk<'_>,
     job: &Job<'_>,
-    object: Option<&LinkedObject>,
-    arrived: Arrived,
-    parts: &[Part],
-    question: Question<'_>,
+    reached: Reached,
+    asked: Asked<'_>,
     tail: Tail<'_>,
-    writer: &mut Counted<W>,
-    errors: &mut Counted<E>,
+    streams: &mut Streams<W, E>,
 ) -> u8
-    requires { HasTail origin.now job.now (lent object) arrived.timeline arrived.moves parts.now question
-        (record { text = tail.text.now; extent = tail.extent }) }
-    ensures does { EndsPrinted (Origin origin.now) job.now (stream W.contents writer.old writer.new)
-        (stream E.contents errors.old errors.new) result }
+    requires { HasTail origin.now job.now reached.object reached.arrived.timeline reached.arrived.moves
+        asked.parts.now asked.question (record { text = tail.text.now; extent = tail.extent }) }
+    ensures does { EndsPrinted (Origin origin.now) job.now (between W.contents E.contents streams.old streams.new) result }
     ensures status { result ≤ 2 }
 {
-    let names = match names_of(alloc, job, object) {
+    let Reached {
+        mut arrived,
+        object,
+    } = reached;
+    let source = object.as_ref();
+    let names = match names_of(alloc, job, source) {
         Ok(names) => names,
-        Err(why) => return refuse(job, bytes_of(object), errors, why),
+        Err(why) => return refuse(job, bytes_of(source), &mut streams.errors, why),
     };
-    let mut arrived = arrived;
     match put_told(
         alloc,
         names.as_ref(),
         &mut arrived,
-        parts,
-        question,
+        asked.parts,
+        asked.question,
         tail.text,
-        writer,
+        &mut streams.output,
     ) {
         Ok(told) => match told.written {
             Ok(()) => status_of(both_of(told.extent, tail.extent)),
-            Err(WriteFault) => give_up(errors, &JobFault::Output),
+            Err(WriteFault) => give_up(&mut streams.errors, &JobFault::Output),
         },
         Err(AllocError) => give_up(
-            errors,
+            &mut streams.errors,
             &JobFault::Refused(JobRefusal::Journal(JournalFault::OutOfMemory)),
         ),
     }

@@ -7,11 +7,13 @@ ghost use Rattle.bpfdb_jobs.specs.Endings.{EndsPrinted};
 ghost use Rattle.bpfdb_jobs.specs.Jobs.{IsKnown};
 ghost use Rattle.bpfdb_options.specs.declared.ask.Ask.TheVariants.{Run};
 ghost use Rattle.bpfdb_faults.specs.Streams.{stream};
+ghost use Rattle.bpfdb_jobs.specs.Streams.{between};
 ghost use Rattle.counted_io.specs.Writing.{Writes};
 
 use crate::job::Job;
 use crate::known::Known;
 use crate::result::write_result;
+use crate::streams::Streams;
 use crate::strict::{strict_machine, tell_unwritten};
 use bpf_load::Loaded;
 use bpf_machine::{Cpu, Status};
@@ -31,29 +33,31 @@ pub fn run_job<W: Write, E: Write>(
     is_strict: bool,
     loaded: Loaded,
     known: Known<'_>,
-    writer: &mut Counted<W>,
-    errors: &mut Counted<E>,
+    streams: &mut Streams<W, E>,
 ) -> u8
     requires loaded { Loads job.now.target job.now.file.now loaded }
     requires known { IsKnown job.now loaded.object known }
-    ensures does { EndsPrinted (Run is_strict) job.now (stream W.contents writer.old writer.new)
-        (stream E.contents errors.old errors.new) result }
+    ensures does { EndsPrinted (Run is_strict) job.now (between W.contents E.contents streams.old streams.new) result }
     ensures status { result ≤ 2 }
 {
     let mut strict = match strict_machine(alloc, job, is_strict, known.own, loaded.program) {
         Ok(strict) => strict,
-        Err(refusal) => return give_up(errors, &JobFault::Refused(refusal)),
+        Err(refusal) => return give_up(&mut streams.errors, &JobFault::Refused(refusal)),
     };
+    let places = known.places;
     match strict.unwritten {
-        Some(read) => return told_as(tell_unwritten(errors, known.places, &read), 1),
+        Some(read) => return told_as(tell_unwritten(&mut streams.errors, places, &read), 1),
         None => {}
     }
     let limit = job.options.limit;
     run_quietly(&mut strict.cpu, limit);
     match strict.cpu.status() {
-        Status::Exited => ended(write_result(writer, &job.target, &strict.cpu), errors),
-        Status::Faulted(_) => told_as(tell_end(errors, known.places, limit, &strict.cpu), 1),
-        Status::Running => told_as(tell_end(errors, known.places, limit, &strict.cpu), 1),
+        Status::Exited => ended(
+            write_result(&mut streams.output, &job.target, &strict.cpu),
+            &mut streams.errors,
+        ),
+        Status::Faulted(_) => told_as(tell_end(&mut streams.errors, places, limit, &strict.cpu), 1),
+        Status::Running => told_as(tell_end(&mut streams.errors, places, limit, &strict.cpu), 1),
     }
 }
 

@@ -3,7 +3,7 @@ ghost use Rattle.std.specs.Prelude.{◌≡◌, IfOk};
 ghost use Rattle.bpf_diff.specs.Values.{Finds};
 ghost use Rattle.bpfdb_jobs.specs.Jobs.{comparison_of};
 ghost use Rattle.bpfdb_jobs.specs.Openings.{AreCompared, OpensAs};
-ghost use Rattle.counted_io.specs.Writing.{WritesAfter};
+ghost use Rattle.counted_io.specs.Writing.{Writes};
 
 use crate::job::Job;
 use crate::opening::opening_for;
@@ -28,6 +28,13 @@ pub(crate) struct ComparedRuns {
     pub(crate) second: Cpu,
 }
 
+/// The machines of two runs.
+#[derive(Drop)]
+struct Machines {
+    first: Cpu,
+    second: Cpu,
+}
+
 /// Runs two machines, and compares them as the job asks.
 pub(crate) fn compare(
     alloc: Global,
@@ -43,19 +50,8 @@ pub(crate) fn compare(
     ensures { IfOk result (AreCompared texts.entry diff.now job.now other.now first second) }
 {
     let mut writer = Counted::new(Vec::new(alloc));
-    let mut one = first;
-    let mut another = second;
-    let compared = match put_compared(
-        alloc,
-        diff,
-        job,
-        other,
-        texts,
-        &mut writer,
-        Ok(()),
-        &mut one,
-        &mut another,
-    ) {
+    let mut machines = Machines { first, second };
+    let compared = match put_compared(alloc, diff, job, other, texts, &mut writer, &mut machines) {
         Ok(compared) => compared,
         Err(error) => return Err(error),
     };
@@ -64,8 +60,8 @@ pub(crate) fn compare(
             text: writer.into_inner(),
             is_same: compared.is_same,
             values: compared.values,
-            first: one,
-            second: another,
+            first: machines.first,
+            second: machines.second,
         }),
         Err(WriteFault) => Err(AllocError),
     }
@@ -79,20 +75,20 @@ fn put_compared<W: Write>(
     other: &Job<'_>,
     texts: BothTexts<'_>,
     writer: &mut Counted<W>,
-    so_far: Result<(), WriteFault>,
-    first: &mut Cpu,
-    second: &mut Cpu,
+    machines: &mut Machines,
 ) -> Result<Compared, AllocError>
-    requires first { OpensAs job.now first.old }
-    requires second { OpensAs other.now second.old }
-    ensures text { IfOk result (λ compared. WritesAfter W.contents writer.old so_far writer.new
-        compared.written (comparison_of texts.entry diff.now job.now other.now first.old second.old).text) }
-    ensures finds { IfOk result (λ compared.
-        Finds compared (comparison_of texts.entry diff.now job.now other.now first.old second.old)) }
-    ensures programs { IfOk result (λ compared. (first.new.program ≡ first.old.program)
-        × (second.new.program ≡ second.old.program)) }
+    requires first { OpensAs job.now machines.old.first }
+    requires second { OpensAs other.now machines.old.second }
+    ensures text { IfOk result (λ compared. Writes W.contents writer.old writer.new compared.written
+        (comparison_of texts.entry diff.now job.now other.now machines.old.first machines.old.second).text) }
+    ensures finds { IfOk result (λ compared. Finds compared
+        (comparison_of texts.entry diff.now job.now other.now machines.old.first machines.old.second)) }
+    ensures programs { IfOk result (λ compared. (machines.new.first.program ≡ machines.old.first.program)
+        × (machines.new.second.program ≡ machines.old.second.program)) }
 {
     let limit = job.options.limit;
+    let first = &mut machines.first;
+    let second = &mut machines.second;
     if diff.compares_writes {
         let one = opening_for(&job.options);
         let another = opening_for(&other.options);
@@ -107,8 +103,8 @@ fn put_compared<W: Write>(
             },
             limit,
         };
-        put_writes(alloc, writer, so_far, texts, first, second, &runs)
+        put_writes(alloc, writer, Ok(()), texts, first, second, &runs)
     } else {
-        Ok(put_diff(writer, so_far, texts, first, second, limit))
+        Ok(put_diff(writer, Ok(()), texts, first, second, limit))
     }
 }

@@ -3,9 +3,10 @@ ghost use Rattle.std.specs.Prelude.{◌≡◌, ◌≢◌, ◌≤◌, ◌∷◌, 
 ghost use Rattle.bpfdb_jobs.specs.Shown.{EndsShown, HidesPart, Shows};
 ghost use Rattle.bpfdb_jobs.specs.Suites.{AreTestsOf};
 ghost use Rattle.bpfdb_options.specs.declared.test_part.TestPart.TheVariants.{Program};
-ghost use Rattle.bpfdb_faults.specs.Streams.{stream};
+ghost use Rattle.bpfdb_jobs.specs.Streams.{between};
 
 use crate::job::Job;
+use crate::streams::Streams;
 use crate::suite::{asked_tests, refuse};
 use bpf_suite::{Suite, Test, TestList, WordsFault};
 use bpfdb_faults::{JobFault, JobRefusal, ended, give_up, write_out};
@@ -20,28 +21,29 @@ pub fn show_job<W: Write, E: Write>(
     ask: &TestAsk<'_>,
     job: &Job<'_>,
     part: TestPart,
-    writer: &mut Counted<W>,
-    errors: &mut Counted<E>,
+    streams: &mut Streams<W, E>,
 ) -> u8
-    ensures does { EndsShown part ask.now job.now (stream W.contents writer.old writer.new)
-        (stream E.contents errors.old errors.new) result }
+    ensures does { EndsShown part ask.now job.now (between W.contents E.contents streams.old streams.new) result }
     ensures status { result ≤ 2 }
 {
     let suite = match Suite::read(alloc, job.file) {
         Ok(suite) => suite,
-        Err(fault) => return refuse(errors, fault),
+        Err(fault) => return refuse(&mut streams.errors, fault),
     };
     let tests = match suite.tests(alloc) {
         Ok(tests) => tests,
-        Err(_) => return give_up(errors, &JobFault::Memory),
+        Err(_) => return give_up(&mut streams.errors, &JobFault::Memory),
     };
     let asked = match asked_tests(ask.only, tests) {
         Ok(asked) => asked,
-        Err(refusal) => return give_up(errors, &JobFault::Refused(refusal)),
+        Err(refusal) => return give_up(&mut streams.errors, &JobFault::Refused(refusal)),
     };
     match only_of(&asked) {
-        Some(test) => show_test(alloc, ask, job, part, &test, writer, errors),
-        None => give_up(errors, &JobFault::Refused(JobRefusal::ManyTests)),
+        Some(test) => show_test(alloc, ask, job, part, &test, streams),
+        None => give_up(
+            &mut streams.errors,
+            &JobFault::Refused(JobRefusal::ManyTests),
+        ),
     }
 }
 
@@ -64,20 +66,18 @@ fn show_test<W: Write, E: Write>(
     job: &Job<'_>,
     part: TestPart,
     test: &Test<'_, '_>,
-    writer: &mut Counted<W>,
-    errors: &mut Counted<E>,
+    streams: &mut Streams<W, E>,
 ) -> u8
     requires { AreTestsOf ask.now job.now (test.now ∷ []) }
-    ensures does { EndsShown part ask.now job.now (stream W.contents writer.old writer.new)
-        (stream E.contents errors.old errors.new) result }
+    ensures does { EndsShown part ask.now job.now (between W.contents E.contents streams.old streams.new) result }
     ensures status { result ≤ 2 }
 {
     match bytes_of(alloc, part, test) {
         Ok(bytes) => {
-            let written = write_out(writer, bytes.as_slice());
-            ended(written, errors)
+            let written = write_out(&mut streams.output, bytes.as_slice());
+            ended(written, &mut streams.errors)
         }
-        Err(fault) => give_up(errors, &fault),
+        Err(fault) => give_up(&mut streams.errors, &fault),
     }
 }
 

@@ -8,10 +8,12 @@ ghost use Rattle.bpfdb_jobs.specs.Refusals.{LacksName};
 ghost use Rattle.bpfdb_jobs.specs.Shown.{EndsTest};
 ghost use Rattle.bpfdb_jobs.specs.Suites.{AreAsked, EndsRun, EndsTests, Reports, fault_of_file, fault_of_suite, report, status_of};
 ghost use Rattle.counted_io.specs.Writing.{Writes};
+ghost use Rattle.bpfdb_jobs.specs.Streams.{between};
 
 use crate::cover::{cover_job, tracefile_job};
 use crate::job::Job;
 use crate::show::show_job;
+use crate::streams::Streams;
 use bpf_suite::{FileFault, Suite, SuiteFault, TestList, choose, run_tests, write_plan};
 use bpfdb_faults::{JobFault, JobRefusal, give_up};
 use bpfdb_options::TestAsk;
@@ -24,16 +26,14 @@ pub fn test_job<W: Write, E: Write>(
     alloc: Global,
     ask: &TestAsk<'_>,
     job: &Job<'_>,
-    writer: &mut Counted<W>,
-    errors: &mut Counted<E>,
+    streams: &mut Streams<W, E>,
 ) -> u8
-    ensures does { EndsTest ask.now.show ask.now job.now (stream W.contents writer.old writer.new)
-        (stream E.contents errors.old errors.new) result }
+    ensures does { EndsTest ask.now.show ask.now job.now (between W.contents E.contents streams.old streams.new) result }
     ensures status { result ≤ 2 }
 {
     match ask.show {
-        None => run_job(alloc, ask, job, writer, errors),
-        Some(part) => show_job(alloc, ask, job, part, writer, errors),
+        None => run_job(alloc, ask, job, streams),
+        Some(part) => show_job(alloc, ask, job, part, streams),
     }
 }
 
@@ -43,20 +43,19 @@ fn run_job<W: Write, E: Write>(
     alloc: Global,
     ask: &TestAsk<'_>,
     job: &Job<'_>,
-    writer: &mut Counted<W>,
-    errors: &mut Counted<E>,
+    streams: &mut Streams<W, E>,
 ) -> u8
     ensures does { EndsRun ask.now.is_tracefile ask.now.covers ask.now job.now
-        (stream W.contents writer.old writer.new) (stream E.contents errors.old errors.new) result }
+        (between W.contents E.contents streams.old streams.new) result }
     ensures status { result ≤ 2 }
 {
     if ask.is_tracefile {
-        return tracefile_job(alloc, ask, job, writer, errors);
+        return tracefile_job(alloc, ask, job, streams);
     }
     if ask.covers {
-        cover_job(alloc, ask, job, writer, errors)
+        cover_job(alloc, ask, job, streams)
     } else {
-        report_job(alloc, ask, job, writer, errors)
+        report_job(alloc, ask, job, streams)
     }
 }
 
@@ -65,16 +64,14 @@ fn report_job<W: Write, E: Write>(
     alloc: Global,
     ask: &TestAsk<'_>,
     job: &Job<'_>,
-    writer: &mut Counted<W>,
-    errors: &mut Counted<E>,
+    streams: &mut Streams<W, E>,
 ) -> u8
-    ensures does { EndsTests ask.now job.now (stream W.contents writer.old writer.new)
-        (stream E.contents errors.old errors.new) result }
+    ensures does { EndsTests ask.now job.now (between W.contents E.contents streams.old streams.new) result }
     ensures status { result ≤ 2 }
 {
-    match report_on(alloc, ask, job, writer) {
+    match report_on(alloc, ask, job, &mut streams.output) {
         Ok(reported) => reported,
-        Err(why) => give_up(errors, &why),
+        Err(why) => give_up(&mut streams.errors, &why),
     }
 }
 

@@ -11,10 +11,12 @@ ghost use Rattle.bpfdb_faults.specs.Faults.{line_of};
 ghost use Rattle.bpfdb_jobs.specs.Jobs.{shown_of, status_of_end, steps_out, trace_out, IsKnown};
 ghost use Rattle.bpfdb_jobs.specs.Tellings.{fault_of_told};
 ghost use Rattle.bpfdb_options.specs.declared.ask.Ask.TheVariants.{Trace};
+ghost use Rattle.bpfdb_jobs.specs.Streams.{between};
 
 use crate::calls::write_called;
 use crate::job::Job;
 use crate::known::Known;
+use crate::streams::Streams;
 use crate::strict::strict_machine;
 use bpf_load::Loaded;
 use bpf_machine::{Cpu, Status};
@@ -37,28 +39,33 @@ pub fn trace_job<W: Write, E: Write>(
     job: &Job<'_>,
     loaded: Loaded,
     known: Known<'_>,
-    writer: &mut Counted<W>,
-    errors: &mut Counted<E>,
+    streams: &mut Streams<W, E>,
 ) -> u8
     requires loaded { Loads job.now.target job.now.file.now loaded }
     requires known { IsKnown job.now loaded.object known }
-    ensures does { EndsPrinted (Trace trace.now) job.now (stream W.contents writer.old writer.new)
-        (stream E.contents errors.old errors.new) result }
+    ensures does { EndsPrinted (Trace trace.now) job.now (between W.contents E.contents streams.old streams.new) result }
     ensures status { result ≤ 2 }
 {
     let mut strict = match strict_machine(alloc, job, trace.is_strict, known.own, loaded.program) {
         Ok(strict) => strict,
-        Err(refusal) => return give_up(errors, &JobFault::Refused(refusal)),
+        Err(refusal) => return give_up(&mut streams.errors, &JobFault::Refused(refusal)),
     };
     let shown = shown_steps(trace, known);
     match strict.unwritten {
         Some(read) => {
-            let before = tell_until(alloc, shown, &mut strict.cpu, &read, writer);
-            end_of(before, 1, errors)
+            let before = tell_until(alloc, shown, &mut strict.cpu, &read, &mut streams.output);
+            end_of(before, 1, &mut streams.errors)
         }
         None => {
-            let told = tell_run(alloc, trace, job, known, &mut strict.cpu, writer);
-            end_of(told, status_of(strict.cpu.status()), errors)
+            let told = tell_run(
+                alloc,
+                trace,
+                job,
+                known,
+                &mut strict.cpu,
+                &mut streams.output,
+            );
+            end_of(told, status_of(strict.cpu.status()), &mut streams.errors)
         }
     }
 }

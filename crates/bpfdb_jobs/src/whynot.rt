@@ -16,12 +16,13 @@ ghost use Rattle.bpfdb_jobs.specs.Origins.{found_text};
 ghost use Rattle.bpfdb_jobs.specs.Whynots.{IsRefusalOf, RefusesGoals};
 ghost use Rattle.bpfdb_limits.specs.Limits.{IsLimit};
 ghost use Rattle.bpfdb_options.specs.declared.ask.Ask.TheVariants.{Whynot};
-ghost use Rattle.bpfdb_faults.specs.Streams.{stream};
+ghost use Rattle.bpfdb_jobs.specs.Streams.{between};
 
 use crate::job::Job;
 use crate::known::Known;
 use crate::object::refuse;
 use crate::origin::{Arrived, FoundText, Reached, arrive, bytes_of, names_of, status_of};
+use crate::streams::Streams;
 use bpf_isa::Program;
 use bpf_journal::{JournalFault, Keeper, Timeline};
 use bpf_lines::{Names, is_place, listing_slots, put_named};
@@ -43,14 +44,12 @@ pub fn whynot_job<W: Write, E: Write>(
     job: &Job<'_>,
     loaded: Loaded,
     known: Known<'_>,
-    writer: &mut Counted<W>,
-    errors: &mut Counted<E>,
+    streams: &mut Streams<W, E>,
 ) -> u8
     requires limit { IsLimit job.now.options.limit }
     requires loaded { Loads job.now.target job.now.file.now loaded }
     requires known { IsKnown job.now loaded.object known }
-    ensures does { EndsPrinted (Whynot why.now) job.now (stream W.contents writer.old writer.new)
-        (stream E.contents errors.old errors.new) result }
+    ensures does { EndsPrinted (Whynot why.now) job.now (between W.contents E.contents streams.old streams.new) result }
     ensures status { result ≤ 2 }
 {
     let Reached {
@@ -58,7 +57,7 @@ pub fn whynot_job<W: Write, E: Write>(
         object,
     } = match arrive(alloc, job, loaded) {
         Ok(reached) => reached,
-        Err(refusal) => return give_up(errors, &JobFault::Refused(refusal)),
+        Err(refusal) => return give_up(&mut streams.errors, &JobFault::Refused(refusal)),
     };
     ask_why(
         alloc,
@@ -67,8 +66,7 @@ pub fn whynot_job<W: Write, E: Write>(
         object.as_ref(),
         known,
         &mut arrived,
-        writer,
-        errors,
+        streams,
     )
 }
 
@@ -80,22 +78,20 @@ fn ask_why<W: Write, E: Write>(
     object: Option<&LinkedObject>,
     known: Known<'_>,
     arrived: &mut Arrived,
-    writer: &mut Counted<W>,
-    errors: &mut Counted<E>,
+    streams: &mut Streams<W, E>,
 ) -> u8
     requires arrived { HasArrived job.now (lent object) arrived.old.timeline arrived.old.moves }
     requires known { IsKnown job.now (lent object) known }
-    ensures does { EndsPrinted (Whynot why.now) job.now (stream W.contents writer.old writer.new)
-        (stream E.contents errors.old errors.new) result }
+    ensures does { EndsPrinted (Whynot why.now) job.now (between W.contents E.contents streams.old streams.new) result }
     ensures status { result ≤ 2 }
 {
     let aim = match aim_of(alloc, why, job, known, arrived.timeline.cpu().program()) {
         Ok(aim) => aim,
-        Err(refusal) => return give_up(errors, &JobFault::Refused(refusal)),
+        Err(refusal) => return give_up(&mut streams.errors, &JobFault::Refused(refusal)),
     };
     let names = match names_of(alloc, job, object) {
         Ok(names) => names,
-        Err(fault) => return refuse(job, bytes_of(object), errors, fault),
+        Err(fault) => return refuse(job, bytes_of(object), &mut streams.errors, fault),
     };
     let question = Question {
         addresses: why.scope.addresses,
@@ -109,13 +105,13 @@ fn ask_why<W: Write, E: Write>(
         question,
         alone: why.alone,
     };
-    match put_told(alloc, names.as_ref(), arrived, &search, writer) {
+    match put_told(alloc, names.as_ref(), arrived, &search, &mut streams.output) {
         Ok(told) => match told.written {
             Ok(()) => status_of(told.extent),
-            Err(WriteFault) => give_up(errors, &JobFault::Output),
+            Err(WriteFault) => give_up(&mut streams.errors, &JobFault::Output),
         },
         Err(AllocError) => give_up(
-            errors,
+            &mut streams.errors,
             &JobFault::Refused(JobRefusal::Journal(JournalFault::OutOfMemory)),
         ),
     }

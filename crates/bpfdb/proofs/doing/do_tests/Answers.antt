@@ -16,8 +16,7 @@ returns-in-Err-clause-does g c =
       place = c.place_of-place.result;
       is_place = subst (λ (linux : Option (List ℕ)). IsPlaceOf c.args.plan.now.file.now c.args.ask.now linux c.place_of-place.result) c.lent.ensures c.place_of-place.ensures;
       why = c.in-Err.ensures.err;
-    }) refl refl
-    c.refuse_tests.ensures.told c.refuse_tests.ensures.value
+    }) (refl, refl, c.refuse_tests.ensures.told, c.refuse_tests.ensures.value)
 
 pub returns-clause-does : goal.returns-clause-does
 returns-clause-does g c =

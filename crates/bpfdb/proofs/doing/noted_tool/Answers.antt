@@ -18,7 +18,7 @@ returns-then-unlike-clause-does g c = record {
   noted = c.say_notes-unlike.new.errors;
   unlike = c.say_notes-unlike.result;
   says = c.say_notes-unlike.ensures;
-  does = Unlike (both _ _ c.if-plan.true c.if-unlike.true) refl refl c.give_up.ensures.told c.give_up.ensures.value;
+  does = Unlike (both _ _ c.if-plan.true c.if-unlike.true) (refl, refl, c.give_up.ensures.told, c.give_up.ensures.value);
 }
 
 pub returns-else-plan-clause-does : goal.returns-else-plan-clause-does

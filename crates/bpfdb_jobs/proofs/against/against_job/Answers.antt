@@ -26,7 +26,7 @@ returns-in-Err-form_of_trace-clause-does g c =
 
 pub returns-in-Ok-put_against-clause-does : goal.returns-in-Ok-put_against-clause-does
 returns-in-Ok-put_against-clause-does g c =
-    let text = c.in-Ok-put_against.ensures.text _ _ (Writes-none g.W.Write.contents c.args.writer.now _) in
+    let text = c.in-Ok-put_against.ensures.text _ _ (Writes-none g.W.Write.contents c.args.streams.now.output _) in
     let written = Writes-text g.W.Write.contents _ _ _ _ _ (c.flush_after-written.ensures _ _ text) (append-nil _) in
     told-ends c.args.diff.now c.args.job.now _ _ c.in-Ok-put_against.against.tells_run _ _
     (against-prints c.args.diff.now c.args.job.now c.in-Ok.cpu c.in-Ok-form_of_trace.form c.bytes_of-file.result.now c.requires.trace

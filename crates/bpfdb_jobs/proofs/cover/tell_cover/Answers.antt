@@ -1,22 +1,23 @@
 use Rattle.std.proofs.Common.{◌≡◌, List, ℕ, Result, Ok, Err, refl}
 use Rattle.bpf_suite.specs.declared.cover.CoverForm.{CoverForm}
 use Rattle.counted_io.specs.Writing.{Writes}
-use Rattle.bpfdb_faults.specs.Streams.{Stream, Told}
+use Rattle.bpfdb_faults.specs.Streams.{Told}
 use Rattle.bpfdb_faults.specs.Faults.{line_of}
 use Rattle.bpfdb_faults.specs.declared.fault.JobFault.TheVariants as fault
+use Rattle.bpfdb_jobs.specs.Streams.{Outputs}
 use Rattle.bpfdb_jobs.specs.Suites.{Covered, CoversTests, EndsTold, Lost, Unfound}
 use Rattle.bpfdb_jobs.specs.declared.job.Job.{Job}
 use Rattle.bpfdb_options.specs.declared.ask.TestAsk.{TestAsk}
 use Rattle.bpfdb_jobs.proofs.cover.tell_cover.Goals as goal
 
-module _ {W E A F : Type 0} {writer : Stream W} {errors : Stream E} (form : CoverForm) (ask : TestAsk) (job : Job) (reported : ℕ) (text : List ℕ) (covers : CoversTests form ask job text) where
+module _ {W E A F : Type 0} {s : Outputs W E} (form : CoverForm) (ask : TestAsk) (job : Job) (reported : ℕ) (text : List ℕ) (covers : CoversTests form ask job text) where
   -- the tables were written
-  written : (r : Result A F) (v : A) → r ≡ Ok v → Writes writer.bytes writer.old writer.new r text → errors.new ≡ errors.old → EndsTold form ask job reported writer errors reported
+  written : (r : Result A F) (v : A) → r ≡ Ok v → Writes s.output.bytes s.output.old s.output.new r text → s.errors.new ≡ s.errors.old → EndsTold form ask job reported s reported
   written (Ok a) v is w same = Covered text covers (w.ok, w.same) same refl
   written (Err e) v is w same = cc
 
   -- or a beginning of them
-  lost : (r : Result A F) (e : F) → r ≡ Err e → Writes writer.bytes writer.old writer.new r text → Told errors (line_of fault.Output) → (status : ℕ) → status ≡ 2 → EndsTold form ask job reported writer errors status
+  lost : (r : Result A F) (e : F) → r ≡ Err e → Writes s.output.bytes s.output.old s.output.new r text → Told s.errors (line_of fault.Output) → (status : ℕ) → status ≡ 2 → EndsTold form ask job reported s status
   lost (Ok a) e is w told status two = cc
   lost (Err f) e is w told status two = Lost text covers (w.err, w.fault) told two
 

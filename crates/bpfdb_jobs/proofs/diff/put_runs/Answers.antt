@@ -8,7 +8,7 @@ use Rattle.bpfdb_jobs.proofs.diff.put_runs.Goals as goal
 pub returns-clause-does : goal.returns-clause-does
 returns-clause-does g c =
     let text = c.args.text.now in
-    let told = c.put-told.ensures _ _ (Writes-none g.W.Write.contents c.args.writer.now _) in
+    let told = c.put-told.ensures _ _ (Writes-none g.W.Write.contents c.args.streams.now.output _) in
     let half = c.put_marked-half.ensures _ _ told in
     let all = c.put_marked-all.ensures _ _ half in
     let written = Writes-text g.W.Write.contents _ _ _ _ _ (c.flush_after-written.ensures _ _ all)

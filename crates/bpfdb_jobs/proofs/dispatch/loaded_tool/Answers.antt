@@ -7,7 +7,7 @@ use Rattle.bpfdb_jobs.proofs.dispatch.loaded_tool.Goals as goal
 pub returns-in_default-clause-does : goal.returns-in_default-clause-does
 returns-in_default-clause-does g c =
     let why = c.in_default.ensures.none in
-    Unloaded c.requires.checks why.0 (inl why.1) refl refl why.2 refl
+    Unloaded c.requires.checks why.0 (inl why.1) (refl, refl, why.2, refl)
 
 pub returns-in-None-clause-does : goal.returns-in-None-clause-does
 returns-in-None-clause-does g c =
@@ -25,7 +25,7 @@ returns-in-None-clause-does g c =
         tells = why.6;
       },
       why.4,
-    )) refl refl (rw some.1 at why.7) refl
+    )) (refl, refl, rw some.1 at why.7, refl)
 
 pub program_tool-requires-clause-known : goal.program_tool-requires-clause-known
 program_tool-requires-clause-known g c =

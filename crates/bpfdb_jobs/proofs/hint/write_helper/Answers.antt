@@ -1,7 +1,7 @@
 use Rattle.std.proofs.Common.{List, ℕ, ◌≡◌, ◌++◌, append_assoc, codes, decimal, refl}
 use Rattle.counted_io.proofs.Appending.{Writes-none, Writes-text}
 use Rattle.bpf_link.specs.Helpers.{helper_name}
-use Rattle.bpfdb_jobs.specs.Hints.{helper_line, named}
+use Rattle.bpfdb_jobs.specs.Hints.{named}
 use Rattle.bpfdb_jobs.proofs.hint.write_helper.Goals as goal
 
 -- the parts of the line, one behind the other

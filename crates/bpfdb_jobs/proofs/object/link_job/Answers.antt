@@ -1,19 +1,13 @@
-use Rattle.std.proofs.Common.{Bool, refl, subst, sym}
-use Rattle.bpfdb_faults.specs.Streams.{stream}
-use Rattle.bpfdb_jobs.specs.Endings.{EndsPrinted, Refused}
+use Rattle.std.proofs.Common.{refl, subst, sym}
+use Rattle.bpfdb_jobs.specs.Endings.{Refused}
 use Rattle.bpfdb_jobs.specs.Refusals.{RefusesLink}
-use Rattle.bpfdb_options.specs.declared.ask.Ask.TheVariants.{Link}
 use Rattle.bpfdb_jobs.proofs.object.link_job.Goals as goal
 
 pub returns-then-is_joined-clause-does : goal.returns-then-is_joined-clause-does
-returns-then-is_joined-clause-does g c =
-    subst (λ (b : Bool). EndsPrinted (Link b) c.args.job.now (stream g.W.Write.contents c.args.writer.now c.put_object.new.writer)
-    (stream g.E.Write.contents c.args.errors.now c.put_object.new.errors) c.put_object.result) (sym c.if-is_joined.true) c.put_object.ensures.does
+returns-then-is_joined-clause-does g c = rw c.if-is_joined.true c.put_object.ensures.does
 
 pub returns-in-Ok-clause-does : goal.returns-in-Ok-clause-does
-returns-in-Ok-clause-does g c =
-    subst (λ (b : Bool). EndsPrinted (Link b) c.args.job.now (stream g.W.Write.contents c.args.writer.now c.put_program.new.writer)
-    (stream g.E.Write.contents c.args.errors.now c.put_program.new.errors) c.put_program.result) (sym c.if-is_joined.false) c.put_program.ensures.does
+returns-in-Ok-clause-does g c = rw c.if-is_joined.false c.put_program.ensures.does
 
 pub returns-in-Err-clause-does : goal.returns-in-Err-clause-does
 returns-in-Err-clause-does g c =

@@ -1,10 +1,9 @@
-use Rattle.counted_io.proofs.Appending.{Writes-none}
 use Rattle.bpfdb_jobs.proofs.runs.compare.Goals as goal
 
 pub returns-in-Ok-written : goal.returns-in-Ok-written
 returns-in-Ok-written c =
     let found = c.in-Ok.ensures in
-    let written = rw c.in-Ok-written.is at found.text _ _ (Writes-none _ _ _) in
+    let written = rw c.in-Ok-written.is at found.text in
     record {
       text = rw c.into_inner.ensures (rw (c.new-writer.ensures, c.new.ensures.items) at written.ok);
       same = found.finds.same;

@@ -6,10 +6,11 @@ use Rattle.bpf_suite.specs.declared.fault.FileFault.{FileFault}
 use Rattle.bpf_suite.specs.declared.fault.FileFault.TheVariants as file
 use Rattle.bpf_suite.specs.declared.section.Section.{Section}
 use Rattle.bpf_suite.proofs.Tests.{tests-some}
-use Rattle.bpfdb_faults.specs.Streams.{Stream, Told}
+use Rattle.bpfdb_faults.specs.Streams.{Told}
 use Rattle.bpfdb_faults.specs.Faults.{line_of}
 use Rattle.bpfdb_jobs.specs.Refusals.{LacksName}
 use Rattle.bpfdb_jobs.specs.Shown.{EndsShown, Exhausted, Refused}
+use Rattle.bpfdb_jobs.specs.Streams.{Outputs}
 use Rattle.bpfdb_jobs.specs.Suites.{AreAsked, fault_of_file}
 use Rattle.bpfdb_faults.specs.declared.fault.JobFault.TheVariants as fault
 use Rattle.bpfdb_jobs.specs.declared.job.Job.{Job}
@@ -20,9 +21,9 @@ use Rattle.bpfdb_options.specs.declared.test_part.TestPart.{TestPart}
 use Rattle.bpfdb_jobs.proofs.show.show_job.Goals as goal
 
 -- a file with a fault
-not-read : {W E : Type 0} {writer : Stream W} {errors : Stream E} (part : TestPart) (ask : TestAsk) (job : Job) (why : FileFault) (status : ℕ)
-    → writer.new ≡ writer.old → IsFaultOf job.file.now why → Told errors (line_of (fault_of_file why)) → status ≡ 2
-    → EndsShown part ask job writer errors status
+not-read : {W E : Type 0} {s : Outputs W E} (part : TestPart) (ask : TestAsk) (job : Job) (why : FileFault) (status : ℕ)
+    → s.output.new ≡ s.output.old → IsFaultOf job.file.now why → Told s.errors (line_of (fault_of_file why)) → status ≡ 2
+    → EndsShown part ask job s status
 not-read part ask job (file.Line why line) status same is told two = Refused (Tests why line) is same told two
 not-read part ask job file.Memory status same is told two = Exhausted same told two
 
@@ -31,9 +32,9 @@ returns-in-Err-clause-does g c =
     not-read c.args.part c.args.ask.now c.args.job.now c.in-Err.fault c.refuse.result refl c.in-Err.ensures.err c.refuse.ensures.told c.refuse.ensures.value
 
 -- a name that no test of a sound file has
-no-test : {W E : Type 0} {writer : Stream W} {errors : Stream E} (part : TestPart) (ask : TestAsk) (job : Job) (refusal : JobRefusal) (status : ℕ) → writer.new ≡ writer.old
+no-test : {W E : Type 0} {s : Outputs W E} (part : TestPart) (ask : TestAsk) (job : Job) (refusal : JobRefusal) (status : ℕ) → s.output.new ≡ s.output.old
     → file_fault job.file.now ≡ None → LacksName ask.only (tests (sections job.file.now)) refusal
-    → Told errors (line_of (fault.Refused refusal)) → status ≡ 2 → EndsShown part ask job writer errors status
+    → Told s.errors (line_of (fault.Refused refusal)) → status ≡ 2 → EndsShown part ask job s status
 no-test part ask job (NoTest name) status same sound lacks told two = Refused (NoTest name) (sound, lacks) same told two
 no-test part ask job (Maps fault) status same sound lacks told two = absurd lacks
 no-test part ask job (Listing fault) status same sound lacks told two = absurd lacks

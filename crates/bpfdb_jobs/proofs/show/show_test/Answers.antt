@@ -2,9 +2,10 @@ use Rattle.std.proofs.Common.{ℕ, ◌≡◌, List, [], ◌∷◌, Result, Ok, E
 use Rattle.std.specs.Prelude.{OnOk, OnErr}
 use Rattle.bpf_suite.specs.declared.section.Section.{Section}
 use Rattle.counted_io.specs.Writing.{Writes}
-use Rattle.bpfdb_faults.specs.Streams.{Stream, Told}
+use Rattle.bpfdb_faults.specs.Streams.{Told}
 use Rattle.bpfdb_faults.specs.Faults.{line_of}
 use Rattle.bpfdb_jobs.specs.Shown.{EndsShown, Exhausted, HidesPart, Lost, Refused, Shown, Shows}
+use Rattle.bpfdb_jobs.specs.Streams.{Outputs}
 use Rattle.bpfdb_jobs.specs.Suites.{AreTestsOf}
 use Rattle.bpfdb_faults.specs.declared.fault.JobFault.{JobFault}
 use Rattle.bpfdb_faults.specs.declared.fault.JobFault.TheVariants as fault
@@ -15,10 +16,10 @@ use Rattle.bpfdb_options.specs.declared.test_part.TestPart.{TestPart}
 use Rattle.bpfdb_jobs.proofs.show.show_test.Goals as goal
 
 -- the bytes were written, or a beginning of them
-written : {W E A F : Type 0} {writer : Stream W} {errors : Stream E} (part : TestPart) (ask : TestAsk) (job : Job) (test : List Section) (bytes : List ℕ)
-    (r : Result A F) (status : ℕ) → AreTestsOf ask job (test ∷ []) → Shows part test bytes → Writes writer.bytes writer.old writer.new r bytes
-    → OnOk r ((errors.new ≡ errors.old) × (status ≡ 0)) → OnErr r (Told errors (line_of fault.Output) × (status ≡ 2))
-    → EndsShown part ask job writer errors status
+written : {W E A F : Type 0} {s : Outputs W E} (part : TestPart) (ask : TestAsk) (job : Job) (test : List Section) (bytes : List ℕ)
+    (r : Result A F) (status : ℕ) → AreTestsOf ask job (test ∷ []) → Shows part test bytes → Writes s.output.bytes s.output.old s.output.new r bytes
+    → OnOk r ((s.errors.new ≡ s.errors.old) × (status ≡ 0)) → OnErr r (Told s.errors (line_of fault.Output) × (status ≡ 2))
+    → EndsShown part ask job s status
 written part ask job test bytes (Ok v) status asked shows w ok err = Shown test bytes asked shows (w.ok, w.same) ok.0 ok.1
 written part ask job test bytes (Err e) status asked shows w ok err = Lost test bytes asked shows (w.err, w.fault) err.0 err.1
 
@@ -28,9 +29,9 @@ returns-in-Ok-clause-does g c =
     (rw c.as_slice.ensures.value at c.write_out-written.ensures) c.ended.ensures.ok c.ended.ensures.err
 
 -- the bytes weren't made
-hidden : {W E : Type 0} {writer : Stream W} {errors : Stream E} (part : TestPart) (ask : TestAsk) (job : Job) (test : List Section) (why : JobFault) (status : ℕ)
-    → writer.new ≡ writer.old → AreTestsOf ask job (test ∷ []) → HidesPart part test why → Told errors (line_of why) → status ≡ 2
-    → EndsShown part ask job writer errors status
+hidden : {W E : Type 0} {s : Outputs W E} (part : TestPart) (ask : TestAsk) (job : Job) (test : List Section) (why : JobFault) (status : ℕ)
+    → s.output.new ≡ s.output.old → AreTestsOf ask job (test ∷ []) → HidesPart part test why → Told s.errors (line_of why) → status ≡ 2
+    → EndsShown part ask job s status
 hidden part ask job test (fault.Refused (Listing why)) status same asked hides told two = Refused (Listing why) (test, asked, hides) same told two
 hidden part ask job test fault.Memory status same asked hides told two = Exhausted same told two
 hidden part ask job test (fault.Unreadable name) status same asked hides told two = absurd hides
