@@ -68,8 +68,8 @@ conditional jumps alone: the registers that each one compared, and whether it
 jumped or went on. --profile tells how often each instruction ran, in place of
 the steps. --calls writes a line a call that leaves FILE's own code in place of
 them: of a helper, or of a function of --with or of Linux's library, with the
-arguments, and what it returned. --strict stops before an instruction that reads a byte of the stack
-which nothing wrote since the call of its function.";
+arguments, and what it returned. --strict stops before an instruction that reads
+a byte of the stack which nothing wrote since the call of its function.";
 
 pub const TRACE_EXAMPLE: &str = "Example:
   $ bpfdb trace --from 5 count.s
@@ -439,7 +439,7 @@ pub const DECIDERS: &str = "Tells which branches decided that it came so";
 pub const PROFILE: &str = "Tells how often each instruction ran, and no steps";
 
 /// `--calls`.
-pub const CALLS: &str = "Tells of calls of helpers and others' functions alone";
+pub const CALLS: &str = "Tells calls of helpers and others' functions";
 
 /// `--strict`.
 pub const STRICT: &str = "Stops before a read of stack that nothing wrote";
