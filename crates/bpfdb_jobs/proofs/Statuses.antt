@@ -35,7 +35,7 @@ reported_with writer ask job reported (tests.BrokenOff why asked are breaks is) 
 told_with : {W E : Type 0} (w : Outputs W E) (form : CoverForm) (ask : TestAsk) (job : Job) (reported status : ℕ)
     → tests.EndsTold form ask job reported w status → status ≢ 2 → EndsTestWith None ask job reported → EndsTestWith None ask job status
 told_with w form ask job reported status (tests.Covered text covers out err is) other same = subst (EndsTestWith None ask job) (sym is) same
-told_with w form ask job reported status (tests.Unfound same told two) other same = absurd (other two)
+told_with w form ask job reported status (tests.Unfound kept told two) other same = absurd (other two)
 told_with w form ask job reported status (tests.Lost text covers out told two) other same = absurd (other two)
 
 run_with : {W E : Type 0} (w : Outputs W E) (traced covers : Bool) (ask : TestAsk) (job : Job) (status : ℕ)

@@ -1,6 +1,6 @@
-use Rattle.std.proofs.Common.{◌≡◌, ◌++◌, List, ℕ, append_assoc, ap, codes, refl, sym, ◌∙◌}
+use Rattle.std.proofs.Common.{◌≡◌, ◌++◌, List, ℕ, append_assoc, ap, codes, decimal, flat_map, refl, sym, ◌∙◌}
 use Rattle.counted_io.proofs.Appending.{Writes-text}
-use Rattle.bpfdb_jobs.specs.MapLines.{maps_line}
+use Rattle.bpfdb_jobs.specs.MapLines.{maps_line, shape_text}
 use Rattle.bpfdb_jobs.proofs.maps.put_maps.Goals as goal
 
 -- the parts of the line, one behind the other

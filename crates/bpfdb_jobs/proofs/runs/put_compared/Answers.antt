@@ -1,4 +1,4 @@
-use Rattle.std.proofs.Common.{ℕ, List, Option, Result, Ok, Err}
+use Rattle.std.proofs.Common.{ℕ, List, [], Option, Result, Ok, Err}
 use Rattle.std.specs.Prelude.{IfOk}
 use Rattle.bpf_diff.specs.declared.diff.Compared.{Compared}
 use Rattle.counted_io.proofs.Appending.{Writes-none}
