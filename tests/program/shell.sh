@@ -82,8 +82,8 @@ if has python3 'bpfdb-shell'; then
     printf 'jeq r1, 0, none\nldxb r0, [r1+0]\nexit\nnone: mov r0, 1\nexit\n' > first.s
     decided='-3 0: jeq r1, 0, L3; r1 = 0x0; jumped to 3 (first.s:1)\nat 0: jeq r1, 0, L3\nleft r1 = 0x0; at the opening\n'
     plainly 'why it did not come to a slot, a line or a label' 0 'c\nwhynot 1\nwhynot first.s:2\nwhynot none\nrs\nwhynot none+1\nwhynot\nwhynot nosuch\nwhynot 9\n' \
-        "3 forward; end; exited at 4: r0 0x1\n$decided${decided}it was reached 2 moves back\n1 back; done; at 4: exit\nit can still be reached\nrefused V4: no instruction starts at the slot\n" \
-        'bpfdb-shell: whynot PLACE: a slot, a label, LABEL+1 or FILE:LINE\nbpfdb-shell: there is no label nosuch\n' first.s
+        "3 forward; end; exited at 4: r0 0x1\n$decided${decided}it was reached 2 moves back\n1 back; done; at 4: exit\nit can still be reached\nrefused V5: no such place: nosuch\nrefused V4: no instruction starts at the slot\n" \
+        'bpfdb-shell: whynot PLACE: a slot, a label, LABEL+1, FILE:LINE or =VALUE\n' first.s
     plainly 'going back to the first move' 0 'si 5\nrc\nrs\n' '5 forward; done; at 1: ja L0\n5 back; start; at 0: add r0, 1\nrefused Q4: no kept step\n' '' endless.s
     plainly 'going back in the largest journal' 0 'c\nc\nc\nrc\n' \
         "$(for at in 1 2 3; do printf '1000000 forward; limit; at 0: add r0, 1\\n'; done)1458888 back; start; at 0: add r0, 1\n" \
