@@ -94,7 +94,8 @@ pub fn misfit_in(name: &str, found: &ArgMatches<'_>) -> Option<&'static str>
 
 /// What is asked beside the calls of a run and isn't told with them, if there is something.
 fn misfit_of_calls(found: &ArgMatches<'_>) -> Option<&'static str>
-    ensures { is_some result ≡ not (calls_fit (rows_of (found_of found.now))) }
+    ensures none { IfNone result (calls_fit (rows_of (found_of found.now)) ≡ true) }
+    ensures some { OnSome result (calls_fit (rows_of (found_of found.now)) ≡ false) }
 {
     if !is_given(found, "calls") {
         return None;
