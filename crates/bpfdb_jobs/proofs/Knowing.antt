@@ -28,7 +28,7 @@ pub told-none : (job : Job) (linked : LinkedObject) → tells_places job.ask ≡
 told-none job linked tells lacks = subst (λ (b : Bool). HasPlaces b job (Some linked) None) (sym tells) lacks
 
 no-functions : (job : Job) (linked : LinkedObject) (tells : Bool) → LacksLines job linked → HasFunctions tells job (Some linked) None
-no-functions job linked true lacks = (lacks, refl, refl, refl)
+no-functions job linked true lacks = (lacks, (refl, refl, refl))
 no-functions job linked false lacks = (refl, refl, refl)
 
 -- with none of them

@@ -10,4 +10,4 @@ returns-then-not-tells_calls c =
 pub returns-in-Ok : goal.returns-in-Ok
 returns-in-Ok c =
     calls-told c.args.job.now c.args.object.now c.args.lines.now c.in-Ok.functions (tells_calls c.args.job.now.ask) (sym c.tells_calls.ensures ∙ c.if-not-tells_calls.false)
-    c.requires.0 c.in-Ok.ensures
+    c.requires.0 (rw c.as_slice-words.ensures.value at c.in-Ok.ensures)
