@@ -33,7 +33,8 @@ session 'debug --object' 'stepi 13\nx 0x300000000 8\nundo\n' \
     '13 forward; done; at 1: ldmapval r2, 0, 0\n0x300000000: 0100000000000000\n13 back; done; at 0: ja32 L12\n' debug --object point.o
 
 # alike SUBCOMMAND OPTIONS LINK OBJECT [WHAT]: the subcommand with these options does of the object, linked with the options LINK, what it does of the linked words.
-# (Only `origin` and `trace` tell more of an object: the name of a place in a map, which the part `names` looks at, and where a line stands in C.)
+# (Of an object there is more in the lines of moves, and in those of where a program stands: the name of a place in a map, which the part `names` looks at, and
+# where the line stands in C, which `places` does.)
 alike() {
     subcommand=$1 options=$2 asked=$3 object=$4
     shift 4
@@ -43,7 +44,7 @@ alike() {
     echo $? > wanted/status
     run $subcommand $options --object $asked $object "$@"
     case $subcommand in
-    origin | trace) sed -i 's/; in [^;]*$//; s/; initial value of [^;]*$//' found/out ;;
+    run | origin | trace | whynot) sed -i 's/; in [^;]*$//; s/; initial value of [^;]*$//' found/out found/err ;;
     esac
     compare "bpfdb $subcommand $options --object $asked $object $*"
 }
