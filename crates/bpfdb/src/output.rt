@@ -28,7 +28,7 @@ pub struct LateFile<'a> {
 impl<'a> LateFile<'a> {
     /// The file of this path, which isn't made yet.
     pub fn new(rt: &'a HostRuntime, path: &'a str) -> LateFile<'a>
-        ensures path { result.path ≡ path }
+        ensures path { result.path.now ≡ path.now }
         ensures file { result.file ≡ None }
     {
         LateFile {
