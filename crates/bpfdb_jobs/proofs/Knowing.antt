@@ -40,8 +40,8 @@ nothing-known job linked it places tells l isnt texts own goals functions =
       record {
         goals = rw goals (subst (λ (place : Option (List ℕ)). HasPlace place job (Some linked) None) (sym (is-none (asked_place job.ask) both.0)) refl);
         texts = rw texts (told-none job linked tells lacks);
-         functions = rw functions (no-functions job linked (tells_calls job.ask) lacks);
-         own = rw texts own;
+        functions = rw functions (no-functions job linked (tells_calls job.ask) lacks);
+        own = rw texts own;
       },
       lacks,
     )
