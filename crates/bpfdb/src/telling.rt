@@ -105,7 +105,8 @@ fn write_told<W: Write, E: Write>(
     status: u8,
     streams: &mut Streams<W, E>,
 ) -> u8
-    ensures ends { EndsRetold output.now told.now status (between W.contents E.contents streams.old streams.new) result }
+    ensures ends { EndsRetold output.now told.now status
+        (between W.contents E.contents streams.old streams.new) result }
     ensures status { status ≤ 2 → result ≤ 2 }
 {
     match write_out(&mut streams.output, output) {

@@ -29,7 +29,8 @@ pub fn against_job<W: Write, E: Write>(
 ) -> u8
     requires trace { is_trace diff.now.other ≡ true }
     requires loaded { Loads job.now.target job.now.file.now loaded }
-    ensures does { EndsPrinted (Diff diff.now) job.now (between W.contents E.contents streams.old streams.new) result }
+    ensures does { EndsPrinted (Diff diff.now) job.now
+        (between W.contents E.contents streams.old streams.new) result }
     ensures status { result ≤ 2 }
 {
     let mut cpu = match machine_of(alloc, job, loaded.program) {

@@ -22,7 +22,8 @@ pub fn check_job<W: Write, E: Write>(
     streams: &mut Streams<W, E>,
 ) -> u8
     requires loaded { Loads job.now.target job.now.file.now loaded.now }
-    ensures does { EndsPrinted Check job.now (between W.contents E.contents streams.old streams.new) result }
+    ensures does { EndsPrinted Check job.now
+        (between W.contents E.contents streams.old streams.new) result }
     ensures status { result ≤ 2 }
 {
     let written = write_size(&loaded.program, &mut streams.output);

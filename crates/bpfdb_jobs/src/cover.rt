@@ -59,7 +59,8 @@ fn tell_cover<W: Write, E: Write>(
     streams: &mut Streams<W, E>,
 ) -> u8
     requires { reported ≤ 2 }
-    ensures does { EndsTold form.now ask.now job.now reported (between W.contents E.contents streams.old streams.new) result }
+    ensures does { EndsTold form.now ask.now job.now reported
+        (between W.contents E.contents streams.old streams.new) result }
     ensures status { result ≤ 2 }
 {
     let text = match cover_of(alloc, ask, job, form) {

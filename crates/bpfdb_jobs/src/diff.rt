@@ -66,7 +66,8 @@ pub fn diff_job<W: Write, E: Write>(
 ) -> u8
     requires loaded { Loads job.now.target job.now.file.now loaded }
     requires known { IsKnown job.now loaded.object known }
-    ensures does { EndsPrinted (Diff diff.now) job.now (between W.contents E.contents streams.old streams.new) result }
+    ensures does { EndsPrinted (Diff diff.now) job.now
+        (between W.contents E.contents streams.old streams.new) result }
     ensures status { result ≤ 2 }
 {
     if diff.other.is_trace() {
@@ -114,7 +115,8 @@ fn runs_job<W: Write, E: Write>(
     requires runs { is_trace diff.now.other ≡ false }
     requires loaded { Loads job.now.target job.now.file.now loaded }
     requires places { AreTold job.now loaded.object places }
-    ensures does { EndsPrinted (Diff diff.now) job.now (between W.contents E.contents streams.old streams.new) result }
+    ensures does { EndsPrinted (Diff diff.now) job.now
+        (between W.contents E.contents streams.old streams.new) result }
     ensures status { result ≤ 2 }
 {
     let Loaded { program, object } = loaded;
@@ -223,7 +225,8 @@ fn sides_job<W: Write, E: Write>(
     requires second { OpensOf other.now (lent second.object) second.cpu }
     requires told { AreTold job.now (lent first.object) first.places
         × AreTold other.now (lent second.object) second.places }
-    ensures does { EndsPrinted (Diff diff.now) job.now (between W.contents E.contents streams.old streams.new) result }
+    ensures does { EndsPrinted (Diff diff.now) job.now
+        (between W.contents E.contents streams.old streams.new) result }
     ensures status { result ≤ 2 }
 {
     match other_map(&first, &second) {
@@ -252,7 +255,8 @@ fn alike_job<W: Write, E: Write>(
         × AreTold other.now (lent second.object) second.places }
     requires maps { AreSameMaps (loaded_of first.cpu.program (lent first.object))
         (loaded_of second.cpu.program (lent second.object)) }
-    ensures does { EndsPrinted (Diff diff.now) job.now (between W.contents E.contents streams.old streams.new) result }
+    ensures does { EndsPrinted (Diff diff.now) job.now
+        (between W.contents E.contents streams.old streams.new) result }
     ensures status { result ≤ 2 }
 {
     let names = match names_for(alloc, diff, job, first.object) {
@@ -338,7 +342,8 @@ fn tell_runs<W: Write, E: Write>(
     streams: &mut Streams<W, E>,
 ) -> u8
     requires { WereCompared diff.now job.now other.now places.names places.others places.texts runs }
-    ensures does { EndsPrinted (Diff diff.now) job.now (between W.contents E.contents streams.old streams.new) result }
+    ensures does { EndsPrinted (Diff diff.now) job.now
+        (between W.contents E.contents streams.old streams.new) result }
     ensures status { result ≤ 2 }
 {
     let ComparedRuns {
@@ -383,7 +388,8 @@ fn put_runs<W: Write, E: Write>(
 ) -> u8
     requires { Prints (Diff diff.now) job.now
         (runs_told text.now is_same (sources.now.first.items, sources.now.second.items)) }
-    ensures does { EndsPrinted (Diff diff.now) job.now (between W.contents E.contents streams.old streams.new) result }
+    ensures does { EndsPrinted (Diff diff.now) job.now
+        (between W.contents E.contents streams.old streams.new) result }
     ensures status { result ≤ 2 }
 {
     let first = sources.first.as_slice();

@@ -18,7 +18,8 @@ use std::io::Write;
 
 /// Writes the words of a listing. The program isn't checked.
 pub fn asm_job<W: Write, E: Write>(alloc: Global, job: &Job<'_>, streams: &mut Streams<W, E>) -> u8
-    ensures does { EndsPrinted Asm job.now (between W.contents E.contents streams.old streams.new) result }
+    ensures does { EndsPrinted Asm job.now
+        (between W.contents E.contents streams.old streams.new) result }
     ensures status { result ≤ 2 }
 {
     match assemble(alloc, job.file) {
@@ -39,7 +40,8 @@ pub fn lines_job<W: Write, E: Write>(
     job: &Job<'_>,
     streams: &mut Streams<W, E>,
 ) -> u8
-    ensures does { EndsPrinted Lines job.now (between W.contents E.contents streams.old streams.new) result }
+    ensures does { EndsPrinted Lines job.now
+        (between W.contents E.contents streams.old streams.new) result }
     ensures status { result ≤ 2 }
 {
     if links_first(job.target.kind) {
@@ -75,7 +77,8 @@ pub fn disasm_job<W: Write, E: Write>(
     streams: &mut Streams<W, E>,
 ) -> u8
     requires loaded { Loads job.now.target job.now.file.now loaded.now }
-    ensures does { EndsPrinted Disasm job.now (between W.contents E.contents streams.old streams.new) result }
+    ensures does { EndsPrinted Disasm job.now
+        (between W.contents E.contents streams.old streams.new) result }
     ensures status { result ≤ 2 }
 {
     match disassemble(alloc, &loaded.program) {

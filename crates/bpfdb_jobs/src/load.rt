@@ -37,7 +37,8 @@ pub fn load_job<W: Write, E: Write>(
     streams: &mut Streams<W, E>,
 ) -> u8
     requires loaded { Loads job.now.target job.now.file.now loaded.now }
-    ensures does { EndsPrinted Load job.now (between W.contents E.contents streams.old streams.new) result }
+    ensures does { EndsPrinted Load job.now
+        (between W.contents E.contents streams.old streams.new) result }
     ensures status { result ≤ 2 }
 {
     match &loaded.object {
@@ -56,7 +57,8 @@ fn tell_object<W: Write, E: Write>(
 ) -> u8
     requires loaded { Loads job.now.target job.now.file.now loaded.now }
     requires object { loaded.now.object ≡ Some object.now }
-    ensures does { EndsPrinted Load job.now (between W.contents E.contents streams.old streams.new) result }
+    ensures does { EndsPrinted Load job.now
+        (between W.contents E.contents streams.old streams.new) result }
     ensures status { result ≤ 2 }
 {
     let own = object.sources.own.as_slice();
@@ -108,7 +110,8 @@ fn tell_source<W: Write, E: Write>(
 ) -> u8
     requires loaded { Loads job.now.target job.now.file.now loaded.now }
     requires object { loaded.now.object ≡ None }
-    ensures does { EndsPrinted Load job.now (between W.contents E.contents streams.old streams.new) result }
+    ensures does { EndsPrinted Load job.now
+        (between W.contents E.contents streams.old streams.new) result }
     ensures status { result ≤ 2 }
 {
     match job.target.kind {
@@ -131,7 +134,8 @@ fn tell_rows<W: Write, E: Write>(
     streams: &mut Streams<W, E>,
 ) -> u8
     requires { Prints Load job.now (printed (program_text loaded.now ++ rows.now)) }
-    ensures does { EndsPrinted Load job.now (between W.contents E.contents streams.old streams.new) result }
+    ensures does { EndsPrinted Load job.now
+        (between W.contents E.contents streams.old streams.new) result }
     ensures status { result ≤ 2 }
 {
     let begun = write_program(&mut streams.output, loaded);

@@ -31,7 +31,8 @@ pub fn link_job<W: Write, E: Write>(
     job: &Job<'_>,
     streams: &mut Streams<W, E>,
 ) -> u8
-    ensures does { EndsPrinted (Link is_joined) job.now (between W.contents E.contents streams.old streams.new) result }
+    ensures does { EndsPrinted (Link is_joined) job.now
+        (between W.contents E.contents streams.old streams.new) result }
     ensures status { result ≤ 2 }
 {
     if is_joined {
@@ -45,7 +46,8 @@ pub fn link_job<W: Write, E: Write>(
 
 /// Writes the object that would be linked.
 fn put_object<W: Write, E: Write>(alloc: Global, job: &Job<'_>, streams: &mut Streams<W, E>) -> u8
-    ensures does { EndsPrinted (Link true) job.now (between W.contents E.contents streams.old streams.new) result }
+    ensures does { EndsPrinted (Link true) job.now
+        (between W.contents E.contents streams.old streams.new) result }
     ensures status { result ≤ 2 }
 {
     match gathered(alloc, job.file, &job.target) {
@@ -64,7 +66,8 @@ fn put_program<W: Write, E: Write>(
     streams: &mut Streams<W, E>,
 ) -> u8
     requires { LinksTo job.now.target job.now.file.now object.now }
-    ensures does { EndsPrinted (Link false) job.now (between W.contents E.contents streams.old streams.new) result }
+    ensures does { EndsPrinted (Link false) job.now
+        (between W.contents E.contents streams.old streams.new) result }
     ensures status { result ≤ 2 }
 {
     let linked = &object.program;

@@ -24,7 +24,8 @@ pub fn object_lines_job<W: Write, E: Write>(
     streams: &mut Streams<W, E>,
 ) -> u8
     requires { links_first job.now.target.kind ≡ true }
-    ensures does { EndsPrinted Lines job.now (between W.contents E.contents streams.old streams.new) result }
+    ensures does { EndsPrinted Lines job.now
+        (between W.contents E.contents streams.old streams.new) result }
     ensures status { result ≤ 2 }
 {
     match link_object(alloc, job.file, &job.target) {
@@ -43,7 +44,8 @@ fn put_lines<W: Write, E: Write>(
 ) -> u8
     requires object { links_first job.now.target.kind ≡ true }
     requires linked { LinksTo job.now.target job.now.file.now linked.now }
-    ensures does { EndsPrinted Lines job.now (between W.contents E.contents streams.old streams.new) result }
+    ensures does { EndsPrinted Lines job.now
+        (between W.contents E.contents streams.old streams.new) result }
     ensures status { result ≤ 2 }
 {
     let own = linked.sources.own.as_slice();

@@ -89,7 +89,8 @@ pub fn origin_job<W: Write, E: Write>(
     requires limit { IsLimit job.now.options.limit }
     requires loaded { Loads job.now.target job.now.file.now loaded }
     requires known { IsKnown job.now loaded.object known }
-    ensures does { EndsPrinted (Origin origin.now) job.now (between W.contents E.contents streams.old streams.new) result }
+    ensures does { EndsPrinted (Origin origin.now) job.now
+        (between W.contents E.contents streams.old streams.new) result }
     ensures status { result ≤ 2 }
 {
     match arrive(alloc, job, loaded) {
@@ -109,7 +110,8 @@ fn ask<W: Write, E: Write>(
 ) -> u8
     requires reached { HasArrived job.now reached.object reached.arrived.timeline reached.arrived.moves }
     requires known { IsKnown job.now reached.object known }
-    ensures does { EndsPrinted (Origin origin.now) job.now (between W.contents E.contents streams.old streams.new) result }
+    ensures does { EndsPrinted (Origin origin.now) job.now
+        (between W.contents E.contents streams.old streams.new) result }
     ensures status { result ≤ 2 }
 {
     let parts = match parts_of(origin, reached.arrived.timeline.cpu()) {
@@ -146,7 +148,8 @@ fn ask_branches<W: Write, E: Write>(
     requires asked { IsAsked origin.now job.now reached.object reached.arrived.timeline reached.arrived.moves
         asked.parts.now asked.question }
     requires branches { origin.now.tells_branches ≡ true }
-    ensures does { EndsPrinted (Origin origin.now) job.now (between W.contents E.contents streams.old streams.new) result }
+    ensures does { EndsPrinted (Origin origin.now) job.now
+        (between W.contents E.contents streams.old streams.new) result }
     ensures status { result ≤ 2 }
 {
     let Reached { arrived, object } = reached;
@@ -302,7 +305,8 @@ fn tell<W: Write, E: Write>(
 ) -> u8
     requires { HasTail origin.now job.now reached.object reached.arrived.timeline reached.arrived.moves
         asked.parts.now asked.question (record { text = tail.text.now; extent = tail.extent }) }
-    ensures does { EndsPrinted (Origin origin.now) job.now (between W.contents E.contents streams.old streams.new) result }
+    ensures does { EndsPrinted (Origin origin.now) job.now
+        (between W.contents E.contents streams.old streams.new) result }
     ensures status { result ≤ 2 }
 {
     let Reached {

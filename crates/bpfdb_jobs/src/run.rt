@@ -37,7 +37,8 @@ pub fn run_job<W: Write, E: Write>(
 ) -> u8
     requires loaded { Loads job.now.target job.now.file.now loaded }
     requires known { IsKnown job.now loaded.object known }
-    ensures does { EndsPrinted (Run is_strict) job.now (between W.contents E.contents streams.old streams.new) result }
+    ensures does { EndsPrinted (Run is_strict) job.now
+        (between W.contents E.contents streams.old streams.new) result }
     ensures status { result ≤ 2 }
 {
     let mut strict = match strict_machine(alloc, job, is_strict, known.own, loaded.program) {

@@ -28,7 +28,8 @@ pub fn test_job<W: Write, E: Write>(
     job: &Job<'_>,
     streams: &mut Streams<W, E>,
 ) -> u8
-    ensures does { EndsTest ask.now.show ask.now job.now (between W.contents E.contents streams.old streams.new) result }
+    ensures does { EndsTest ask.now.show ask.now job.now
+        (between W.contents E.contents streams.old streams.new) result }
     ensures status { result ≤ 2 }
 {
     match ask.show {
@@ -66,7 +67,8 @@ fn report_job<W: Write, E: Write>(
     job: &Job<'_>,
     streams: &mut Streams<W, E>,
 ) -> u8
-    ensures does { EndsTests ask.now job.now (between W.contents E.contents streams.old streams.new) result }
+    ensures does { EndsTests ask.now job.now
+        (between W.contents E.contents streams.old streams.new) result }
     ensures status { result ≤ 2 }
 {
     match report_on(alloc, ask, job, &mut streams.output) {

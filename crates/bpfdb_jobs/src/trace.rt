@@ -43,7 +43,8 @@ pub fn trace_job<W: Write, E: Write>(
 ) -> u8
     requires loaded { Loads job.now.target job.now.file.now loaded }
     requires known { IsKnown job.now loaded.object known }
-    ensures does { EndsPrinted (Trace trace.now) job.now (between W.contents E.contents streams.old streams.new) result }
+    ensures does { EndsPrinted (Trace trace.now) job.now
+        (between W.contents E.contents streams.old streams.new) result }
     ensures status { result ≤ 2 }
 {
     let mut strict = match strict_machine(alloc, job, trace.is_strict, known.own, loaded.program) {

@@ -49,7 +49,8 @@ pub fn whynot_job<W: Write, E: Write>(
     requires limit { IsLimit job.now.options.limit }
     requires loaded { Loads job.now.target job.now.file.now loaded }
     requires known { IsKnown job.now loaded.object known }
-    ensures does { EndsPrinted (Whynot why.now) job.now (between W.contents E.contents streams.old streams.new) result }
+    ensures does { EndsPrinted (Whynot why.now) job.now
+        (between W.contents E.contents streams.old streams.new) result }
     ensures status { result ≤ 2 }
 {
     let Reached {
@@ -82,7 +83,8 @@ fn ask_why<W: Write, E: Write>(
 ) -> u8
     requires arrived { HasArrived job.now (lent object) arrived.old.timeline arrived.old.moves }
     requires known { IsKnown job.now (lent object) known }
-    ensures does { EndsPrinted (Whynot why.now) job.now (between W.contents E.contents streams.old streams.new) result }
+    ensures does { EndsPrinted (Whynot why.now) job.now
+        (between W.contents E.contents streams.old streams.new) result }
     ensures status { result ≤ 2 }
 {
     let aim = match aim_of(alloc, why, job, known, arrived.timeline.cpu().program()) {
