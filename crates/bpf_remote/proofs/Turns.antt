@@ -120,7 +120,7 @@ module _ {K R W : Type 0} (holds : K → List Kept → Type 0) (refusals room : 
       (said : Item) (result : Result A E) (on : Bool)
       → Serving gdb from session talk reader reader' writer writer'
       → ReadsItem {E = F} remaining reader' reader'' request (Ok said) → is_end said ≡ false
-      → TakesTurn holds refusals room contents (side session talk writer') (side session' talk' writer'') (result, on) said request
+      → TakesTurn holds refusals room contents (side session talk writer') (side session' talk' writer'') (result, on) (said, request)
       → (t : Taken gdb from reader reader'' writer session' talk' on) × Wrote writer writer' writer'' (told_in holds refusals room t.turns) t.turn.told result
   take gdb from session session' talk talk' request reader reader' reader'' writer writer' writer'' said result on s r more takes =
       let i = r.item in
@@ -228,7 +228,7 @@ module _ {K R W : Type 0} (holds : K → List Kept → Type 0) (refusals room : 
   -- what a turn was taken with
   abbrev Turned : {E : Type 0} → SessionValue K → SessionValue K → Talk → Talk → Buffer → Tally W → Tally W → Item → Result Bool E → Type 0
   Turned session session' talk talk' request writer writer' said result = (on : Bool) × IfOk result (λ more. more ≡ on)
-      × TakesTurn holds refusals room contents (side session talk writer) (side session' talk' writer') (result, on) said request
+      × TakesTurn holds refusals room contents (side session talk writer) (side session' talk' writer') (result, on) (said, request)
 
   -- behind a turn: the next one, the end, a failure
   pub after-more : {E F : Type 0} (gdb : Target) (from session session' : SessionValue K) (talk talk' : Talk) (request : Buffer) (reader reader' reader'' : Tally R) (writer writer' writer'' : Tally W)

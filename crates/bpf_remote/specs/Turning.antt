@@ -57,6 +57,7 @@ module _ {K W : Type 0} (holds : K → List Kept → Type 0) (refusals room : K 
   AnswersBody old new answered body = (before : List ℕ)
       → Tells contents old new answered.0 (λ last told on. DoesBody holds refusals room (desk old before) (desk new last) body (behind (codes "qRcmd,") body) told on) answered.1
 
-  abbrev pub TakesTurn : {A E : Type 0} → Side K W → Side K W → Result A E × Bool → Item → Buffer → Type 0
-  TakesTurn old new answered item request = (before body : List ℕ) → Holds old.talk.answer before → (item ≡ Packet → Holds request body × (length body ≤ longest_body)) → (item ≡ End → ⊥)
-      → Tells contents old new answered.0 (λ last told on. Does holds refusals room (desk old before) (desk new last) item body told on) answered.1
+  abbrev pub TakesTurn : {A E : Type 0} → Side K W → Side K W → Result A E × Bool → Item × Buffer → Type 0
+  TakesTurn old new answered asked = (before body : List ℕ) → Holds old.talk.answer before
+      → (asked.0 ≡ Packet → Holds asked.1 body × (length body ≤ longest_body)) → (asked.0 ≡ End → ⊥)
+      → Tells contents old new answered.0 (λ last told on. Does holds refusals room (desk old before) (desk new last) asked.0 body told on) answered.1

@@ -111,7 +111,7 @@ fn take_turn<K: Keeper, W: Write>(
     ensures { (on : Bool) × IfOk result (λ more. more ≡ on)
         × TakesTurn K.holds K.refused K.room W.contents
         (record { session = session.old; talk = talk.old; writer = writer.old })
-        (record { session = session.new; talk = talk.new; writer = writer.new }) (result, on) item request.now }
+        (record { session = session.new; talk = talk.new; writer = writer.new }) (result, on) (item, request.now) }
 {
     let (told, on) = answer_item(alloc, session, wanted, talk, item, request, writer);
     flush(writer, told, on)
@@ -150,7 +150,7 @@ fn answer_item<K: Keeper, W: Write>(
 ) -> (Result<(), WriteFault>, bool)
     ensures { TakesTurn K.holds K.refused K.room W.contents
         (record { session = session.old; talk = talk.old; writer = writer.old })
-        (record { session = session.new; talk = talk.new; writer = writer.new }) result item request.now }
+        (record { session = session.new; talk = talk.new; writer = writer.new }) result (item, request.now) }
 {
     match item {
         Item::Packet => match request.bytes() {
