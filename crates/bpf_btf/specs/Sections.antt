@@ -1,5 +1,6 @@
 -- A section `.BTF` (the kernel's document 'BPF Type Format (BTF)', sections 2 and 4.1).
 use Rattle.std.specs.Prelude.{◌≡◌, ◌⊎◌, ℕ, ◌+◌, ◌==◌, nat_le, List, length, slice_range, Result, Ok, Err}
+use Rattle.bpf_isa.specs.Words.{u32_at}
 use Rattle.bpf_btf.specs.declared.fault.BtfFault.{BtfFault}
 use Rattle.bpf_btf.specs.declared.fault.BtfFault.TheVariants.{NoBtf, Version, Header, Memory}
 use Rattle.bpf_btf.specs.declared.layout.BtfHeader.{BtfHeader}
@@ -20,6 +21,10 @@ header_of bytes header =
 
 abbrev pub types_in : List ℕ → BtfHeader → List ℕ
 types_in bytes header = slice_range bytes (header.size + header.types_at) (header.size + header.types_at + header.types_size)
+
+-- Where the strings stand, by hdr_len and str_off of the header.
+abbrev pub strings_at : List ℕ → ℕ
+strings_at bytes = u32_at bytes 4 + u32_at bytes 16
 
 abbrev pub strings_in : List ℕ → BtfHeader → List ℕ
 strings_in bytes header = slice_range bytes (header.size + header.strings_at) (header.size + header.strings_at + header.strings_size)

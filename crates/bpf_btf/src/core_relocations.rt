@@ -50,14 +50,14 @@ fn listed_by<'a>(bytes: &'a [u8], header: &ExtHeader) -> Result<&'a [u8], BtfFau
 }
 
 /// Whether the entries of a list are long enough.
-fn has_entries(listed: &[u8]) -> bool
+pub fn has_entries(listed: &[u8]) -> bool
     ensures { result ≡ has_entries listed.now }
 {
     listed.is_empty() || u32_at(listed, 0) >= 16
 }
 
 /// Where the block at a place ends, None where that isn't in the list.
-fn block_end(listed: &[u8], at: usize) -> Option<usize>
+pub fn block_end(listed: &[u8], at: usize) -> Option<usize>
     requires { at < length listed.now }
     ensures found { IfSome result (λ end. (end ≡ block_end listed.now at) × (end ≤ length listed.now)) }
     ensures none { IfNone result (length listed.now < block_end listed.now at) }

@@ -14,8 +14,9 @@ mod section;
 mod sizes;
 mod types;
 
-pub use core_relocations::CoreRelocations;
+pub use core_relocations::{CoreRelocations, block_end, has_entries};
 pub use fault::BtfFault;
+pub use fields::{byte_at, is_called, u16_at, u32_at};
 pub use layout::{ArrayEntry, MemberEntry, TypeEntry};
 pub use maps::MapDescription;
 pub use members::latest;

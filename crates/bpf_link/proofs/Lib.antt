@@ -17,3 +17,4 @@ pub mod Pruning
 pub mod Blanking
 pub mod Flows
 pub mod Followed
+pub mod Zeros

@@ -1,5 +1,5 @@
 -- The names of the kernel's helpers (Linux, include/uapi/linux/bpf.h, __BPF_FUNC_MAPPER).
-use Rattle.std.specs.Prelude.{ℕ, zero, suc, ◌+◌, ◌==◌, nat_lt, Bool, if◌then◌else◌, List, [], Option, Some, None, length, position, take, slice_range}
+use Rattle.std.specs.Prelude.{ℕ, zero, suc, ◌+◌, ◌==◌, nat_le, nat_lt, bytes_eq, Bool, ◌&&◌, if◌then◌else◌, List, [], Option, Some, None, codes, length, position, take, slice_range}
 use Rattle.bpf_link.specs.declared.helpers.TheConstants.{NAMES}
 
 -- The list, which is the one in the code: a line each, from number 0 on, which names none.
@@ -29,3 +29,7 @@ helper_line text = first_line text (position is_line_feed text)
 
 abbrev pub helper_name : ℕ → List ℕ
 helper_name helper = if nat_lt 211 helper then [] else helper_line (lines_behind helper_names helper)
+
+-- A name at a place begins as those of helpers do.
+abbrev pub has_prefix : List ℕ → ℕ → Bool
+has_prefix bytes at = nat_le (at + 4) (length bytes) && bytes_eq (slice_range bytes at (at + 4)) (codes "bpf_")

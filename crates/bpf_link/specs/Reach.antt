@@ -1,6 +1,7 @@
 -- Which slots of a program's code may be come to from its entry, by what their instructions say and whatever conditions decide.
 use Rattle.std.specs.Prelude.{◌≡◌, ◌<◌, ℕ, ◌+◌, ◌*◌, ◌/◌, ◌%◌, ◌==◌, nat_lt, Bool, true, false, not, ◌&&◌, ◌||◌, if◌then◌else◌, List, get_or, length, slice_index}
 use Rattle.bpf_isa.specs.Words.{u16_at, u32_at}
+use Rattle.bpf_packet.specs.Slots.{extended}
 
 -- The opcode in a slot, and the byte of its registers, whose high half is src.
 abbrev pub opcode_at : List ℕ → ℕ → ℕ
@@ -19,9 +20,6 @@ jumps opcode registers =
     if opcode == 0x85 then registers / 16 == 1 else (((opcode % 8 == 5) || (opcode % 8 == 6)) && not (opcode == 0x95))
 
 -- How far, from the slot after it: by imm, of a call and of `ja32`, else by the offset, of 16 bits. In 32 bits of two's complement.
-abbrev pub extended : ℕ → ℕ
-extended offset = if nat_lt offset 32768 then offset else offset + 4294901760
-
 abbrev pub distance_at : List ℕ → ℕ → ℕ
 distance_at words slot =
     if (opcode_at words slot == 0x85) || (opcode_at words slot == 0x06) then u32_at words (8 * slot + 4) else extended (u16_at words (8 * slot + 2))

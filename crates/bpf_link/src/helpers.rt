@@ -1,6 +1,6 @@
 //! The names of the kernel's helpers.
-ghost use Rattle.std.specs.Prelude.{◌≡◌, position};
-ghost use Rattle.bpf_link.specs.Helpers.{first_line, helper_name, helper_names, is_line_feed, line_behind, lines_behind};
+ghost use Rattle.std.specs.Prelude.{◌≡◌, ◌≤◌, length, position};
+ghost use Rattle.bpf_link.specs.Helpers.{first_line, has_prefix, helper_name, helper_names, is_line_feed, line_behind, lines_behind};
 
 /// The greatest number of a helper that has a name: later helpers of the kernel are functions
 /// without numbers.
@@ -275,4 +275,15 @@ pub fn helper_name(helper: u32) -> &'static [u8]
         return &[];
     }
     first_line(lines_behind(helper_names().as_bytes(), helper))
+}
+
+/// Whether a name at a place begins as those of helpers do, with `bpf_`.
+pub fn has_prefix(bytes: &[u8], at: usize) -> bool
+    requires { at ≤ length bytes.now }
+    ensures { result ≡ has_prefix bytes.now at }
+{
+    if bytes.len() - at < 4 {
+        return false;
+    }
+    &bytes[at..at + 4] == b"bpf_".as_slice()
 }

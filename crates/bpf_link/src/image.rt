@@ -1,6 +1,6 @@
 //! What the data of a program are at its start.
 ghost use Rattle.std.specs.Prelude.{◌≡◌, ◌≤◌, ◌<◌, ◌+◌, ◌⊎◌, length, IfOk, IfErr, Ok, Err};
-ghost use Rattle.bpf_link.specs.Images.{filled, whole_size, bytes_of, with_u64, address_of, pointed_place, with_address, with_relocated, with_pointer, with_pointers, image_of};
+ghost use Rattle.bpf_link.specs.Images.{filled, whole_size, bytes_of, address_of, pointed_place, with_address, with_relocated, with_pointer, with_pointers, image_of};
 ghost use Rattle.bpf_link.specs.Links.{MemoryOr};
 ghost use Rattle.bpf_link.specs.declared.fault.LinkFault.TheVariants.{Memory};
 
@@ -12,8 +12,8 @@ use crate::object::Object;
 use crate::placed::Placed;
 use crate::plan::{Plan, symbol_place};
 use crate::tables::Relocations;
+use crate::written::with_u64;
 use bpf_isa::MOST_MAP_BYTES;
-use byteorder::{ByteOrder, LittleEndian};
 use std::alloc::Global;
 
 /// Bytes, and zeros after them up to a whole number of eight.
@@ -53,15 +53,6 @@ fn bytes_of(
     }
     let at = section.offset as usize;
     filled(alloc, size, &bytes[at..at + section.size as usize])
-}
-
-/// Data with a number in the eight bytes at a place.
-fn with_u64(mut image: Vec<u8>, at: usize, n: u64) -> Vec<u8>
-    requires { at + 8 ≤ length image.items }
-    ensures { result.items ≡ with_u64 image.items at n }
-{
-    LittleEndian::write_u64(&mut image[at..at + 8], n);
-    image
 }
 
 /// The address of a symbol of data, and a number more.

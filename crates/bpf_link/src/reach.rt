@@ -1,11 +1,12 @@
 //! Which slots of a program's code may be come to from its entry.
 ghost use Rattle.std.specs.Prelude.{◌≡◌, ◌≤◌, ◌+◌, ◌*◌, ℕ, IfOk, IfErr, length};
 ghost use Rattle.bpf_link.specs.declared.fault.LinkFault.TheVariants.{Memory};
-ghost use Rattle.bpf_link.specs.Reach.{IsReach, distance_at, extended, goes_on, jumps, opcode_at, registers_at, target_of};
+ghost use Rattle.bpf_link.specs.Reach.{IsReach, distance_at, goes_on, jumps, opcode_at, registers_at, target_of};
 ghost use Rattle.bpf_link.specs.ReachSteps.{ComesTo, GoesFrom, IsWalk, LooksAt};
 
 use crate::fault::LinkFault;
 use crate::fields::{u16_at, u32_at};
+use bpf_packet::extended;
 use std::alloc::Global;
 
 /// The slots that are known to be reached.
@@ -32,16 +33,6 @@ fn jumps(opcode: u8, registers: u8) -> bool
         return registers / 16 == 1;
     }
     (opcode % 8 == 5 || opcode % 8 == 6) && opcode != 0x95
-}
-
-/// An offset in 32 bits.
-fn extended(offset: u16) -> u32
-    ensures { result ≡ extended offset }
-{
-    if offset < 32768 {
-        return u32::from(offset);
-    }
-    u32::from(offset) + 4_294_901_760
 }
 
 /// How far the instruction of a slot jumps, from the slot after it.

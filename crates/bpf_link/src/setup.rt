@@ -9,19 +9,9 @@ use crate::fault::LinkFault;
 use crate::fields::u64_at;
 use crate::image::image_of;
 use crate::placed::Placed;
+use crate::written::with;
 use byteorder::{ByteOrder, LittleEndian};
 use std::alloc::Global;
-
-/// Words with some more.
-fn with(mut words: Vec<u8>, more: &[u8]) -> Result<Vec<u8>, LinkFault>
-    ensures ok { IfOk result (λ new. new.items ≡ words.items ++ more.now) }
-    ensures err { IfErr result (λ fault. fault ≡ Memory) }
-{
-    match words.extend_from_slice(more) {
-        Ok(()) => Ok(words),
-        Err(_) => Err(LinkFault::Memory),
-    }
-}
 
 /// A setup with `ldmapval r3`, where a place needs it.
 fn with_place(map: u8, at: usize, setup: Vec<u8>) -> Result<Vec<u8>, LinkFault>
@@ -103,16 +93,15 @@ fn with_stores(map: u8, image: &[u8], setup: Vec<u8>) -> Result<Vec<u8>, LinkFau
     Ok(all)
 }
 
-/// Whether all bytes are zero.
+/// Whether all bytes are zero: the first is, and each is as the one before it, which compares them
+/// many at a time.
 fn is_zero(image: &[u8]) -> bool
     ensures { result ≡ is_zero image.now }
 {
-    for byte in image {
-        if *byte != 0 {
-            return false;
-        }
+    match image {
+        [] => true,
+        [first, rest @ ..] => *first == 0 && rest == &image[..rest.len()],
     }
-    true
 }
 
 /// A setup with the stores of a map, where a byte of it isn't zero.

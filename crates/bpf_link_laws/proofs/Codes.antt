@@ -9,7 +9,7 @@ use Rattle.bpf_link.specs.Helpers.{helper_name}
 use Rattle.bpf_link.specs.Links.{unlinked}
 use Rattle.bpf_link.specs.Objects.{below}
 use Rattle.bpf_link.specs.Parts.{slots_in}
-use Rattle.bpf_link.specs.Reach.{extended}
+use Rattle.bpf_packet.specs.Slots.{extended}
 use Rattle.bpf_link.specs.Stubs.{calls_helper}
 use Rattle.bpf_link.specs.Tables.{symbol_at}
 use Rattle.bpf_link.specs.declared.plan.Plan.{Plan}

@@ -18,4 +18,5 @@ mod verdict;
 pub use fault::{PacketFault, SlotFault, UseFault};
 pub use packet::Packet;
 pub use program::on_packet;
+pub use slot::extended;
 pub use verdict::verdict_name;

@@ -87,7 +87,7 @@ pub fn jumps(slot: &Slot) -> bool
 }
 
 /// An offset in 32 bits.
-fn extended(offset: u16) -> u32
+pub fn extended(offset: u16) -> u32
     ensures { result ≡ extended offset }
 {
     if offset < 32768 {
