@@ -2,7 +2,7 @@
 use Rattle.std.specs.Prelude.{ℕ, ◌+◌, ◌/◌, ◌%◌, ◌==◌, nat_lt, nat_le, bytes_eq, Bool, ◌&&◌, List, Option, Some, None, codes, length, slice_range, if◌then◌else◌}
 use Rattle.bpf_btf.specs.Maps.{last_below}
 use Rattle.bpf_link.specs.Entries.{is_program}
-use Rattle.bpf_link.specs.Helpers.{helper_name}
+use Rattle.bpf_link.specs.Helpers.{has_prefix, helper_name}
 use Rattle.bpf_link.specs.Objects.{below}
 use Rattle.bpf_link.specs.Parts.{slots_in}
 use Rattle.bpf_link.specs.Plans.{symbol_place}
@@ -12,9 +12,6 @@ use Rattle.bpf_link.specs.declared.layout.SymbolEntry.{SymbolEntry}
 use Rattle.bpf_link.specs.declared.plan.Plan.{Plan}
 
 -- The name of a function that answers a helper stands at a place: `bpf_`, and the helper's name in the kernel.
-abbrev pub has_prefix : List ℕ → ℕ → Bool
-has_prefix bytes at = nat_le (at + 4) (length bytes) && bytes_eq (slice_range bytes at (at + 4)) (codes "bpf_")
-
 abbrev pub names_helper : List ℕ → ℕ → List ℕ → Bool
 names_helper bytes at helper = nat_lt 0 (length helper) && (has_prefix bytes at && name_at bytes (at + 4) helper)
 

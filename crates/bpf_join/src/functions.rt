@@ -1,28 +1,17 @@
 //! The functions of an object that answer calls of helpers.
 ghost use Rattle.std.specs.Prelude.{◌≡◌, ◌≤◌, ◌<◌, IfErr, IfOk, IfSome, None, Some, get_or, if◌then◌else◌, length};
-ghost use Rattle.bpf_join.specs.Functions.{answering, answers, callee, callees, has_prefix, names_helper, slot_of};
+ghost use Rattle.bpf_join.specs.Functions.{answering, answers, callee, callees, names_helper, slot_of};
 ghost use Rattle.bpf_join.specs.Known.{AreKnown};
 ghost use Rattle.bpf_link.specs.declared.fault.LinkFault.TheVariants.{Memory};
 ghost use Rattle.bpf_link.specs.declared.plan.Plan.{Plan};
 
 use bpf_link::{
-    LinkFault, Plan, Side, SymbolEntry, helper_name, is_program, name_at, symbol_place,
+    LinkFault, Plan, Side, SymbolEntry, has_prefix, helper_name, is_program, name_at, symbol_place,
 };
 use std::alloc::Global;
 
 /// How many helpers have a number in the kernel's list, from 0 on, which is none.
 pub const HELPERS: usize = 212;
-
-/// Whether `bpf_` stands at a place.
-fn has_prefix(bytes: &[u8], at: usize) -> bool
-    requires { at ≤ length bytes.now }
-    ensures { result ≡ has_prefix bytes.now at }
-{
-    if bytes.len() - at < 4 {
-        return false;
-    }
-    &bytes[at..at + 4] == b"bpf_".as_slice()
-}
 
 /// Whether the name of a function that answers a helper stands at a place.
 fn names_helper(bytes: &[u8], at: usize, helper: &[u8]) -> bool

@@ -4,13 +4,12 @@ ghost use Rattle.bpf_join.specs.Joined.{AreJoined, HasPairFault, IsJoinFault, Is
 ghost use Rattle.bpf_join.specs.Readiness.{AreReady, IsBody, IsBegun};
 ghost use Rattle.bpf_join.specs.Symbols.{with_u16};
 ghost use Rattle.bpf_link.specs.FieldRelocations.{AreLeft};
-ghost use Rattle.bpf_link.specs.Images.{with_u64};
 ghost use Rattle.bpf_link.specs.declared.fault.LinkFault.TheVariants.{Memory};
 
 use crate::codes::{joined_code, own_slots};
 use crate::fault::JoinFault;
 use crate::functions::callee;
-use crate::names::{all_names, front_names, symbol_names, with, with_whole};
+use crate::names::{all_names, front_names, symbol_names, with_whole};
 use crate::places::Places;
 use crate::records::{places_of, records_of};
 use crate::relocations::with_relocations;
@@ -18,7 +17,10 @@ use crate::spots::is_wanted;
 use crate::symbols::{with_more_symbols, with_own_symbols};
 use crate::table::{has_pointers, with_headers};
 use bpf_isa::MOST_SLOTS;
-use bpf_link::{Found, LinkFault, Plan, Side, are_in_maps, fields_as_compiled, is_closed, planned};
+use bpf_link::{
+    Found, LinkFault, Plan, Side, are_in_maps, fields_as_compiled, is_closed, planned, with,
+    with_u64,
+};
 use byteorder::{ByteOrder, LittleEndian};
 use std::alloc::Global;
 
@@ -221,18 +223,8 @@ fn put_together(
     })
 }
 
-/// Bytes with a number in eight of them.
-fn with_u64(mut bytes: Vec<u8>, at: usize, n: u64) -> Vec<u8>
-    requires { at + 8 ≤ length bytes.items }
-    ensures value { result.items ≡ with_u64 bytes.items at n }
-    ensures length { length result.items ≡ length bytes.items }
-{
-    LittleEndian::write_u64(&mut bytes[at..at + 8], n);
-    bytes
-}
-
 /// Bytes with a number in two of them.
-fn with_u16(mut bytes: Vec<u8>, at: usize, n: u16) -> Vec<u8>
+pub fn with_u16(mut bytes: Vec<u8>, at: usize, n: u16) -> Vec<u8>
     requires { at + 2 ≤ length bytes.items }
     ensures { result.items ≡ with_u16 bytes.items at n }
 {

@@ -17,5 +17,8 @@ mod table;
 
 pub use chain::{ChainFault, join_all};
 pub use fault::JoinFault;
-pub use joined::{Joined, join};
+pub use joined::{Joined, join, with_u16};
 pub use own_maps::own_records;
+pub use relocations::relocation_bytes;
+pub use symbols::raw_at;
+pub use table::{lies_at, with_header};

@@ -4,7 +4,7 @@ ghost use Rattle.bpf_join.specs.Names.{all_names, front_names, lie_alike, sectio
 ghost use Rattle.bpf_link.specs.declared.fault.LinkFault.TheVariants.{Memory};
 
 use crate::table::names_index;
-use bpf_link::{Found, LinkFault, Object, Plan, section_bytes};
+use bpf_link::{Found, LinkFault, Object, Plan, section_bytes, with};
 use std::alloc::Global;
 
 /// The strings in a section.
@@ -106,17 +106,6 @@ pub fn with_whole(bytes: Vec<u8>, more: &[u8]) -> Result<Vec<u8>, LinkFault>
     match with(bytes, more) {
         Ok(new) => with(new, zeros_behind(more.len())),
         Err(fault) => Err(fault),
-    }
-}
-
-/// Bytes with some more.
-pub fn with(mut bytes: Vec<u8>, more: &[u8]) -> Result<Vec<u8>, LinkFault>
-    ensures ok { IfOk result (λ new. new.items ≡ bytes.items ++ more.now) }
-    ensures err { IfErr result (λ fault. fault ≡ Memory) }
-{
-    match bytes.extend_from_slice(more) {
-        Ok(()) => Ok(bytes),
-        Err(_) => Err(LinkFault::Memory),
     }
 }
 

@@ -34,7 +34,7 @@ fn symbol_in(count: u32, before: u32, symbol: u32) -> u32
 }
 
 /// A relocation as it stands in an object.
-fn relocation_bytes(offset: u64, kind: u32, symbol: u32) -> [u8; 16]
+pub fn relocation_bytes(offset: u64, kind: u32, symbol: u32) -> [u8; 16]
     ensures { result ≡ relocation_bytes offset kind symbol }
 {
     let mut bytes = [0; 16];

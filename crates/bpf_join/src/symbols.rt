@@ -24,7 +24,7 @@ pub fn table_of<'a>(plan: &Plan<'a>) -> &'a [u8]
 }
 
 /// The bytes of one of them.
-fn raw_at(table: &[u8], i: usize) -> &[u8]
+pub fn raw_at(table: &[u8], i: usize) -> &[u8]
     requires { 24 * i + 24 ≤ length table.now }
     ensures value { result.now ≡ raw_at table.now i }
     ensures size { length result.now ≡ 24 }

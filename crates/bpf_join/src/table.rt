@@ -47,7 +47,7 @@ fn header_bytes(it: &SectionHeader) -> [u8; 64]
 }
 
 /// A section between two places in the file.
-fn lies_at(it: &SectionHeader, from: usize, to: usize) -> SectionHeader
+pub fn lies_at(it: &SectionHeader, from: usize, to: usize) -> SectionHeader
     requires { from ≤ to }
     ensures { result ≡ lies_at it.now from to }
 {
@@ -145,7 +145,7 @@ fn second_header(second: &Plan<'_>, places: &Places, i: usize) -> SectionHeader
 }
 
 /// Bytes with a header.
-fn with_header(mut bytes: Vec<u8>, it: &SectionHeader) -> Result<Vec<u8>, LinkFault>
+pub fn with_header(mut bytes: Vec<u8>, it: &SectionHeader) -> Result<Vec<u8>, LinkFault>
     ensures ok { IfOk result (λ new. new.items ≡ bytes.items ++ header_bytes it.now) }
     ensures err { IfErr result (λ fault. fault ≡ Memory) }
 {
