@@ -4,6 +4,7 @@ use Rattle.bpf_isa.specs.Words.{u32_at}
 use Rattle.bpf_btf.specs.CoreRelocations.{begins}
 use Rattle.bpf_btf.specs.Layout.{ext_header, is_called}
 use Rattle.bpf_btf.specs.Maps.{last_below}
+use Rattle.bpf_btf.specs.Sections.{strings_at}
 use Rattle.bpf_btf.specs.declared.fault.BtfFault.TheVariants.{Ext}
 use Rattle.bpf_join.specs.Gathered.{gathered}
 use Rattle.bpf_link.specs.FieldRelocations.{ext_bytes, ext_found}
@@ -17,9 +18,6 @@ use Rattle.bpf_turns.specs.Objects.{into}
 use Rattle.bpf_turns.specs.declared.calls.Call.{Call}
 
 -- The strings of `.BTF`, by str_off and str_len of its header, which count from hdr_len on; none where they don't lie in it.
-abbrev pub strings_at : List ℕ → ℕ
-strings_at btf = u32_at btf 4 + u32_at btf 16
-
 abbrev pub strings_in : List ℕ → List ℕ
 strings_in btf =
     if nat_le 24 (length btf) then (if nat_le (strings_at btf + u32_at btf 20) (length btf)

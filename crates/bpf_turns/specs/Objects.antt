@@ -3,7 +3,7 @@ use Rattle.std.specs.Prelude.{ℕ, ◌+◌, ◌-◌, ◌*◌, ◌/◌, ◌%◌, 
 use Rattle.bpf_join.specs.Gathered.{gathered}
 use Rattle.bpf_join.specs.Moved.{relocation_bytes}
 use Rattle.bpf_join.specs.Symbols.{raw_at, with_u16}
-use Rattle.bpf_join.specs.Tables.{header_bytes}
+use Rattle.bpf_join.specs.Tables.{header_bytes, lies_at}
 use Rattle.bpf_link.specs.Images.{with_u64}
 use Rattle.bpf_link.specs.Layout.{symbol_entry}
 use Rattle.bpf_link.specs.MapTypes.{section_bytes}
@@ -111,9 +111,6 @@ lies source seats ext = record {
   ext = length (with_turned_relocations source seats);
   end = length (turned_body source seats ext);
 }
-
-abbrev pub lies_at : SectionHeader → ℕ → ℕ → SectionHeader
-lies_at it from to = record it { offset = from; size = to - from }
 
 -- `.BTF.ext` tells places of instructions; what has relocations of it says no more than its numbers do.
 abbrev pub is_ext : Elf → SectionHeader → Bool

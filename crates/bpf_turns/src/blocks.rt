@@ -10,10 +10,10 @@ ghost use Rattle.bpf_turns.specs.Parts.{IsBlockOf};
 
 use crate::calls::Call;
 use crate::names::{code_name, is_called};
-use crate::parts::{with, with_number};
+use crate::parts::with_number;
 use crate::relocations::turned_place;
 use bpf_btf::BtfFault;
-use bpf_link::{LinkFault, Object, u32_at};
+use bpf_link::{LinkFault, Object, u32_at, with};
 use std::alloc::Global;
 
 /// What comes of the blocks of a list.

@@ -5,9 +5,8 @@ ghost use Rattle.bpf_turns.specs.Calls.{no_call, call_of, call_words, calling_wo
 ghost use Rattle.bpf_join.specs.Gathered.{gathered};
 ghost use Rattle.bpf_link.specs.declared.fault.LinkFault.TheVariants.{Memory};
 
-use crate::parts::with;
 use crate::seats::{Seat, slots_of};
-use bpf_link::{LinkFault, Object};
+use bpf_link::{LinkFault, Object, with};
 use std::alloc::Global;
 
 /// A call of a program.

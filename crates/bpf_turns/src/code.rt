@@ -6,9 +6,8 @@ ghost use Rattle.bpf_turns.specs.Objects.{call_index, into, taken_at, turned_cod
 ghost use Rattle.bpf_turns.specs.Parts.{AreCalls};
 
 use crate::calls::{Call, calling_words, seat_index};
-use crate::parts::with;
 use crate::seats::{Seat, slots_of};
-use bpf_link::{LinkFault, Object};
+use bpf_link::{LinkFault, Object, with};
 use std::alloc::Global;
 
 /// The section in which all code stands.

@@ -11,10 +11,12 @@ ghost use Rattle.bpf_turns.specs.Objects.{into};
 use crate::blocks::moved_list;
 use crate::calls::Call;
 use crate::code::into;
-use crate::names::{bytes_found, code_name, found_named, is_something, name_place};
-use crate::parts::{with, with_number};
+use crate::names::{code_name, name_place};
+use crate::parts::with_number;
 use bpf_btf::BtfFault;
-use bpf_link::{LinkFault, Plan, types_in, u16_at, u32_at};
+use bpf_link::{
+    LinkFault, Plan, found_named, is_something, types_bytes, types_in, u16_at, u32_at, with,
+};
 use std::alloc::Global;
 
 /// The strings of a section `.BTF`.
@@ -222,7 +224,7 @@ pub fn moved_ext(alloc: Global, plan: &Plan<'_>, calls: &[Call]) -> Result<Vec<u
         Some(name) => name,
         None => return Err(LinkFault::Types(BtfFault::Ext)),
     };
-    match moved_lists(alloc, plan, calls, name, bytes_found(&plan.object, found)) {
+    match moved_lists(alloc, plan, calls, name, types_bytes(&plan.object, found)) {
         Ok(moved) => Ok(moved),
         Err(fault) => Err(fault),
     }

@@ -12,13 +12,13 @@ use crate::calls::{Call, calls_of, slots_before};
 use crate::code::turned_code;
 use crate::ext::moved_ext;
 use crate::headers::{Lies, with_headers};
-use crate::parts::{with, with_u16, with_u64};
 use crate::relocations::with_relocations;
 use crate::seats::Seat;
 use crate::source::Source;
 use crate::symbols::{table_of, with_symbols};
 use bpf_isa::MOST_SLOTS;
-use bpf_link::LinkFault;
+use bpf_join::with_u16;
+use bpf_link::{LinkFault, with, with_u64};
 use std::alloc::Global;
 
 /// The parts of the new file without its table of sections.

@@ -3,17 +3,15 @@ ghost use Rattle.std.specs.Prelude.{◌≡◌, ◌≤◌, ◌<◌, ◌++◌, IfE
 ghost use Rattle.bpf_join.specs.Gathered.{gathered};
 ghost use Rattle.bpf_join.specs.Tables.{header_bytes};
 ghost use Rattle.bpf_link.specs.declared.fault.LinkFault.TheVariants.{Memory};
-ghost use Rattle.bpf_turns.specs.Objects.{is_ext, is_gone, kept_header, last_header, lies_at, refers, relocates_ext, turned_header, turned_headers};
+ghost use Rattle.bpf_turns.specs.Objects.{is_ext, is_gone, kept_header, last_header, refers, relocates_ext, turned_header, turned_headers};
 ghost use Rattle.bpf_turns.specs.Parts.{AreLaid, HasRoom};
 
 use crate::calls::Call;
 use crate::code::{call_index, into};
-use crate::names::is_named;
-use crate::parts::with_header;
 use crate::relocations::relocates;
-use crate::seats::is_code;
 use crate::source::Source;
-use bpf_link::{LinkFault, Object, SectionHeader};
+use bpf_join::{lies_at, with_header};
+use bpf_link::{LinkFault, Object, SectionHeader, is_code, is_named};
 
 /// A section that isn't there.
 const NO_SECTION: SectionHeader = SectionHeader {
@@ -95,18 +93,6 @@ fn kept_header(calls: &[Call], it: SectionHeader) -> SectionHeader
     SectionHeader {
         info: u32::from(into(calls)),
         ..it
-    }
-}
-
-/// A section between two places in the file.
-fn lies_at(it: &SectionHeader, from: usize, to: usize) -> SectionHeader
-    requires { from ≤ to }
-    ensures { result ≡ lies_at it.now from to }
-{
-    SectionHeader {
-        offset: from as u64,
-        size: (to - from) as u64,
-        ..*it
     }
 }
 

@@ -5,11 +5,13 @@ ghost use Rattle.bpf_turns.specs.Objects.{call_index, relocates, relocations_at,
 
 use crate::calls::Call;
 use crate::code::call_index;
-use crate::parts::{relocation_bytes, with};
 use crate::seats::slots_of;
 use crate::source::Source;
 use crate::symbols::on_by;
-use bpf_link::{LinkFault, Object, RelocationEntry, Relocations, SectionHeader, section_bytes};
+use bpf_join::relocation_bytes;
+use bpf_link::{
+    LinkFault, Object, RelocationEntry, Relocations, SectionHeader, section_bytes, with,
+};
 
 /// Where a place in the section of a call is now; one that lies outside of it has none.
 pub fn turned_place(object: &Object<'_>, call: &Call, offset: u64) -> u64

@@ -1,14 +1,14 @@
 //! Where the programs lie in their object that are called in turn.
 ghost use Rattle.std.specs.Prelude.{◌≡◌, IfErr, IfOk, Ok, length, map};
 ghost use Rattle.bpf_link.specs.Links.{MemoryOr};
-ghost use Rattle.bpf_link.specs.Sections.{FoundBelow, found, is_code};
+ghost use Rattle.bpf_link.specs.Sections.{FoundBelow, found};
 ghost use Rattle.bpf_turns.specs.Seats.{IsSeatFault, is_code_at, is_turn, seat_at, seat_in, seat_of, seats_of, slots_of, with_named};
 ghost use Rattle.input_texts.specs.Turns.{name_in, offset_in};
 
 use bpf_isa::MOST_SLOTS;
 use bpf_link::{
-    Found, LinkFault, Object, Plan, SectionHeader, Side, SymbolEntry, is_closed, name_at,
-    section_bytes, symbol_place,
+    Found, LinkFault, Object, Plan, Side, SymbolEntry, is_closed, is_code, name_at, section_bytes,
+    symbol_place,
 };
 use input_texts::{name_in, offset_in};
 use std::alloc::Global;
@@ -30,13 +30,6 @@ pub struct TurnFault {
     /// Which one of them it is, or how many there are where it is none of them.
     pub which: usize,
     pub fault: LinkFault,
-}
-
-/// Whether a section holds instructions.
-pub fn is_code(section: &SectionHeader) -> bool
-    ensures { result ≡ is_code section.now }
-{
-    section.kind == 1 && (section.flags / 4 % 2 == 1 && section.size > 0)
 }
 
 /// Whether the section of a number does.

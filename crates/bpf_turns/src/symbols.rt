@@ -5,9 +5,10 @@ ghost use Rattle.bpf_turns.specs.Objects.{on_by, table_of, turned_spot, turned_s
 
 use crate::calls::Call;
 use crate::code::{call_index, into};
-use crate::parts::{Spot, raw_at, symbol_bytes};
+use crate::parts::{Spot, symbol_bytes};
 use crate::seats::slots_of;
 use crate::source::Source;
+use bpf_join::raw_at;
 use bpf_link::{LinkFault, SymbolEntry, symbol_entry};
 
 /// A place in a section that begins at a slot.
