@@ -5,9 +5,9 @@ ghost use Rattle.bpf_counts.specs.Counted.{HasManyRecords};
 ghost use Rattle.bpf_counts.specs.Btf.{btf_of, btf_with, entry_words, header_words, number_words, section_words, struct_words, types_with, variable_words, with_definition, with_names, with_numbers, with_own_names, with_section};
 
 use crate::walk::{Walk, listed_at};
-use crate::words::{narrow, with, with_name, with_words};
+use crate::words::{narrow, with_name, with_words};
 use bpf_btf::MapDescription;
-use bpf_link::LinkFault;
+use bpf_link::{LinkFault, with};
 use std::alloc::Global;
 
 /// The words of a number's types.

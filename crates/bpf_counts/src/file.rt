@@ -2,26 +2,12 @@
 ghost use Rattle.std.specs.Prelude.{◌≡◌, ◌≤◌, ◌+◌, ◌*◌, IfErr, IfNone, IfOk, IfSome, OnSome, Ok, false, length, true};
 ghost use Rattle.bpf_link.specs.Layout.{u64_at};
 ghost use Rattle.bpf_link.specs.Links.{MemoryOr};
-ghost use Rattle.bpf_link.specs.Sections.{FoundBelow, found, section_place};
+ghost use Rattle.bpf_link.specs.Sections.{FoundBelow, found};
 ghost use Rattle.bpf_counts.specs.Files.{has_header, header_place, is_types, replaced};
 
-use crate::words::{with, with_u64};
-use bpf_link::{Found, LinkFault, Object, SectionHeader, name_at};
+use bpf_link::{Found, LinkFault, Object, SectionHeader, name_at, section_place, with, with_u64};
 use byteorder::{ByteOrder, LittleEndian};
 use std::alloc::Global;
-
-/// Where the name of a section stands in the file, or the file's end.
-fn section_place(object: &Object<'_>, section: &SectionHeader) -> usize
-    ensures value { result ≡ section_place object.now section.now }
-    ensures inside { result ≤ length object.now.bytes }
-{
-    let len = object.bytes().len();
-    let offset = section.name as usize;
-    if offset > len - object.names() {
-        return len;
-    }
-    object.names() + offset
-}
 
 /// Whether a section is the one of BTF.
 fn is_types(object: &Object<'_>, section: &SectionHeader) -> bool

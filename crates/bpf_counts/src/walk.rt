@@ -1,9 +1,10 @@
 //! A walk over the types of a section `.BTF`.
 ghost use Rattle.std.specs.Prelude.{◌≡◌, ◌≤◌, ◌<◌, ◌+◌, ◌*◌, IfErr, IfOk, IfSome, length};
-ghost use Rattle.bpf_btf.specs.Layout.{is_called, type_entry};
+ghost use Rattle.bpf_btf.specs.Layout.{type_entry};
 ghost use Rattle.bpf_btf.specs.Types.{behind, rest_size};
 ghost use Rattle.bpf_counts.specs.Walks.{IsCut, IsWalk, is_maps, listed, listed_at};
 
+use bpf_btf::is_called;
 use bpf_link::u32_at;
 
 /// What is found among types.
@@ -18,18 +19,6 @@ pub struct Walk {
 /// A type is cut off.
 #[derive(Clone, Copy)]
 pub struct Cut;
-
-/// Whether a name stands at a place among strings, and a zero after it.
-fn is_called(strings: &[u8], offset: u32, name: &[u8]) -> bool
-    ensures { result ≡ is_called strings.now offset name.now }
-{
-    let at = offset as usize;
-    if at > strings.len() || name.len() >= strings.len() - at {
-        return false;
-    }
-    let end = at + name.len();
-    &strings[at..end] == name && strings[end] == 0
-}
 
 /// How many bytes the type at a place has behind its first 12.
 fn rest_size(types: &[u8], at: usize) -> usize
