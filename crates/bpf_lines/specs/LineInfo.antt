@@ -5,6 +5,7 @@ use Rattle.bpf_btf.specs.CoreRelocations.{AreBlocks, block_place}
 use Rattle.bpf_btf.specs.Faults.{provided}
 use Rattle.bpf_btf.specs.Layout.{is_called}
 use Rattle.bpf_btf.specs.Maps.{last_below}
+use Rattle.bpf_btf.specs.Sections.{strings_at}
 use Rattle.bpf_btf.specs.declared.fault.BtfFault.{BtfFault}
 use Rattle.bpf_btf.specs.declared.fault.BtfFault.TheVariants.{Ext}
 use Rattle.bpf_lines.specs.declared.line_info.LineEntry.{LineEntry}
@@ -24,9 +25,6 @@ lines_in ext =
     (Ok (slice_range ext (lines_at ext) (lines_at ext + u32_at ext 20))))
 
 -- The strings of a section `.BTF`, by hdr_len, str_off and str_len of its header; none where they don't lie in it.
-abbrev pub strings_at : List ℕ → ℕ
-strings_at btf = u32_at btf 4 + u32_at btf 16
-
 abbrev pub strings_of : List ℕ → List ℕ
 strings_of btf =
     if nat_le (strings_at btf + u32_at btf 20) (length btf) then slice_range btf (strings_at btf) (strings_at btf + u32_at btf 20) else []

@@ -1,20 +1,12 @@
 //! Where the functions of a section begin.
 ghost use Rattle.std.specs.Prelude.{◌≡◌, ◌<◌, ◌+◌, IfOk, IfErr, length};
-ghost use Rattle.bpf_link.specs.Entries.{is_function};
 ghost use Rattle.bpf_link.specs.declared.fault.LinkFault.TheVariants.{Memory};
 ghost use Rattle.bpf_lines.specs.Functions.{begins_in, function_at};
 ghost use Rattle.bpf_lines.specs.Marks.{AreMarks, last_named};
 
 use crate::marks::{no_marks, with_mark};
-use bpf_link::{LinkFault, Plan, SymbolEntry};
+use bpf_link::{LinkFault, Plan, is_function};
 use std::alloc::Global;
-
-/// Whether a symbol is a function of a section.
-fn is_function(section: usize, symbol: &SymbolEntry) -> bool
-    ensures { result ≡ is_function section symbol.now }
-{
-    symbol.kind == 2 && usize::from(symbol.section) == section
-}
 
 /// Marks with that of a symbol, if it is a function of a section.
 fn with_function(plan: &Plan<'_>, section: usize, i: usize, marks: Vec<usize>) -> Vec<usize>

@@ -3,7 +3,6 @@
 #![tactic(auto)]
 
 mod enumerators;
-mod fields;
 mod functions;
 mod globals;
 mod line_info;

@@ -1,14 +1,13 @@
 //! The lines that a section `.BTF.ext` lists.
 ghost use Rattle.std.specs.Prelude.{◌≡◌, ◌≤◌, ◌<◌, ◌+◌, IfOk, IfErr, IfSome, IfNone, Ok, Err, Some, length, min};
-ghost use Rattle.bpf_btf.specs.CoreRelocations.{AreBroken, block_end, has_entries};
+ghost use Rattle.bpf_btf.specs.CoreRelocations.{AreBroken};
 ghost use Rattle.bpf_btf.specs.declared.fault.BtfFault.TheVariants.{Ext};
 ghost use Rattle.bpf_link.specs.declared.fault.LinkFault.TheVariants.{Memory};
 ghost use Rattle.bpf_lines.specs.LineInfo.{IsBlock, begins, line_at, line_entry, lines_in, record_place, strings_of};
 ghost use Rattle.bpf_lines.specs.Marks.{AreMarks};
 
-use crate::fields::{byte_at, is_called, u16_at, u32_at};
 use crate::marks::{no_marks, with_mark};
-use bpf_btf::BtfFault;
+use bpf_btf::{BtfFault, block_end, byte_at, has_entries, is_called, u16_at, u32_at};
 use bpf_link::LinkFault;
 use std::alloc::Global;
 
@@ -59,27 +58,6 @@ pub fn strings_of(btf: &[u8]) -> &[u8]
         return &[];
     }
     &btf[at..end]
-}
-
-/// Whether the entries of a list are long enough.
-fn has_entries(listed: &[u8]) -> bool
-    ensures { result ≡ has_entries listed.now }
-{
-    listed.is_empty() || u32_at(listed, 0) >= 16
-}
-
-/// Where the block at a place ends, None where that isn't in the list.
-fn block_end(listed: &[u8], at: usize) -> Option<usize>
-    requires { at < length listed.now }
-    ensures found { IfSome result (λ end. (end ≡ block_end listed.now at) × (end ≤ length listed.now)) }
-    ensures none { IfNone result (length listed.now < block_end listed.now at) }
-{
-    let rest = (listed.len() - at) as u64;
-    let entries = u64::from(u32_at(listed, at + 4)).saturating_mul(u64::from(u32_at(listed, 0)));
-    if rest < 8 || entries > rest - 8 {
-        return None;
-    }
-    Some(at + (8 + entries as usize))
 }
 
 /// The block of a section of code in a list.

@@ -8,8 +8,10 @@ ghost use Rattle.bpf_lines.specs.Parts.{ArePartLines, HasBadList, HasBlock, IsLi
 
 use crate::functions::functions_of;
 use crate::line_info::{block_of, lines_in, lines_of, strings_of};
-use crate::names::{bytes_found, found_named, name_of};
-use bpf_link::{Bytes, Found, LinkFault, Part, Plan, Side, types_in};
+use crate::names::name_of;
+use bpf_link::{
+    Bytes, LinkFault, Part, Plan, Side, found_named, is_something, types_bytes, types_in,
+};
 use std::alloc::Global;
 
 /// What is told of the slots of a part: in marks of them, 0 for nothing.
@@ -34,17 +36,6 @@ struct Listed<'a> {
     block: Option<usize>,
 }
 
-/// Whether a search found something.
-fn is_something(found: Found) -> bool
-    ensures { result ≡ is_something found }
-{
-    match found {
-        Found::Nothing => false,
-        Found::Only(_) => true,
-        Found::Several => true,
-    }
-}
-
 /// The block of a part's section.
 fn listed_for<'a>(plan: &Plan<'a>, part: &Part<'_>) -> Result<Listed<'a>, LinkFault>
     ensures ok { IfOk result (λ it.
@@ -59,7 +50,7 @@ fn listed_for<'a>(plan: &Plan<'a>, part: &Part<'_>) -> Result<Listed<'a>, LinkFa
             block: None,
         });
     }
-    let part_listed = match lines_in(bytes_found(&plan.object, found)) {
+    let part_listed = match lines_in(types_bytes(&plan.object, found)) {
         Ok(listed) => listed,
         Err(fault) => return Err(LinkFault::Types(fault)),
     };

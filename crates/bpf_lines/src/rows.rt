@@ -8,10 +8,10 @@ ghost use Rattle.bpf_lines.specs.Passed.{AreLast};
 ghost use Rattle.bpf_lines.specs.Rows.{entry_word, function_word, line_word, row_by, rows, word_of};
 ghost use Rattle.bpf_lines.specs.Slots.{line_since, said_of};
 
-use crate::fields::byte_at;
 use crate::line_info::{LineEntry, line_entry, record_place};
 use crate::part_lines::PartLines;
 use crate::slots::{is_since, said_of, with_slot};
+use bpf_btf::byte_at;
 use bpf_link::{Plan, Side, short_at, symbol_place};
 use bpfdb_script::put_shown;
 use counted_io::{Counted, WriteFault, put, put_decimal};
