@@ -46,7 +46,7 @@ fn put_register_name<W: Write>(
 
 /// Writes the name of a part.
 #[tactic(auto, unfolding(crate::specs::Texts::word_name, crate::specs::Texts::bytes_name))]
-fn put_part_name<W: Write>(
+pub fn put_part_name<W: Write>(
     writer: &mut Counted<W>,
     so_far: Result<(), WriteFault>,
     part: Part,
@@ -72,7 +72,7 @@ fn put_part_name<W: Write>(
 
 /// Writes a value.
 #[tactic(auto, unfolding(crate::specs::Texts::value_text))]
-fn put_value<W: Write>(
+pub fn put_value<W: Write>(
     writer: &mut Counted<W>,
     so_far: Result<(), WriteFault>,
     value: u64,
