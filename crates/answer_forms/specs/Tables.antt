@@ -24,6 +24,7 @@ step_shapes =
     ∷ shape (codes "step") [] (count (codes "step") (codes " ") ∷ count (codes "slot") (codes ": ") ∷ text (codes "insn") [] ∷ []) Moves
     ∷ shape (codes "move") (codes "-") (count (codes "moves") (codes " ") ∷ []) Moves
     ∷ shape (codes "kept") (codes "kept: -") (count (codes "moves") (codes " ") ∷ []) Moves
+    ∷ shape (codes "made") (codes "made: -") (count (codes "moves") (codes " ") ∷ []) Moves
     ∷ shape (codes "left") (codes "left ") [] Moves
     ∷ []
 

@@ -101,7 +101,7 @@ const VALUE: [Shape; 2] = [
 ];
 
 /// What `trace`, `origin`, `whynot` and `diff` print.
-const RUN: [Shape; 24] = [
+const RUN: [Shape; 25] = [
     Shape {
         kind: b"step",
         begin: b"",
@@ -131,6 +131,12 @@ const RUN: [Shape; 24] = [
     Shape {
         kind: b"kept",
         begin: b"kept: -",
+        fields: &[Field::Count(b"moves", b" ")],
+        rest: Rest::Moves,
+    },
+    Shape {
+        kind: b"made",
+        begin: b"made: -",
         fields: &[Field::Count(b"moves", b" ")],
         rest: Rest::Moves,
     },
