@@ -8,11 +8,11 @@ use Rattle.hex.specs.Hex.{decode_of, decode_sized}
 use Rattle.hex.specs.declared.error.FromHexError.{FromHexError}
 use lib.Chars.{codes}
 use Rattle.bpf_entries.specs.Keeping.{Kept}
-use Rattle.bpf_isa.specs.Programs.{Checked}
 use Rattle.bpf_journal.specs.Tracks.{Track}
 use Rattle.bpf_session.specs.Sessions.{HasPast, SessionValue}
-use Rattle.bpf_whynot.specs.Aims.{IsAim, IsNoAim}
+use Rattle.bpf_whynot.specs.Aims.{AimsAt, IsNoAim}
 use Rattle.bpf_whynot.specs.Answers.{why_not}
+use Rattle.bpf_whynot.specs.Asked.{Goals}
 use Rattle.bpf_whynot.specs.Tables.{told_by}
 use Rattle.bpf_whynot.specs.declared.aim.Aim.{Aim}
 use Rattle.bpf_whynot.specs.declared.fault.AimFault.{AimFault}
@@ -36,14 +36,15 @@ pub asks-alone : (digits : List ℕ) → bytes_eq digits (codes "7768796e6f74") 
 asks-alone digits e = rw e refl
 
 -- What was found of it, or why nothing was.
-pub aimed : (program : Checked) (text : List ℕ) (r : Result Aim AimFault) → IfOk r (IsAim program text) → IfErr r (IsNoAim program text) → IsAimed program text r
-aimed program text (Ok aim) ok err = ok
-aimed program text (Err fault) ok err = err
+pub aimed : {K : Type 0} (holds : K → List Kept → Type 0) (s : SessionValue K) (text : List ℕ) (r : Result Aim AimFault)
+    → IfOk r (AimsAt holds s.moment.keeper s.moment.state text) → IfErr r (IsNoAim s.moment.state.program text) → IsAimed holds s text r
+aimed holds s text (Ok aim) ok err = ok
+aimed holds s text (Err fault) ok err = err
 
-module _ (program : Checked) (digits rest : List ℕ) where
+module _ {K : Type 0} (holds : K → List Kept → Type 0) (s : SessionValue K) (digits rest : List ℕ) where
   pub some-behind : (r : Option (Result Aim AimFault)) → bytes_eq digits (codes "7768796e6f74") ≡ false → behind (codes "7768796e6f7420") digits ≡ Some rest
-      → IfSome r (λ found. (text : List ℕ) × (result_ok (decode_of rest) ≡ Some text) × IsAimed program text found)
-      → IfSome r (λ found. (text : List ℕ) × (asks_whynot digits ≡ Some text) × IsAimed program text found)
+      → IfSome r (λ found. (text : List ℕ) × (result_ok (decode_of rest) ≡ Some text) × IsAimed holds s text found)
+      → IfSome r (λ found. (text : List ℕ) × (asks_whynot digits ≡ Some text) × IsAimed holds s text found)
   some-behind None e b o = tt
   some-behind (Some found) e b (text, is, aims) = (text, asks-behind digits rest e b ∙ is, aims)
 
@@ -83,20 +84,23 @@ unspelled text out n r fault e m is =
 module _ {K : Type 0} (holds : K → List Kept → Type 0) (refusals room : K → ℕ) where
   -- An answer about some slots.
   pub tells-goals : {A E : Type 0} (items : A → List ℕ) (r : Result A E) (m : Manners) (asked : List ℕ) (old new : SessionValue K) (aim : Aim) (left : ℕ) (shown : List ℕ)
-      → (aims : IsAim old.moment.state.program asked aim) → ComesBack holds refusals room old new left
-      → IfOk r (λ a. (t : Track) → HasPast holds old t → items a ≡ (why_not (told_by aim.reach) (query_of m.target.places m.moves aims.goals t) t.history old.moment.state).text)
+      → (aims : IsAimed holds old asked (Ok aim)) → ComesBack holds refusals room old new left
+      → IfOk r (λ a. (t : Track) → HasPast holds old t → items a ≡ (why_not (told_by aim.reach) (query_of m.target.places m.moves aims.0 t old.moment.state) t.history old.moment.state).text)
       → MatchResult r (λ a. FitsNamed m.target.names (items a) shown) (λ _. shown ≡ too_long) → TellsWhynot holds refusals room m asked old new left shown
   tells-goals items r m asked old new aim left shown aims back texts is =
-      inl (subst (λ (goals : Result (List ℕ) GoalFault). TellsGoals holds refusals room m goals old new left shown) (sym aims.named) (
+      inl (subst (λ (goals : Result Goals GoalFault). TellsGoals holds refusals room m goals old new left shown) (sym aims.1) (
         told_by aim.reach,
-        aims.tells,
         back,
-        fitting-named items r shown m.target.names (HasPast holds old) (λ t. (why_not (told_by aim.reach) (query_of m.target.places m.moves aims.goals t) t.history old.moment.state).text) is texts,
+        λ t past. (
+          (aims.2 t.history past.history).tells,
+          fitting-named items r shown m.target.names (HasPast holds old)
+              (λ t. (why_not (told_by aim.reach) (query_of m.target.places m.moves aims.0 t old.moment.state) t.history old.moment.state).text) is texts t past,
+        ),
       ))
 
   -- Why there is none.
   pub tells-none : (fault : AimFault) (m : Manners) (asked : List ℕ) (s : SessionValue K) (shown : List ℕ)
       → IsNoAim s.moment.state.program asked fault → Fits (aim_refusal fault) shown → TellsWhynot holds refusals room m asked s s 0 shown
   tells-none (Goal fault) m asked s shown none fits =
-      inl (subst (λ (goals : Result (List ℕ) GoalFault). TellsGoals holds refusals room m goals s s 0 shown) (sym none) (refl, refl, fits))
+      inl (subst (λ (goals : Result Goals GoalFault). TellsGoals holds refusals room m goals s s 0 shown) (sym none) (refl, refl, fits))
   tells-none OutOfMemory m asked s shown none fits = inr (refl, refl, fits)

@@ -202,7 +202,7 @@ fn answer_line<K: Keeper, W: Write>(
         (record { session = session.old; talk = talk.old; writer = writer.old })
         (record { session = session.new; talk = talk.new; writer = writer.new }) result digits.now }
 {
-    match aim_in(alloc, session.cpu().program(), digits) {
+    match aim_in(alloc, session, digits) {
         Some(aimed) => answer_why(alloc, session, wanted, talk, &aimed, writer),
         None => match asked_in(session.cpu(), digits) {
             Some(asked) => answer_asked(alloc, session, wanted, talk, asked, writer),
@@ -223,7 +223,7 @@ fn answer_why<K: Keeper, W: Write>(
     writer: &mut Counted<W>,
 ) -> Result<(), WriteFault>
     ensures { (asked digits : List ℕ) →
-        IsAimed session.old.moment.state.program asked aimed.now →
+        IsAimed K.holds session.old asked aimed.now →
         AnswersWhy K.holds K.refused K.room W.contents
         (record { session = session.old; talk = talk.old; writer = writer.old })
         (record { session = session.new; talk = talk.new; writer = writer.new }) result (Some asked, digits) }

@@ -1,12 +1,11 @@
 //! `monitor whynot`: why the program did not come to some slots, asked of the session as it stands.
-ghost use Rattle.std.specs.Prelude.{◌≡◌, ◌≤◌, ℕ, IfNone, IfOk, IfSome, List, None, Some, length};
+ghost use Rattle.std.specs.Prelude.{◌≡◌, ◌≤◌, ℕ, IfNone, IfOk, IfSome, List, None, Ok, Some, length};
 ghost use Rattle.std.specs.Result.{result_ok};
 ghost use Rattle.bpf_journal.specs.Tracks.{Track};
 ghost use Rattle.bpf_remote.specs.Origins.{ComesBack, Fits, Shows};
 ghost use Rattle.bpf_remote.specs.Packets.{longest_body};
 ghost use Rattle.bpf_remote.specs.Whynots.{IsAimed, aim_refusal, asks_whynot, query_of};
 ghost use Rattle.bpf_session.specs.Sessions.{HasPast};
-ghost use Rattle.bpf_whynot.specs.Aims.{IsAim};
 ghost use Rattle.bpf_whynot.specs.Answers.{why_not};
 ghost use Rattle.bpf_whynot.specs.Tables.{told_by};
 ghost use Rattle.counted_io.specs.Writing.{WritesAfter};
@@ -17,7 +16,6 @@ use crate::number::behind;
 use crate::origin::{Answered, most_lines, show_refused};
 use crate::parser::is;
 use arrayvec::ArrayVec;
-use bpf_isa::Program;
 use bpf_journal::Keeper;
 use bpf_origin::{Question, Wanted};
 use bpf_session::{Refusal, Session};
@@ -29,40 +27,52 @@ use std::io::Write;
 
 /// What a line asks about, which hexadecimal digits spell, with from where a program can come to it,
 /// or why there is no answer. None where the line doesn't ask why a slot was not come to.
-pub(crate) fn aim_in(
+pub(crate) fn aim_in<K: Keeper>(
     alloc: Global,
-    program: &Program,
+    session: &Session<K>,
     digits: &[u8],
 ) -> Option<Result<Aim, AimFault>>
     requires { length digits.now ≤ longest_body }
     ensures some { IfSome result (λ aimed. (text : List ℕ) × (asks_whynot digits.now ≡ Some text)
-        × IsAimed program.now text aimed) }
+        × IsAimed K.holds session.now text aimed) }
     ensures none { IfNone result (asks_whynot digits.now ≡ None) }
 {
     if is(digits, "7768796e6f74") {
-        return Some(Aim::find(alloc, program, b""));
+        return Some(aim_at(alloc, session, b""));
     }
     match behind("7768796e6f7420", digits) {
-        Some(rest) => aim_by(alloc, program, rest),
+        Some(rest) => aim_by(alloc, session, rest),
         None => None,
     }
 }
 
 /// What the text asks about that hexadecimal digits spell, None where they spell none.
 #[inline(never)]
-fn aim_by(alloc: Global, program: &Program, digits: &[u8]) -> Option<Result<Aim, AimFault>>
+fn aim_by<K: Keeper>(
+    alloc: Global,
+    session: &Session<K>,
+    digits: &[u8],
+) -> Option<Result<Aim, AimFault>>
     requires { length digits.now ≤ longest_body }
     ensures some { IfSome result (λ aimed. (text : List ℕ)
-        × (result_ok (decode_of digits.now) ≡ Some text) × IsAimed program.now text aimed) }
+        × (result_ok (decode_of digits.now) ≡ Some text) × IsAimed K.holds session.now text aimed) }
     ensures none { IfNone result (result_ok (decode_of digits.now) ≡ None) }
 {
     let len = digits.len() / 2;
     let mut buffer = [0; LONGEST_BODY / 2];
     let text = &mut buffer[..len];
     match hex::decode_to_slice(digits, text) {
-        Ok(()) => Some(Aim::find(alloc, program, text)),
+        Ok(()) => Some(aim_at(alloc, session, text)),
         Err(_) => None,
     }
+}
+
+/// What a text asks about.
+fn aim_at<K: Keeper>(alloc: Global, session: &Session<K>, text: &[u8]) -> Result<Aim, AimFault>
+    ensures { IsAimed K.holds session.now text.now result }
+{
+    session.invariant();
+    Aim::find(alloc, session.cpu(), session.keeper(), text)
 }
 
 /// Shows why there is no answer.
@@ -105,13 +115,15 @@ pub(crate) fn why_text<K: Keeper>(
     moves: u64,
     places: SlotTexts<'_>,
 ) -> Answered
-    ensures back { (asked : List ℕ) → IsAim session.old.moment.state.program asked aim.now →
+    ensures back { (asked : List ℕ) → IsAimed K.holds session.old asked (Ok aim.now) →
         ComesBack K.holds K.refused K.room session.old session.new result.left }
-    ensures text { (asked : List ℕ) (aims : IsAim session.old.moment.state.program asked aim.now) →
+    ensures text { (asked : List ℕ) (aims : IsAimed K.holds session.old asked (Ok aim.now)) →
         IfOk result.written (λ _. (t : Track) → HasPast K.holds session.old t →
-        result.text.items ≡ (why_not (told_by aim.now.reach) (query_of places.entry moves aims.goals t)
-        t.history session.old.moment.state).text) }
+        result.text.items ≡ (why_not (told_by aim.now.reach)
+        (query_of places.entry moves aims.0 t session.old.moment.state) t.history
+        session.old.moment.state).text) }
 {
+    session.invariant();
     let question = Question {
         addresses: false,
         lines: most_lines(places),
@@ -121,6 +133,7 @@ pub(crate) fn why_text<K: Keeper>(
     let search = Search {
         reach: &aim.reach,
         goals: aim.goals.as_slice(),
+        made: aim.made,
         question,
         alone: false,
     };

@@ -19,7 +19,7 @@ use Rattle.bpfdb_script.specs.Texts.{place}
 use Rattle.bpf_origin.specs.declared.question.Told.{Told}
 use Rattle.bpf_origin.specs.declared.question.Extent.TheVariants.{Whole}
 use Rattle.bpf_origin.proofs.Backs.{back_on, keeps_on}
-use Rattle.bpf_whynot.specs.Answers.{Query, because, edited_text, is_none, left_after, left_by, lost_line, never_text, only, reached_text, still_text, stood_at, went_text, why_not}
+use Rattle.bpf_whynot.specs.Answers.{Query, because, edited_text, is_none, left_after, left_by, lost_line, never_text, only, reached_text, still_text, stood_at, went_text, not_come}
 use Rattle.bpf_whynot.specs.Reach.{can_from}
 use Rattle.bpf_whynot.specs.Standings.{standing}
 use Rattle.bpf_whynot.specs.Turns.{IsLeft, IsNeverLeft}
@@ -62,10 +62,10 @@ left_is s k r h x y e at =
     ap (λ (b : Bool). if b then only (reached_text k) else with_line (lost_line s.question.places k r.before r.move y) (because s r h)) e
     ∙ ap (λ (z : State). with_line (lost_line s.question.places k z r.move y) (because s r h)) (sym at)
 
-pub still_is : (can : ℕ → List ℕ → Bool) (s : Query) (h : List Record) (y : State) → can_from can y ≡ true → why_not can s h y ≡ only still_text
+pub still_is : (can : ℕ → List ℕ → Bool) (s : Query) (h : List Record) (y : State) → can_from can y ≡ true → not_come can s h y ≡ only still_text
 still_is can s h y e = ap (λ (b : Bool). if b then only still_text else left_after can s 0 h y) e
 
-pub lost_is : (can : ℕ → List ℕ → Bool) (s : Query) (h : List Record) (y : State) → can_from can y ≡ false → why_not can s h y ≡ left_after can s 0 h y
+pub lost_is : (can : ℕ → List ℕ → Bool) (s : Query) (h : List Record) (y : State) → can_from can y ≡ false → not_come can s h y ≡ left_after can s 0 h y
 lost_is can s h y e = ap (λ (b : Bool). if b then only still_text else left_after can s 0 h y) e
 
 module _ {P W : Type 0} (state : P → State) (follows : P → Track → Type 0) (size refusals : P → ℕ) (contents : W → Option (List ℕ)) where
@@ -106,7 +106,7 @@ module _ {P W : Type 0} (state : P → State) (follows : P → Track → Type 0)
       → TellsOrigin (past_by state follows size refusals) (λ (u : Track). left_by s left.moves r u.history y) mid new (WritesAfter contents was before now) told)
       → IsSameKeeper size refusals mid new
       → (left.moves + told.moves < 2 ^ 64 → m ≡ left.moves + told.moves)
-      → TellsOrigin (past_by state follows size refusals) (λ (t : Track). why_not can s t.history (state p)) p new (WritesAfter contents was before now)
+      → TellsOrigin (past_by state follows size refusals) (λ (t : Track). not_come can s t.history (state p)) p new (WritesAfter contents was before now)
       (record { written = told.written; extent = told.extent; moves = m })
   told_left can s p mid new was now before kept m left told lost counts fits lefts keeper tells same sum = record {
     text = λ t stands.
@@ -150,10 +150,10 @@ module _ {P W : Type 0} (state : P → State) (follows : P → Track → Type 0)
       → can_from can (state p) ≡ false → ((t : Track) → follows p t → kept ≡ length t.history)
       → ((t : Track) → follows p t → IsNeverLeft state follows can t (state p) new) → IsSameKeeper size refusals p new
       → WritesAfter contents was before now last (never_text s.question.opening) → told ≡ record { written = last; extent = Whole; moves = kept }
-      → TellsOrigin (past_by state follows size refusals) (λ (t : Track). why_not can s t.history (state p)) p new (WritesAfter contents was before now) told
+      → TellsOrigin (past_by state follows size refusals) (λ (t : Track). not_come can s t.history (state p)) p new (WritesAfter contents was before now) told
   told_never can s p new was now before last kept told lost counts nevers keeper writes is = record {
     text = λ t stands.
-        subst (λ (r : Result (Unit {0}) WriteFault). WritesAfter contents was before now r (why_not can s t.history (state p)).text) (sym (ap (λ (o : Told). o.written) is))
+        subst (λ (r : Result (Unit {0}) WriteFault). WritesAfter contents was before now r (not_come can s t.history (state p)).text) (sym (ap (λ (o : Told). o.written) is))
         (subst (λ (a : Answer). WritesAfter contents was before now last a.text) (sym (lost_is can s t.history (state p) lost ∙ (nevers t stands).is s)) writes);
     extent = λ t stands. ap (λ (o : Told). o.extent) is ∙ sym (ap (λ (a : Answer). a.extent) (lost_is can s t.history (state p) lost ∙ (nevers t stands).is s));
     back = λ t stands.

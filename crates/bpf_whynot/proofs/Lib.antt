@@ -7,6 +7,7 @@ pub mod Telling
 pub mod Walks
 pub mod Goaling
 pub mod Making
+pub mod Unmaking
 pub mod Passing
 pub mod Going
 pub mod Latest

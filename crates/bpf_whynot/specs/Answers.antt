@@ -1,7 +1,12 @@
--- Why a program did not come to some slots: the latest kept move from whose state it could, and from whose next state it could not.
-use Rattle.std.specs.Prelude.{ℕ, ◌+◌, ◌==◌, ◌&&◌, ◌||◌, Bool, true, false, if◌then◌else◌, List, [], ◌∷◌, ◌++◌, decimal, flat_map}
+-- Why a program did not come to some slots: the latest kept move from whose state it could, and from whose next state it could not; and where a value is
+-- asked about, the newest kept move that made it.
+use Rattle.std.specs.Prelude.{ℕ, ◌+◌, ◌==◌, ◌&&◌, ◌||◌, nat_le, Bool, true, false, if◌then◌else◌, List, [], ◌∷◌, ◌++◌, Option, Some, None, decimal, flat_map, unwrap_or}
+use Rattle.std.specs.Option.{option_map_or}
 use lib.Chars.{codes}
 use Rattle.bpf_entries.specs.Status.{has_ended}
+use Rattle.bpf_isa.specs.Programs.{Checked, insn_at}
+use Rattle.bpf_isa.specs.declared.instruction.Insn.{Insn}
+use Rattle.bpf_steps.specs.Platform.{frame_count}
 use Rattle.bpf_steps.specs.State.{State}
 use Rattle.bpf_machine.specs.declared.moves.Move.{Move}
 use Rattle.bpf_machine.specs.declared.moves.Move.TheVariants as move
@@ -9,17 +14,22 @@ use Rattle.bpf_journal.specs.Histories.{Record, is_step}
 use Rattle.bpf_origin.specs.Answers.{Answer, with_line}
 use Rattle.bpf_origin.specs.Asked.{answer_about}
 use Rattle.bpf_origin.specs.Reads.{conditions}
-use Rattle.bpf_origin.specs.Texts.{move_text, part_text, slot_text}
+use Rattle.bpf_origin.specs.Texts.{move_text, part_name, part_text, slot_text, value_text}
 use Rattle.bpf_origin.specs.declared.place.Part.{Part}
 use Rattle.bpf_origin.specs.declared.question.Question.{Question}
 use Rattle.bpf_origin.specs.declared.question.Extent.TheVariants.{Whole}
-use Rattle.bpfdb_script.specs.Texts.{place}
-use Rattle.bpfdb_script.specs.SlotTexts.{SlotTexts}
+use Rattle.bpfdb_script.specs.Texts.{place, text_at}
+use Rattle.bpfdb_script.specs.SlotTexts.{SlotTexts, text_of_slot}
+use Rattle.bpf_whynot.specs.Constants.{made_by}
+use Rattle.bpf_whynot.specs.Keeps.{may_write}
 use Rattle.bpf_whynot.specs.Reach.{can_from, is_goal}
+use Rattle.bpf_whynot.specs.declared.made.Made.{Made}
 
--- What is asked: the slots, how the answer about values is made, and whether that is left out.
+-- What is asked: the slots, the newest kept move that made the value that is asked about, how the answer about values is made, and whether that is
+-- left out.
 pub record Query : Type 0 where
   pub goals : List ℕ
+  pub made : Option Made
   pub question : Question
   pub alone : Bool
 
@@ -82,6 +92,48 @@ unfoldable pub left_after : (ℕ → List ℕ → Bool) → Query → ℕ → Li
 left_after can s k [] y = only (never_text s.question.opening)
 left_after can s k (r ∷ h) y = if can_from can r.before then left_by s (k + 1) r h y else left_after can s (k + 1) h r.before
 
--- The answer in a state with its history, by a test that tells from where a goal can be come to.
+-- The answer about goals in a state with its history, by a test that tells from where one can be come to.
+abbrev pub not_come : (ℕ → List ℕ → Bool) → Query → List Record → State → Answer
+not_come can s h y = if can_from can y then only still_text else left_after can s 0 h y
+
+-- The line of the newest kept move that made the value, as `origin` has it: how many moves back it lies, what it made, and its instruction. (No
+-- function stands deeper than `frame_count`.)
+unfoldable pub value_of : ℕ → Part → List ℕ
+value_of v p = part_name p ++ value_text v ++ codes "; "
+
+abbrev pub made_parts : ℕ → Insn → List Part
+made_parts d i = if nat_le d frame_count then may_write d i else []
+
+abbrev pub made_values : ℕ → Insn → List ℕ
+made_values d i = flat_map (value_of (unwrap_or (made_by i) 0)) (made_parts d i)
+
+unfoldable pub made_head : Made → Insn → List ℕ
+made_head m i = codes "made: -" ++ decimal m.moves ++ codes " " ++ made_values m.depth i
+
+unfoldable pub made_tail : SlotTexts → Checked → ℕ → List ℕ
+made_tail places program p = text_at program p ++ text_of_slot places p ++ codes "\n"
+
+abbrev pub made_insn : SlotTexts → Checked → Made → Insn → List ℕ
+made_insn places program m i = made_head m i ++ made_tail places program m.slot
+
+abbrev pub made_line : SlotTexts → Checked → Made → List ℕ
+made_line places program m = option_map_or (made_insn places program m) (insn_at program m.slot) []
+
+-- Behind that it is asked about those goals at which no kept move made the value, if there are any.
+abbrev pub all_made_text : List ℕ
+all_made_text = codes "each instruction that makes it ran\n"
+
+abbrev pub has_none : List ℕ → Bool
+has_none [] = true
+has_none (p ∷ goals) = false
+
+abbrev pub others_not_come : (ℕ → List ℕ → Bool) → Query → List Record → State → Answer
+others_not_come can s h y = if has_none s.goals then only all_made_text else not_come can s h y
+
+abbrev pub not_come_but : (ℕ → List ℕ → Bool) → Query → Option Made → List Record → State → Answer
+not_come_but can s None h y = not_come can s h y
+not_come_but can s (Some m) h y = with_line (made_line s.question.places y.program m) (others_not_come can s h y)
+
+-- The whole answer.
 abbrev pub why_not : (ℕ → List ℕ → Bool) → Query → List Record → State → Answer
-why_not can s h y = if can_from can y then only still_text else left_after can s 0 h y
+why_not can s h y = not_come_but can s s.made h y

@@ -1,5 +1,5 @@
 -- What is asked about: slots of a program, by their text, or by the constant that they make. bpfdb's own choice.
-use Rattle.std.specs.Prelude.{ℕ, ◌==◌, Bool, false, List, [], ◌∷◌, Option, Some, None, Result, Ok, Err, drop, is_some, length, if◌then◌else◌}
+use Rattle.std.specs.Prelude.{ℕ, ◌==◌, Bool, true, false, List, [], ◌∷◌, Option, Some, None, Result, Ok, Err, drop, is_some, length, if◌then◌else◌}
 use Rattle.counted_io.specs.Cuts.{after, before}
 use Rattle.bpf_isa.specs.Maps.{items_of}
 use Rattle.bpf_isa.specs.Programs.{Checked, insn_at}
@@ -60,9 +60,19 @@ abbrev pub made_in : Checked → Option Maker → Result (List ℕ) GoalFault
 made_in program None = Err NoValue
 made_in program (Some m) = some_goals (makers program m (length program.insns))
 
--- A text names slots of a program; or why that is refused.
-abbrev pub goals_in : Checked → List ℕ → Result (List ℕ) GoalFault
-goals_in program text = if asks_value text then made_in program (maker_in (drop 1 text)) else slots_in program text
+-- Slots of a program, and whether they are asked about by the value that they make.
+pub record Goals : Type 0 where
+  pub slots : List ℕ
+  pub by_value : Bool
+
+abbrev pub as_goals : Bool → Result (List ℕ) GoalFault → Result Goals GoalFault
+as_goals by_value (Ok slots) = Ok (record { slots = slots; by_value = by_value })
+as_goals by_value (Err fault) = Err fault
+
+-- Those that a text names; or why that is refused.
+abbrev pub goals_in : Checked → List ℕ → Result Goals GoalFault
+goals_in program text =
+    if asks_value text then as_goals true (made_in program (maker_in (drop 1 text))) else as_goals false (slots_in program text)
 
 -- A refusal's number and text. (The numbers before are those of what `origin` is asked; V5 is that of a place that isn't there.)
 abbrev pub goal_fault : GoalFault → ℕ × List ℕ

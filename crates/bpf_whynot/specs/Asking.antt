@@ -5,4 +5,4 @@ use Rattle.bpf_whynot.specs.declared.search.Search.{Search}
 
 -- With the slots whose flags it has.
 abbrev pub query : Search → List ℕ → Query
-query s goals = record { goals = goals; question = s.question; alone = s.alone }
+query s goals = record { goals = goals; made = s.made; question = s.question; alone = s.alone }

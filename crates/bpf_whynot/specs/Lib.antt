@@ -2,6 +2,7 @@ pub mod Reach
 pub mod Tables
 pub mod Constants
 pub mod Asked
+pub mod Makings
 pub mod Answers
 pub mod Laws
 pub mod Flows

@@ -18,24 +18,42 @@ pub(crate) fn no_goals(alloc: Global, program: &Program) -> Result<Vec<bool>, Al
     Vec::from_elem(alloc, false, program.len())
 }
 
-/// Flags the slots that a text names, or those that make the value which it asks for.
+/// Flags the slots that a text names, or those that make the value which it asks for. Answers
+/// whether it asks for one.
 pub(crate) fn flag_asked(
     program: &Program,
     text: &[u8],
     flags: &mut [bool],
-) -> Result<(), GoalFault>
+) -> Result<bool, GoalFault>
     requires { AreGoals program.now [] flags.old }
-    ensures ok { IfOk result (λ (done : Unit). (goals : List ℕ) × (spec.goals_in program.now text.now ≡ Ok goals)
-        × AreGoals program.now goals flags.new) }
+    ensures ok { IfOk result (λ by_value. (slots : List ℕ) × (spec.goals_in program.now text.now
+        ≡ Ok (record { slots = slots; by_value = by_value })) × AreGoals program.now slots flags.new) }
     ensures err { IfErr result (λ fault. spec.goals_in program.now text.now ≡ Err fault) }
 {
     if asks_value(text) {
-        match maker_in(&text[1..]) {
-            Some(maker) => flag_makers(program, maker, flags),
-            None => Err(GoalFault::NoValue),
-        }
-    } else {
-        flag_goals(program, text, flags)
+        return match flag_value(program, &text[1..], flags) {
+            Ok(()) => Ok(true),
+            Err(fault) => Err(fault),
+        };
+    }
+    match flag_goals(program, text, flags) {
+        Ok(()) => Ok(false),
+        Err(fault) => Err(fault),
+    }
+}
+
+/// Flags the slots that make the value which a text says.
+fn flag_value(program: &Program, text: &[u8], flags: &mut [bool]) -> Result<(), GoalFault>
+    requires { AreGoals program.now [] flags.old }
+    ensures ok { IfOk result (λ (done : Unit). (slots : List ℕ)
+        × (spec.made_in program.now (spec.maker_in text.now) ≡ Ok slots)
+        × AreGoals program.now slots flags.new) }
+    ensures err { IfErr result (λ fault.
+        spec.made_in program.now (spec.maker_in text.now) ≡ Err fault) }
+{
+    match maker_in(text) {
+        Some(maker) => flag_makers(program, maker, flags),
+        None => Err(GoalFault::NoValue),
     }
 }
 

@@ -81,7 +81,7 @@ fn wide(value: WideValue) -> Option<u64>
 }
 
 /// The constant that an instruction makes.
-fn made_by(insn: &Insn) -> Option<u64>
+pub(crate) fn made_by(insn: &Insn) -> Option<u64>
     ensures { result ≡ spec.made_by insn.now }
 {
     match *insn {

@@ -1,5 +1,6 @@
 //! What is asked about an instruction that was not come to, and how.
 
+use crate::made::Made;
 use crate::reach::Reach;
 use bpf_origin::Question;
 
@@ -10,6 +11,8 @@ pub struct Search<'a> {
     pub reach: &'a Reach,
     /// The goals, one flag a slot.
     pub goals: &'a [bool],
+    /// The newest kept move that made the value which is asked about, if one did.
+    pub made: Option<Made>,
     /// How the answer about values is made.
     pub question: Question<'a>,
     /// Whether that is left out.

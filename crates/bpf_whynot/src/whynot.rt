@@ -15,6 +15,7 @@ ghost use Rattle.bpf_whynot.specs.Turns.{GoesTo};
 ghost use Rattle.counted_io.specs.Writing.{WritesAfter};
 
 use crate::line::{compared, put_line};
+use crate::made_line::put_made;
 use crate::reach::{Reach, is_flagged};
 use crate::search::Search;
 use crate::standing::Standing;
@@ -35,9 +36,10 @@ pub struct Left {
     pub is_step: bool,
 }
 
-/// Writes why a program did not come to the goals: that it still can; or the latest kept move from
-/// whose state it could, what that compared and where it went, and where the values came from; or
-/// that it never could since the oldest kept state. Moves are taken back as far as that goes.
+/// Writes the newest kept move that made the value which is asked about, if one did, and why the
+/// program did not come to the goals: that it still can; or the latest kept move from whose state it
+/// could, what that compared and where it went, and where the values came from; or that it never
+/// could since the oldest kept state. Moves are taken back as far as that goes.
 pub fn put_whynot<P: Past, W: Write>(
     history: &mut P,
     search: &Search<'_>,
@@ -47,6 +49,46 @@ pub fn put_whynot<P: Past, W: Write>(
 ) -> Told
     ensures { (program : Checked) (goals : List ℕ) → AreGoals program goals search.now.goals.now →
         TellsOrigin (past_by P.state P.follows P.room P.refused) (λ (t : Track). spec.why_not
+        (told_by search.now.reach.now) (query search.now goals) t.history (P.state history.old))
+        history.old history.new (WritesAfter W.contents writer.old so_far writer.new) result }
+{
+    let Some(made) = search.made else {
+        return put_not_come(history, search, wanted, writer, so_far);
+    };
+    let places = search.question.places;
+    let told = put_made(writer, so_far, places, history.machine().program(), made);
+    if has_none(search.goals) {
+        return only(
+            put(writer, told, b"each instruction that makes it ran\n"),
+            0,
+        );
+    }
+    put_not_come(history, search, wanted, writer, told)
+}
+
+/// Whether no goal is flagged.
+fn has_none(flags: &[bool]) -> bool
+    ensures { (program : Checked) (goals : List ℕ) → AreGoals program goals flags.now →
+        result ≡ spec.has_none goals }
+{
+    for slot in 0..flags.len() {
+        if is_flagged(flags, slot) {
+            return false;
+        }
+    }
+    true
+}
+
+/// Writes why a program did not come to the goals.
+fn put_not_come<P: Past, W: Write>(
+    history: &mut P,
+    search: &Search<'_>,
+    wanted: &mut Wanted,
+    writer: &mut Counted<W>,
+    so_far: Result<(), WriteFault>,
+) -> Told
+    ensures { (program : Checked) (goals : List ℕ) → AreGoals program goals search.now.goals.now →
+        TellsOrigin (past_by P.state P.follows P.room P.refused) (λ (t : Track). spec.not_come
         (told_by search.now.reach.now) (query search.now goals) t.history (P.state history.old))
         history.old history.new (WritesAfter W.contents writer.old so_far writer.new) result }
 {

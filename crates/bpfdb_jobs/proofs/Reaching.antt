@@ -5,7 +5,8 @@ use Rattle.bpf_journal.specs.Timelines.{Moment}
 use Rattle.bpf_ring.specs.declared.keeper.RingKeeper.{RingKeeper}
 use Rattle.bpf_steps.specs.State.{State}
 use Rattle.bpf_whynot.specs.Answers.{Query, why_not}
-use Rattle.bpf_whynot.specs.Asked.{goals_in}
+use Rattle.bpf_whynot.specs.Asked.{Goals, goals_in}
+use Rattle.bpf_whynot.specs.Makings.{goals_left, made_last}
 use Rattle.bpf_whynot.specs.Reach.{TellsReach}
 use Rattle.bpf_whynot.specs.declared.fault.GoalFault.{GoalFault}
 use Rattle.std.specs.Borrow.{Bor}
@@ -28,9 +29,10 @@ use Rattle.bpfdb_options.specs.declared.ask.Ask.TheVariants.{Whynot}
 use Rattle.bpfdb_options.specs.declared.ask.WhynotAsk.{WhynotAsk}
 
 -- how it is asked over a history behind so many moves
-abbrev search : WhynotAsk → Known → List ℕ → List Record → ℕ → Query
-search why known goals h n = record {
-  goals = goals;
+abbrev search : WhynotAsk → Known → Goals → List Record → ℕ → State → Query
+search why known goals h n x = record {
+  goals = goals_left goals h;
+  made = made_last goals h x;
   question = record { addresses = why.scope.addresses; lines = why.scope.lines; opening = length h == n; places = known.places };
   alone = why.alone;
 }
@@ -68,8 +70,8 @@ module _ (why : WhynotAsk) (job : Job) (object : Option LinkedObject) (known : K
   known-here = subst (λ (o : Option LinkedObject). IsKnown job o known) (sym a.of) is_known
 
   -- the answer about it is printed
-  pub whynot-prints : (s : Query) (goals : List ℕ) (can : ℕ → List ℕ → Bool) → s ≡ search why known goals a.at.point.history n
-      → AsksGoals why job known moment.state.program (Ok goals) → TellsReach moment.state.program goals can
+  pub whynot-prints : (s : Query) (goals : Goals) (can : ℕ → List ℕ → Bool) → s ≡ search why known goals a.at.point.history n moment.state
+      → AsksGoals why job known moment.state.program (Ok goals) → TellsReach moment.state.program (goals_left goals a.at.point.history) can
       → (names : Option Names) → AreNamesOf object (section_of job) job.target.packet names
       → Prints (Whynot why) job (named_print names s.question.places moment.state (why_not can s a.at.point.history moment.state))
   whynot-prints s goals can asks named tells names found = (
@@ -83,14 +85,14 @@ module _ (why : WhynotAsk) (job : Job) (object : Option LinkedObject) (known : K
     known-here,
     a.arrives,
     subst (λ (x : State). AsksGoals why job known x.program (Ok goals)) a.state named,
-    subst (λ (x : State). TellsReach x.program goals can) a.state tells,
+    subst (λ (x : State). TellsReach x.program (goals_left goals a.at.point.history) can) a.state tells,
     subst (λ (o : Option LinkedObject). AreNamesOf o (section_of job) job.target.packet names) (sym a.of) found,
-    ap (λ (z : Query). named_print names z.question.places moment.state (why_not can z a.at.point.history moment.state)) (asks ∙ ap (search why known goals a.at.point.history) a.counted)
-        ∙ ap (λ (x : State). named_print names known.places x (why_not can (search why known goals a.at.point.history a.at.moves) a.at.point.history x)) a.state,
+    ap (λ (z : Query). named_print names z.question.places moment.state (why_not can z a.at.point.history moment.state)) (asks ∙ ap (λ (k : ℕ). search why known goals a.at.point.history k moment.state) a.counted)
+        ∙ ap (λ (x : State). named_print names known.places x (why_not can (search why known goals a.at.point.history a.at.moves x) a.at.point.history x)) a.state,
   )
 
   -- nothing is known of the names in maps
-  pub names-lack : (goals : List ℕ) → AsksGoals why job known moment.state.program (Ok goals) → (fault : LinkFault) (name : Bor (List ℕ))
+  pub names-lack : (goals : Goals) → AsksGoals why job known moment.state.program (Ok goals) → (fault : LinkFault) (name : Bor (List ℕ))
       → RefusesNames object (section_of job) fault name.now → RefusesAs (Whynot why) job (Object fault name)
   names-lack goals named fault name lacks = (
     a.loaded,
@@ -105,7 +107,7 @@ module _ (why : WhynotAsk) (job : Job) (object : Option LinkedObject) (known : K
   )
 
   -- and so is what it refuses
-  at-goals : (goals : Result (List ℕ) GoalFault) → AsksGoals why job known moment.state.program goals → AsksGoals why job known a.at.point.state.program goals
+  at-goals : (goals : Result Goals GoalFault) → AsksGoals why job known moment.state.program goals → AsksGoals why job known a.at.point.state.program goals
   at-goals goals named = subst (λ (x : State). AsksGoals why job known x.program goals) a.state named
 
   pub whynot-refuses : (refusal : JobRefusal) → RefusesGoals why job known moment.state.program refusal → RefusesAs (Whynot why) job refusal

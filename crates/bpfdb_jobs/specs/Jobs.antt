@@ -62,7 +62,8 @@ use Rattle.bpf_trace.specs.Profiles.{profile_text}
 use Rattle.bpf_trace.specs.Traces.{told_end_line, trace_text}
 use Rattle.bpf_trace.specs.declared.trace.Shown.{Shown}
 use Rattle.bpf_whynot.specs.Answers.{Query, why_not}
-use Rattle.bpf_whynot.specs.Asked.{goals_in}
+use Rattle.bpf_whynot.specs.Asked.{Goals, goals_in}
+use Rattle.bpf_whynot.specs.Makings.{goals_left, made_last}
 use Rattle.bpf_whynot.specs.Reach.{TellsReach}
 use Rattle.bpf_whynot.specs.declared.fault.GoalFault.{GoalFault}
 use Rattle.bpfdb_script.specs.declared.refusal.Refusal.{Refusal}
@@ -243,12 +244,13 @@ abbrev pub AreAsked : WhynotAsk → Job → Known → List ℕ → Type 0
 AreAsked why job known slots = AreGiven known.goals why job slots
 
 -- The slots of a program, or why they are none.
-abbrev pub AsksGoals : WhynotAsk → Job → Known → Checked → Result (List ℕ) GoalFault → Type 0
+abbrev pub AsksGoals : WhynotAsk → Job → Known → Checked → Result Goals GoalFault → Type 0
 AsksGoals why job known program goals = (slots : List ℕ) × AreAsked why job known slots × (goals_in program slots ≡ goals)
 
-abbrev pub query_of : WhynotAsk → Known → List ℕ → Arrival → Query
+abbrev pub query_of : WhynotAsk → Known → Goals → Arrival → Query
 query_of why known goals at = record {
-  goals = goals;
+  goals = goals_left goals at.point.history;
+  made = made_last goals at.point.history at.point.state;
   question = question_by known.places why.scope at;
   alone = why.alone;
 }
@@ -465,9 +467,9 @@ Prints (Origin origin) job a = (loaded : Loaded) × (known : Known) × (at : Arr
     × OpensSession job loaded × IsKnown job loaded.object known × (arrival_of job loaded ≡ Ok at) × Asks origin.what at.point.state what
     × IsTail origin.tells_branches (question_by known.places origin.scope at) (parts_asked at.point.state what) at.point tail
     × AreNamesOf loaded.object (section_of job) job.target.packet names × (a ≡ named_print names known.places at.point.state (followed_by (answer_by known.places origin.scope what at) tail))
-Prints (Whynot why) job a = (loaded : Loaded) × (known : Known) × (at : Arrival) × (goals : List ℕ) × (can : ℕ → List ℕ → Bool) × (names : Option Names)
+Prints (Whynot why) job a = (loaded : Loaded) × (known : Known) × (at : Arrival) × (goals : Goals) × (can : ℕ → List ℕ → Bool) × (names : Option Names)
     × OpensSession job loaded × IsKnown job loaded.object known × (arrival_of job loaded ≡ Ok at) × AsksGoals why job known at.point.state.program (Ok goals)
-    × TellsReach at.point.state.program goals can × AreNamesOf loaded.object (section_of job) job.target.packet names
+    × TellsReach at.point.state.program (goals_left goals at.point.history) can × AreNamesOf loaded.object (section_of job) job.target.packet names
     × (a ≡ whynot_print names (query_of why known goals at) can at)
 Prints (Diff diff) job a = DiffPrints (is_trace diff.other) diff job a
 Prints (Gdb registers) job a = ⊥

@@ -25,6 +25,7 @@ use Rattle.bpf_origin.specs.declared.what.What.{What as Asked}
 use Rattle.bpf_steps.specs.Opening.{Refused}
 use Rattle.bpf_ring.specs.Opening.{RefusesSize}
 use Rattle.bpf_lines.specs.Places.{is_place}
+use Rattle.bpf_whynot.specs.Asked.{Goals}
 use Rattle.bpf_whynot.specs.declared.fault.GoalFault.{GoalFault}
 use Rattle.bpf_whynot.specs.declared.fault.GoalFault.TheVariants.{NoSlot}
 use Rattle.input_texts.specs.TraceFaults.{bad_line}
@@ -90,7 +91,7 @@ abbrev pub RefusesWhynot : WhynotAsk → Job → JobRefusal → Type 0
 RefusesWhynot why job (Listing fault) = (is_listing job.target.kind ≡ true) × IsFaultOf job.file.now fault
 RefusesWhynot why job (Goal fault) = RefusesGoal why job fault false
 RefusesWhynot why job (NoPlace name) = (name.now ≡ asked_of why) × RefusesGoal why job NoSlot true
-RefusesWhynot why job (Object fault name) = (loaded : Loaded) × (known : Known) × (at : Arrival) × (goals : List ℕ) × OpensSession job loaded
+RefusesWhynot why job (Object fault name) = (loaded : Loaded) × (known : Known) × (at : Arrival) × (goals : Goals) × OpensSession job loaded
     × IsKnown job loaded.object known × (arrival_of job loaded ≡ Ok at) × AsksGoals why job known at.point.state.program (Ok goals)
     × RefusesNames loaded.object (section_of job) fault name.now
 RefusesWhynot why job refusal = RefusesArrival job refusal

@@ -1,17 +1,27 @@
--- Scaffolding: why a job of `whynot` has nothing to ask about. No public contract cites this.
-use Rattle.std.specs.Prelude.{◌≡◌, Err, false, true}
+-- Scaffolding: what a job of `whynot` asks about where a machine stands with its journal, and why it has nothing to. No public contract cites this.
+use Rattle.std.specs.Prelude.{◌≡◌, ℕ, Err, List, false, true}
 use Rattle.bpf_isa.specs.Programs.{Checked}
+use Rattle.bpf_journal.specs.Timelines.{Moment}
+use Rattle.bpf_journal.specs.Tracks.{RingHolds}
+use Rattle.bpf_ring.specs.declared.keeper.RingKeeper.{RingKeeper}
 use Rattle.bpf_ring.specs.declared.fault.JournalFault.TheVariants.{OutOfMemory}
 use Rattle.bpf_text.specs.Listing.{IsFaultOf}
+use Rattle.bpf_whynot.specs.Aims.{AimsAt}
+use Rattle.bpf_whynot.specs.declared.aim.Aim.{Aim}
 use Rattle.bpf_whynot.specs.declared.fault.GoalFault.{GoalFault}
 use Rattle.bpf_whynot.specs.declared.fault.GoalFault.TheVariants.{NoSlot}
 use Rattle.bpfdb_faults.specs.declared.refusal.JobRefusal.{JobRefusal}
 use Rattle.bpfdb_faults.specs.declared.refusal.JobRefusal.TheVariants.{Goal, Journal, Listing, NoPlace}
-use Rattle.bpfdb_jobs.specs.Jobs.{AsksGoals, asked_of, is_listing}
+use Rattle.bpfdb_jobs.specs.Jobs.{AreAsked, AsksGoals, asked_of, is_listing}
 use Rattle.bpfdb_jobs.specs.Refusals.{lacks_place}
 use Rattle.bpfdb_jobs.specs.declared.job.Job.{Job}
 use Rattle.bpfdb_jobs.specs.declared.known.Known.{Known}
 use Rattle.bpfdb_options.specs.declared.ask.WhynotAsk.{WhynotAsk}
+
+-- The slots that are asked about, and from where they can be come to.
+abbrev pub AimsFor : WhynotAsk → Job → Known → Moment RingKeeper → Aim → Type 0
+AimsFor why job known moment aim =
+    (slots : List ℕ) × AreAsked why job known slots × AimsAt RingHolds moment.keeper moment.state slots aim
 
 -- The refusal of a fault: of a place that has no slot it has the name of that.
 abbrev pub IsRefusalOf : WhynotAsk → GoalFault → JobRefusal → Type 0

@@ -4,7 +4,6 @@ ghost use Rattle.bpf_isa.specs.Programs.{Checked};
 ghost use Rattle.bpf_journal.specs.Histories.{Record, StandsFor};
 ghost use Rattle.bpf_journal.specs.Tracks.{RingHolds};
 ghost use Rattle.bpf_load.specs.Targets.{Loads, lent};
-ghost use Rattle.bpf_whynot.specs.Aims.{IsAim};
 ghost use Rattle.bpf_whynot.specs.Answers.{why_not};
 ghost use Rattle.bpf_whynot.specs.Asking.{query};
 ghost use Rattle.bpf_whynot.specs.Tables.{AreGoals, told_by};
@@ -13,7 +12,7 @@ ghost use Rattle.bpfdb_jobs.specs.Endings.{EndsPrinted};
 ghost use Rattle.bpfdb_jobs.specs.Jobs.{AreAsked, asked_of, names_place, IsKnown};
 ghost use Rattle.bpfdb_jobs.specs.Openings.{HasArrived, why_text};
 ghost use Rattle.bpfdb_jobs.specs.Origins.{found_text};
-ghost use Rattle.bpfdb_jobs.specs.Whynots.{IsRefusalOf, RefusesGoals};
+ghost use Rattle.bpfdb_jobs.specs.Whynots.{AimsFor, IsRefusalOf, RefusesGoals};
 ghost use Rattle.bpfdb_limits.specs.Limits.{IsLimit};
 ghost use Rattle.bpfdb_options.specs.declared.ask.Ask.TheVariants.{Whynot};
 ghost use Rattle.bpfdb_jobs.specs.Streams.{between};
@@ -23,8 +22,7 @@ use crate::known::Known;
 use crate::object::refuse;
 use crate::origin::{Arrived, FoundText, Reached, arrive, bytes_of, names_of, status_of};
 use crate::streams::Streams;
-use bpf_isa::Program;
-use bpf_journal::{JournalFault, Keeper, Timeline};
+use bpf_journal::{JournalFault, Keeper, RingKeeper, Timeline};
 use bpf_lines::{Names, is_place, listing_slots, put_named};
 use bpf_load::{LinkedObject, Loaded, SourceKind};
 use bpf_origin::{Question, Told, Wanted};
@@ -87,7 +85,7 @@ fn ask_why<W: Write, E: Write>(
         (between W.contents E.contents streams.old streams.new) result }
     ensures status { result ≤ 2 }
 {
-    let aim = match aim_of(alloc, why, job, known, arrived.timeline.cpu().program()) {
+    let aim = match aim_of(alloc, why, job, known, &arrived.timeline) {
         Ok(aim) => aim,
         Err(refusal) => return give_up(&mut streams.errors, &JobFault::Refused(refusal)),
     };
@@ -104,6 +102,7 @@ fn ask_why<W: Write, E: Write>(
     let search = Search {
         reach: &aim.reach,
         goals: aim.goals.as_slice(),
+        made: aim.made,
         question,
         alone: why.alone,
     };
@@ -125,21 +124,21 @@ fn aim_of<'a>(
     why: &WhynotAsk<'a>,
     job: &Job<'a>,
     known: Known<'_>,
-    program: &Program,
+    timeline: &Timeline<RingKeeper>,
 ) -> Result<Aim, JobRefusal<'a>>
-    ensures ok { IfOk result (λ aim. (slots : List ℕ) × AreAsked why.now job.now known.entry slots
-        × IsAim program.now slots aim) }
-    ensures err { IfErr result (RefusesGoals why.now job.now known.entry program.now) }
+    ensures ok { IfOk result (AimsFor why.now job.now known.entry timeline.now) }
+    ensures err { IfErr result
+        (RefusesGoals why.now job.now known.entry timeline.now.state.program) }
 {
     let what = asked(why).as_bytes();
     if let Some(goals) = known.goals {
-        return aim_at(alloc, why, job, known, program, goals);
+        return aim_at(alloc, why, job, known, timeline, goals);
     }
     if !names_place(why, job) {
-        return aim_at(alloc, why, job, known, program, what);
+        return aim_at(alloc, why, job, known, timeline, what);
     }
     match listing_slots(alloc, job.file, what) {
-        Ok(slots) => aim_at(alloc, why, job, known, program, slots.as_slice()),
+        Ok(slots) => aim_at(alloc, why, job, known, timeline, slots.as_slice()),
         Err(fault) => Err(JobRefusal::Listing(fault)),
     }
 }
@@ -160,15 +159,16 @@ fn aim_at<'a>(
     why: &WhynotAsk<'a>,
     job: &Job<'a>,
     known: Known<'_>,
-    program: &Program,
+    timeline: &Timeline<RingKeeper>,
     slots: &[u8],
 ) -> Result<Aim, JobRefusal<'a>>
     requires { AreAsked why.now job.now known slots.now }
-    ensures ok { IfOk result (λ aim. (slots : List ℕ) × AreAsked why.now job.now known.entry slots
-        × IsAim program.now slots aim) }
-    ensures err { IfErr result (RefusesGoals why.now job.now known.entry program.now) }
+    ensures ok { IfOk result (AimsFor why.now job.now known.entry timeline.now) }
+    ensures err { IfErr result
+        (RefusesGoals why.now job.now known.entry timeline.now.state.program) }
 {
-    match Aim::find(alloc, program, slots) {
+    timeline.invariant();
+    match Aim::find(alloc, timeline.cpu(), timeline.keeper(), slots) {
         Ok(aim) => Ok(aim),
         Err(AimFault::Goal(fault)) => Err(goal_refusal(why, fault)),
         Err(AimFault::OutOfMemory) => Err(JobRefusal::Journal(JournalFault::OutOfMemory)),

@@ -5,7 +5,7 @@ use Rattle.bpf_remote.proofs.serving.answer_line.Goals as goal
 pub returns-in-Some : goal.returns-in-Some
 returns-in-Some g c = λ before.
     let aims = c.in-Some.ensures.some in
-    by-why _ _ _ _ _ _ _ before c.args.digits.now _ _ aims.1 (c.answer_why.ensures aims.0 c.args.digits.now (rw (c.program.ensures, c.cpu.ensures) at aims.2) before)
+    by-why _ _ _ _ _ _ _ before c.args.digits.now _ _ aims.1 (c.answer_why.ensures aims.0 c.args.digits.now aims.2 before)
 
 pub returns-in-Some-asked_in : goal.returns-in-Some-asked_in
 returns-in-Some-asked_in g c = λ before.

@@ -3,7 +3,8 @@ use Rattle.arrayvec.specs.ArrayVec.{ArrayVec}
 use Rattle.bpf_journal.specs.Tracks.{Track}
 use Rattle.bpf_remote.specs.Whynots.{query_of}
 use Rattle.bpf_session.specs.Sessions.{HasPast}
-use Rattle.bpf_whynot.specs.Answers.{why_not}
+use Rattle.bpf_whynot.specs.Answers.{Query, why_not}
+use Rattle.bpf_whynot.specs.Makings.{goals_left}
 use Rattle.bpf_whynot.specs.Tables.{AreGoals, told_by}
 use Rattle.counted_io.specs.Counted.{Tally}
 use Rattle.bpf_remote.proofs.LineTexts.{if-ok, written}
@@ -12,8 +13,11 @@ use Rattle.bpf_remote.proofs.whynot.why_text.Goals as goal
 pub returns-clause-back : goal.returns-clause-back
 returns-clause-back g c = λ asked aims.
     let s = c.args.session.now in
-    let flags = subst (λ (flags : List Bool). AreGoals s.moment.state.program aims.goals flags) (sym c.as_slice.ensures.value) aims.flags in
-    let back = rw c.course_mut.ensures.value at (c.look_why-looked.ensures.back s.moment.state.program aims.goals flags) in
+    let way = c.invariant.ensures in
+    let left = goals_left aims.0 way.track.history in
+    let aim = aims.2 way.track.history way.follows.history in
+    let flags = subst (λ (flags : List Bool). AreGoals s.moment.state.program left flags) (sym c.as_slice.ensures.value) aim.flags in
+    let back = rw c.course_mut.ensures.value at (c.look_why-looked.ensures.back s.moment.state.program left flags) in
     record {
       rest = refl;
       bounds = ap (λ (n : ℕ). record { limit = s.limit; room = n }) back.size;
@@ -25,10 +29,12 @@ pub returns-clause-text : goal.returns-clause-text
 returns-clause-text g c = λ asked aims.
     let s = c.args.session.now in
     let x = s.moment.state in
-    let flags = subst (λ (flags : List Bool). AreGoals x.program aims.goals flags) (sym c.as_slice.ensures.value) aims.flags in
     if-ok c.look_why-looked.result.written (λ _. (t : Track) → HasPast g.K.Keeper.holds s t → c.into_inner.result.items
-    ≡ (why_not (told_by c.args.aim.now.reach) (query_of c.args.places c.args.moves aims.goals t) t.history x).text) (λ u is t past.
-    let there = rw (c.course_mut.ensures.value, c.kept.ensures t past, c.most_lines.ensures) at (c.look_why-looked.ensures.text x.program aims.goals flags t (rw (sym c.course_mut.ensures.value) at past)) in
+    ≡ (why_not (told_by c.args.aim.now.reach) (query_of c.args.places c.args.moves aims.0 t x) t.history x).text) (λ u is t past.
+    let left = goals_left aims.0 t.history in
+    let aim = aims.2 t.history past.history in
+    let flags = subst (λ (flags : List Bool). AreGoals x.program left flags) (sym c.as_slice.ensures.value) aim.flags in
+    let there = rw (c.course_mut.ensures.value, c.kept.ensures t past, c.most_lines.ensures, aim.made) at (c.look_why-looked.ensures.text x.program left flags t (rw (sym c.course_mut.ensures.value) at past)) in
     ap (λ (v : ArrayVec ℕ). v.items) c.into_inner.ensures
     ∙ written (λ (v : ArrayVec ℕ). Some v.items) _ _ _ _ _ _ _ there is
     (ap (λ (v : Tally (ArrayVec ℕ)). Some v.inner.items) c.new-writer.ensures ∙ ap Some c.new.ensures) refl)

@@ -1,34 +1,45 @@
-use Rattle.std.proofs.Common.{◌∙◌, sym, ap, arith}
+use Rattle.std.proofs.Common.{◌∙◌, Bool, Option, ap, sym}
+use Rattle.std.specs.Prelude.{if◌then◌else◌}
 use Rattle.bpf_journal.specs.Tracks.{Track}
-use Rattle.bpf_whynot.specs.Answers.{still_text, why_not}
+use Rattle.bpf_origin.specs.Answers.{with_line}
+use Rattle.bpf_whynot.specs.Answers.{all_made_text, made_line, not_come, not_come_but, only, others_not_come, why_not}
 use Rattle.bpf_whynot.specs.Asking.{query}
-use Rattle.bpf_whynot.specs.Reach.{can_from}
 use Rattle.bpf_whynot.specs.Tables.{told_by}
-use Rattle.bpf_whynot.proofs.Going.{still_is, told_left, told_never, told_only}
+use Rattle.bpf_whynot.specs.declared.made.Made.{Made}
+use Rattle.bpf_whynot.proofs.Going.{told_line, told_only}
 use Rattle.bpf_whynot.proofs.whynot.put_whynot.Goals as goal
 
-pub returns-then-can_from : goal.returns-then-can_from
-returns-then-can_from g c = λ program goals are.
-    let can = ap (can_from (told_by c.args.search.now.reach.now)) (sym c.machine.ensures) ∙ sym c.can_from.ensures ∙ c.if-can_from.true in
-    told_only g.P.Past.state g.P.Past.follows g.P.Past.room g.P.Past.refused g.W.Write.contents
-    (λ (t : Track). why_not (told_by c.args.search.now.reach.now) (query c.args.search.now goals) t.history (g.P.Past.state c.args.history.now))
-    c.args.history.now c.args.writer.now c.put.new.writer c.args.so_far c.put.result still_text c.only.result c.put.ensures c.only.ensures
-    (λ t stands. still_is (told_by c.args.search.now.reach.now) (query c.args.search.now goals) t.history (g.P.Past.state c.args.history.now) can)
+pub returns-in_default : goal.returns-in_default
+returns-in_default g c = λ program goals are. rw c.in_default.is (c.put_not_come.ensures program goals are)
 
-pub returns-in-Some : goal.returns-in-Some
-returns-in-Some g c = λ program goals are.
-    let can = ap (can_from (told_by c.args.search.now.reach.now)) (sym c.machine.ensures) ∙ sym c.can_from.ensures ∙ c.if-can_from.false in
-    told_left g.P.Past.state g.P.Past.follows g.P.Past.room g.P.Past.refused g.W.Write.contents
-    (told_by c.args.search.now.reach.now) (query c.args.search.now goals) c.args.history.now c.go_back.new.history c.put_left-told.new.history c.args.writer.now c.put_left-told.new.writer c.args.so_far
-    c.moves-kept.result c.saturating_add.result c.in-Some.left c.put_left-told.result
-    can c.moves-kept.ensures (omega (arith, c.moves-kept.type_inv)) c.in-Some.ensures.goes c.go_back.ensures.keeper
-    (λ r y at step stood. c.put_left-told.ensures.tells program goals r y are at step stood) c.put_left-told.ensures.keeper
-    (λ few. omega (arith, few, c.saturating_add.ensures))
+pub returns-then-has_none : goal.returns-then-has_none
+returns-then-has_none g c = λ program goals are.
+    let can = told_by c.args.search.now.reach.now in
+    let q = query c.args.search.now goals in
+    let y = g.P.Past.state c.args.history.now in
+    told_line g.P.Past.state g.P.Past.follows g.P.Past.room g.P.Past.refused g.W.Write.contents
+    (λ (t : Track). why_not can q t.history y) (λ (t : Track). others_not_come can q t.history y)
+    c.args.history.now c.args.history.now c.args.writer.now c.put_made-told.new.writer c.put.new.writer c.args.so_far c.put_made-told.result
+    (made_line q.question.places y.program c.in-Some.made) c.only.result
+    (rw (c.program.ensures, c.machine.ensures) at c.put_made-told.ensures)
+    (told_only g.P.Past.state g.P.Past.follows g.P.Past.room g.P.Past.refused g.W.Write.contents
+    (λ (t : Track). others_not_come can q t.history y)
+    c.args.history.now c.put_made-told.new.writer c.put.new.writer c.put_made-told.result c.put.result all_made_text c.only.result c.put.ensures c.only.ensures
+    (λ t stands. ap (λ (b : Bool). if b then only all_made_text else not_come can q t.history y) (sym (c.has_none.ensures program goals are) ∙ c.if-has_none.true)))
+    (λ t stands. ap (λ (m : Option Made). not_come_but can q m t.history y) c.in-Some.is)
 
-pub returns-in-None : goal.returns-in-None
-returns-in-None g c = λ program goals are.
-    let can = ap (can_from (told_by c.args.search.now.reach.now)) (sym c.machine.ensures) ∙ sym c.can_from.ensures ∙ c.if-can_from.false in
-    told_never g.P.Past.state g.P.Past.follows g.P.Past.room g.P.Past.refused g.W.Write.contents
-    (told_by c.args.search.now.reach.now) (query c.args.search.now goals) c.args.history.now c.go_back.new.history c.args.writer.now c.put_never.new.writer c.args.so_far c.put_never.result
-    c.moves-kept.result c.only-in-None.result
-    can c.moves-kept.ensures c.in-None.ensures.goes c.go_back.ensures.keeper c.put_never.ensures c.only-in-None.ensures
+pub returns : goal.returns
+returns g c = λ program goals are.
+    let can = told_by c.args.search.now.reach.now in
+    let q = query c.args.search.now goals in
+    let y = g.P.Past.state c.args.history.now in
+    told_line g.P.Past.state g.P.Past.follows g.P.Past.room g.P.Past.refused g.W.Write.contents
+    (λ (t : Track). why_not can q t.history y) (λ (t : Track). not_come can q t.history y)
+    c.args.history.now c.put_not_come-2.new.history c.args.writer.now c.put_made-told.new.writer c.put_not_come-2.new.writer c.args.so_far c.put_made-told.result
+    (made_line q.question.places y.program c.in-Some.made) c.put_not_come-2.result
+    (rw (c.program.ensures, c.machine.ensures) at c.put_made-told.ensures)
+    (c.put_not_come-2.ensures program goals are)
+    (λ t stands.
+    ap (λ (m : Option Made). not_come_but can q m t.history y) c.in-Some.is
+    ∙ ap (λ (b : Bool). with_line (made_line q.question.places y.program c.in-Some.made) (if b then only all_made_text else not_come can q t.history y))
+    (sym (c.has_none.ensures program goals are) ∙ c.if-has_none.false))
