@@ -5,7 +5,7 @@ import re
 
 from bpfdb.habits import OWN_HELP, commands
 from bpfdb.machine import ADDRESS, SLOT
-from bpfdb.places import slots_of_line
+from bpfdb.places import NAME, slots_of_line
 from bpfdb.protocol import Failed
 from bpfdb.running import Stop
 from bpfdb.session import MOVE, Hint
@@ -18,8 +18,10 @@ COMMANDS = ('stepi', 'nexti', 'continue', 'finish', 'undo', 'redo', 'origin', 'w
             'info history', 'info trace', 'x', 'disas', 'last-write', 'help')
 # Those that only show something, and may be asked for again and again.
 VIEWS = ('x', 'info', 'last-write', 'disas')
+# What is asked about that isn't there.
+NO_PLACE = 'there is no instruction at %s: a slot, a function, a label, FILE:LINE or =VALUE'
 # A move in an answer of `origin` or `whynot`, with its slot.
-ANSWER_SLOT = re.compile(r'-\d+ (?:.*?; )?(\d+): ')
+ANSWER_SLOT = re.compile(r'(?:made: )?-\d+ (?:.*?; )?(\d+): ')
 
 
 class CommandRequests:
@@ -104,7 +106,17 @@ class CommandRequests:
 
     def whynot(self, words):
         """Why the program did not come to a place, and what decided it."""
-        return self.linked(self.names.whynot(self.goals(' '.join(words))))
+        return self.linked(self.why(' '.join(words)))
+
+    def why(self, text):
+        """The lines of that answer. A name that is no function and no label may be an enumerator's, or a verdict's."""
+        goals = self.goals(text)
+        try:
+            return self.names.whynot(goals)
+        except Hint as hint:
+            if goals == f'={text}' and str(hint).startswith('refused V6:'):
+                raise Failed(NO_PLACE % text) from None
+            raise
 
     def goals(self, text):
         """The slots of a place, in bpfdb's words: of FILE:LINE all at which an instruction starts, of a function or a label the first. `=VALUE` is bpfdb's own."""
@@ -117,8 +129,10 @@ class CommandRequests:
         else:
             slots = [slot for slot, function in self.machine.functions.items() if function == text]
             slots = slots or ([source.labels[text]] if text in source.labels else [])
+        if not slots and NAME.fullmatch(text):
+            return f'={text}'
         if not slots and not re.fullmatch(r'[0-9,]+|=.+', text):
-            raise Failed(f'there is no instruction at {text}: a slot, a function, a label, FILE:LINE or =VALUE')
+            raise Failed(NO_PLACE % text)
         return ','.join(map(str, slots)) or text
 
     def linked(self, lines):
@@ -138,7 +152,7 @@ class CommandRequests:
         return self.with_places(self.names.origin(arguments.text('what', '').split()))
 
     def do_bpfdb_whynot(self, arguments):
-        return self.with_places(self.names.whynot(self.goals(arguments.text('what').strip())))
+        return self.with_places(self.why(arguments.text('what').strip()))
 
     def with_places(self, lines):
         """The lines of an answer, those of moves with their places."""

@@ -20,6 +20,7 @@ from bpfdb.places import slots_of_line
 from bpfdb.session import Hint
 from bpfdb.subjects import Told
 from bpfdb.texts import plain, plain_lines
+from bpfdb.verdicts import VERDICTS
 
 # Where pc, and r0 to r10, stand among the registers of the machine that gdb takes this one for.
 COUNTERS = {"i386:x86-64": "rip", "riscv:rv64": "pc"}
@@ -384,7 +385,7 @@ class PastAsker(Asker):
 
     def source_of(self, line):
         """The line of the source of a move, behind its own, where bpfdb doesn't tell it: of a program that it has no object of."""
-        slot = None if re.search(r"; in .* \(.*:\d+\)$", line) else re.match(r"-\d+ (?:.*?; )?(\d+): ", line)
+        slot = None if re.search(r"; in .* \(.*:\d+\)$", line) else re.match(r"(?:made: )?-\d+ (?:.*?; )?(\d+): ", line)
         place = gdb.find_pc_line(SLOT * int(slot.group(1))) if slot else None
         return " (%s:%d)" % (plain(os.path.basename(place.symtab.filename)), place.line) if place and place.symtab else ""
 
@@ -456,7 +457,8 @@ def register_of(name, frame):
 
 class Whynot(PastAsker):
     """bpf-whynot WHAT: tells why the program did not come to a place, and what decided it: to a slot (12) or slots (12,15), a function (size_of), a
-    label, or any instruction of a line (FILE:LINE). It is 'monitor whynot', over the moves that are kept."""
+    label, or any instruction of a line (FILE:LINE); or why it did not make a value (=2, XDP_DROP, an enumerator). It is 'monitor whynot', over the
+    moves that are kept."""
 
     def __init__(self):
         super().__init__("bpf-whynot", gdb.COMPLETE_LOCATION)
@@ -467,7 +469,28 @@ class Whynot(PastAsker):
         if not text or text[0] in "-+":
             raise gdb.GdbError("bpf-whynot WHAT: a slot, a function or FILE:LINE")
         # (what begins as a number has a meaning in bpfdb alone, or is refused there; so has a value, by its number)
-        return ["whynot", text if text[0].isdigit() or text[0] == "=" else ",".join(str(slot) for slot in self.slots(text))]
+        if text[0].isdigit():
+            return ["whynot", text]
+        if text[0] == "=":
+            return ["whynot", self.value(text[1:]) or text]
+        try:
+            return ["whynot", ",".join(str(slot) for slot in self.slots(text))]
+        except gdb.error:
+            value = self.value(text)
+            if not value:
+                raise
+            return ["whynot", value]
+
+    def value(self, name):
+        """The value that an enumerator, or else a verdict, has by its name, as it is asked about; None without one."""
+        if not is_name(name):
+            return None
+        symbol = gdb.lookup_static_symbol(name) or gdb.lookup_global_symbol(name)
+        if symbol and symbol.is_constant and symbol.type.code == gdb.TYPE_CODE_ENUM:
+            # (a negative one as a number of 32 bits or of 64)
+            value = int(symbol.value())
+            return "=%d" % (value % 2 ** (32 if -2**31 <= value < 0 else 64))
+        return "=%d" % VERDICTS[name] if name in VERDICTS else None
 
     def slots(self, text):
         """The slots of a place: the first one of a function, or all of a line, which has some."""

@@ -165,7 +165,7 @@ class Values:
         """The lines of an answer, those of moves with their lines of source."""
         self.announce(f"bpfdb {' '.join(word for word in asked if word != '--')}")
         for text in reply:
-            slot = re.match(r'-\d+ (?:.*?; )?(\d+): ', text)
+            slot = re.match(r'(?:made: )?-\d+ (?:.*?; )?(\d+): ', text)
             file, at, _ = self.source.lines.get(int(slot[1]) if slot else -1, ('', 0, ''))
             place = f' ({file}:{at})'
             self.say(text + (place if file and not text.endswith(place) else ''), '31' if text.startswith('refused ') else '')
