@@ -58,11 +58,11 @@ way() {
     [ "$(cat wrong right | grep -c -x '0x[0-9a-f]* [A-Z_]*')" -eq 2 ] && ! cmp -s wrong right || complain "examples/README.md: the verdicts of $1.c"
 }
 
-# right NAME VERDICT ANSWER: why the program did not answer the right verdict, by its name.
+# right NAME VERDICT LINE..: why the program did not answer the right verdict, by its name, without where it stands.
 right() {
     count=$((count + 1))
-    (cd typed && BPFDB_LINUX=../bpfdb-linux.o "$program" whynot --alone -m "$1.packet" "$1.o" "$2") 2> found/err | tail -n 1 > found/out
-    [ "$(cat found/out)" = "$3" ] || complain "whynot $2 of $1.c: $(cat found/out found/err)"
+    (cd typed && BPFDB_LINUX=../bpfdb-linux.o "$program" whynot --alone -m "$1.packet" "$1.o" "$2") 2> found/err | tail -n +2 > found/out
+    [ "$(cat found/out)" = "$3${4:+$(printf '\n%s' "$4")}" ] || complain "whynot $2 of $1.c: $(cat found/out found/err)"
 }
 
 # six_bugs: those of the section '## bugs of XDP and tc', whose commands are typed in order in one folder.
@@ -83,13 +83,15 @@ six_bugs() {
     way stations 33 4
     way offers 19 2
     way router 14 3
-    right relay TC_ACT_OK '-6 52: jne r1, 167772165, L54; r1 = 0x500000a; jumped to 54; in relay (relay.c:35)'
+    right relay TC_ACT_OK 'made: -32 r0 = 0x0; 26: mov r0, 0; in relay (relay.c:24)' \
+        '-6 52: jne r1, 167772165, L54; r1 = 0x500000a; jumped to 54; in relay (relay.c:35)'
     right precedence TC_ACT_SHOT '-5 49: jge r3, r1, L60; r3 = 0x5dc; r1 = 0x50; jumped to 60; in precedence (precedence.c:46)'
     right stations XDP_PASS '-6 49: jeq r0, 0, L53; r0 = 0x0; jumped to 53; in admit (stations.c:62)'
     right offers XDP_DROP '-5 34: jne r4, 8, L51; r4 = 0xa888; jumped to 51; in offers (offers.c:50)'
-    # (the value was made, and another one in its place: origin --branches tells why)
-    right tunnel XDP_DROP 'it was reached 7 moves back'
-    right router TC_ACT_OK 'it was reached 75 moves back'
+    # (each instruction that makes the value ran, and another one came in its place: origin --branches tells why, with these moves)
+    all_ran='each instruction that makes it ran'
+    right tunnel XDP_DROP 'made: -7 r0 = 0x1; 41: mov r0, 1; in tunnel (tunnel.c:37)' "$all_ran"
+    right router TC_ACT_OK 'made: -75 r6 at depth 1 = 0x0; 27: mov r6, 0; in guard (router.c:35)' "$all_ran"
 }
 
 if has_clang_14 'the bugs of examples/bugs' && has python3 'the bugs of examples/bugs'; then

@@ -84,6 +84,8 @@ if has python3 'bpfdb-shell'; then
     plainly 'why it did not come to a slot, a line or a label' 0 'c\nwhynot 1\nwhynot first.s:2\nwhynot none\nrs\nwhynot none+1\nwhynot\nwhynot nosuch\nwhynot 9\n' \
         "3 forward; end; exited at 4: r0 0x1\n$decided${decided}it was reached 2 moves back\n1 back; done; at 4: exit\nit can still be reached\nrefused V5: no such place: nosuch\nrefused V4: no instruction starts at the slot\n" \
         'bpfdb-shell: whynot PLACE: a slot, a label, LABEL+1, FILE:LINE or =VALUE\n' first.s
+    plainly 'why it did not make a value, and when it did' 0 'c\nwhynot =1\nwhynot =7\n' \
+        '3 forward; end; exited at 4: r0 0x1\nmade: -2 r0 = 0x1; 3: mov r0, 1 (first.s:4)\neach instruction that makes it ran\nrefused V7: no instruction makes the value\n' '' first.s
     plainly 'going back to the first move' 0 'si 5\nrc\nrs\n' '5 forward; done; at 1: ja L0\n5 back; start; at 0: add r0, 1\nrefused Q4: no kept step\n' '' endless.s
     plainly 'going back in the largest journal' 0 'c\nc\nc\nrc\n' \
         "$(for at in 1 2 3; do printf '1000000 forward; limit; at 0: add r0, 1\\n'; done)1458888 back; start; at 0: add r0, 1\n" \
@@ -240,6 +242,12 @@ PYTHON
             '8 forward; end; exited at 8: r0 0x2\nit was reached 1 moves back\nok\nbreak 8\n' \
             "$near:8: the nearest are at verdict.c:7, verdict.c:9\nbpfdb-shell: there is no instruction at ./verdict.c:8: the nearest are at ./verdict.c:7, ./verdict.c:9\n"\
 "$near:1: the nearest are at verdict.c:3\n$near:99: the nearest are at verdict.c:9\nbpfdb-shell: there is no instruction at other.c:8\n" -m kind verdict.o
+        # A verdict by its name: the branch behind which it was out of reach, and the one that was made.
+        plainly 'why not a verdict' 0 'c\nwhynot XDP_DROP\nwhynot XDP_PASS\nwhynot XDP_NONE\n' \
+            '8 forward; end; exited at 8: r0 0x2\n-2 6: jeq r1, 0, L8; r1 = 0x0; jumped to 8; in verdict (verdict.c:7)\nat 6: jeq r1, 0, L8\n'\
+'-1 r1 = 0x0; 5: and r1, 1; from r1; in verdict (verdict.c:7)\n-2 r1 = 0x2; 4: ldxb r1, [r1+1]; from 0x100000001:1; in verdict (verdict.c:7)\n'\
+'left 0x100000001:1 = 0x2; byte 1 of the context; at the opening\nmade: -8 r0 = 0x2; 0: mov r0, 2; in verdict (verdict.c:3)\n'\
+'each instruction that makes it ran\nrefused V5: no such place: XDP_NONE\n' '' -m kind verdict.o
 
         # An XDP program as the kernel loads it, whose entry's 13 slots come first, and which is joined to what answers its helpers: its packet is the first of
         # its protocol, and passes (2). Names and lines are right wherever its code lies.

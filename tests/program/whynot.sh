@@ -129,7 +129,9 @@ for what in =1 =0x1 =01 =1,0 =1,1,1 =1,1,18446744073709551615; do
     tells 0 "$decided" whynot --alone verdict.bin $what
 done
 tells 0 "${decided}at 0: jeq r0, 0, L3\nleft r0 = 0x0; at the opening\n" whynot verdict.bin =1
-tells 0 'exited at 4: r0 0x2\nit was reached 2 moves back\n' whynot verdict.bin =2
+all_ran='each instruction that makes it ran\n'
+tells 0 "exited at 4: r0 0x2\nmade: -2 r0 = 0x2; 3: mov r0, 2\n$all_ran" whynot verdict.bin =2
+tells 0 'exited at 4: r0 0x2\nit was reached 2 moves back\n' whynot verdict.bin 3
 v6='refused V6: neither a number nor an enumerator of one value'
 v7='refused V7: no instruction makes the value'
 for what in = =, =x =XDP_DROP =1x =-1 '=1 ' =18446744073709551616 =1,x =1,0,x =1,0,1,1; do
@@ -139,6 +141,43 @@ done
 for what in =0 =3 =4294967297 =0x100000001 =1,2 =1,0,1 =1,1,0 =2,0,3 =2,4; do
     refused "$v7" whynot verdict.bin $what
 done
+
+# Of those that make it, the ones that ran: the newest one is told, and it is asked about the others, over what is kept. One that ran twice; one that is made
+# and overwritten, while a branch leads past another; among some slots alone; in a loop.
+listing again.s 'mov r0, 1;jeq r1, 0, out;mov r0, 1;exit;out: mov r0, 2;exit'
+past='-3 1: jeq r1, 0, L4; r1 = 0x0; jumped to 4\n'
+why='at 1: jeq r1, 0, L4\nleft r1 = 0x0; at the opening\n'
+tells 0 "exited at 5: r0 0x2\nmade: -4 r0 = 0x1; 0: mov r0, 1\n$past$why" whynot --listing again.s =1
+tells 0 "exited at 5: r0 0x2\nmade: -4 r0 = 0x1; 0: mov r0, 1\n$past" whynot --alone --listing again.s =1
+tells 0 "exited at 5: r0 0x2\n$past" whynot --alone --listing again.s =1,1
+tells 0 "exited at 5: r0 0x2\nmade: -4 r0 = 0x1; 0: mov r0, 1\n$all_ran" whynot --listing again.s =1,0,2
+tells 0 'at 1: jeq r1, 0, L4\nmade: -1 r0 = 0x1; 0: mov r0, 1\nit can still be reached\n' whynot --steps 1 --listing again.s =1
+tells 0 'at 0: mov r0, 1\nit can still be reached\n' whynot --script /dev/null --listing again.s =1
+tells 0 "exited at 5: r0 0x2\n$past$why" whynot --listing again.s 0,2
+tells 0 'exited at 5: r0 0x2\nit was reached 4 moves back\n' whynot --listing again.s 0
+listing twice.s 'mov r0, 1;mov r0, 2;mov r0, 1;exit'
+tells 0 "exited at 3: r0 0x1\nmade: -2 r0 = 0x1; 2: mov r0, 1\n$all_ran" whynot --listing twice.s =1
+listing rounds.s 'loop: mov r3, 5;add r0, 1;jlt r0, 3, loop;exit;mov r3, 5;exit'
+tells 0 "exited at 3: r0 0x3\nmade: -4 r3 = 0x5; 0: mov r3, 5\nit was out of reach from the opening\n" whynot --listing rounds.s =5
+
+# What is made: of 32 bits and of 64, bytes of the frame, a register at its depth. Not by a store that faults, and not by hand. What was taken back isn't
+# kept, nor what the journal has dropped.
+listing kinds.s 'mov32 r1, -1;lddw r2, 18446744073709551615;stw [r10-8], -1;stb [r10-1], -1;callf f;exit;f: mov r6, 255;stdw [r10-16], 255;exit'
+for told in '18446744073709551615 8 r2 = 0xffffffffffffffff; 1: lddw r2, 0xffffffffffffffff' '4294967295,0,1 9 r1 = 0xffffffff; 0: mov32 r1, -1' \
+    '4294967295 7 0x2000001f8:4 = 0xffffffff; 3: stw [r10-8], -1' '255,4,1 6 0x2000001ff:1 = 0xff; 4: stb [r10-1], -1' \
+    '255,0,8 4 r6 at depth 1 = 0xff; 7: mov r6, 255' '255 3 0x2000005f0:8 = 0xff; 8: stdw [r10-16], 255'; do
+    value=${told%% *} told=${told#* }
+    tells 0 "exited at 6: r0 0x0\nmade: -${told%% *} ${told#* }\n$all_ran" whynot --listing kinds.s =$value
+done
+listing faults.s 'stw [r10+0], 5;exit'
+tells 0 'fault access 0x200000200 at 0\nit was reached 1 moves back\n' whynot --listing faults.s =5
+printf 'set reg r0 1\nstepi 2\nreverse-stepi 2\n' > by_hand
+tells 0 'at 0: mov r0, 1\nit can still be reached\n' whynot --script by_hand --listing again.s =1
+printf 'stepi 3\nundo\nstepi\nset pc 4\nstepi\n' > edits
+tells 0 'at 5: exit\nmade: -3 r0 = 0x1; 0: mov r0, 1\n-2 edit; then at 4\n' whynot --script edits --listing again.s =1
+listing dropped.s 'mov r0, 7;loop: add r1, 1;ja loop;mov r0, 7;exit'
+tells 0 'at 1: add r1, 1\nmade: -11 r0 = 0x7; 0: mov r0, 7\nit was out of reach from the opening\n' whynot --steps 11 --listing dropped.s =7
+tells 0 'at 1: add r1, 1\nit was out of reach before what is kept\n' whynot --steps 1001 --journal 1024 --listing dropped.s =7
 
 # What makes a constant, slot by slot: moves of an immediate, of 32 and 64 bits, wide loads, and stores of one to the frame, as it is there; nothing else, and
 # no store by another register. A value below 2^32 is that of the low 32 bits, as the kernel takes a verdict, a larger one that of all 64.
@@ -159,7 +198,7 @@ done
 
 # A program as long as there are, each of whose slots makes the value.
 { many 65534 'mov r0, 1'; echo exit; } > most.s
-tells 0 'exited at 65534: r0 0x1\nit was reached 2 moves back\n' whynot --listing most.s =1
+tells 0 "exited at 65534: r0 0x1\nmade: -2 r0 = 0x1; 65533: mov r0, 1\n$all_ran" whynot --listing most.s =1
 { echo exit; many 65533 'mov r0, 1'; echo exit; } > most.s
 tells 0 'exited at 0: r0 0x0\nit was out of reach from the opening\n' whynot --listing most.s =1
 
@@ -209,7 +248,7 @@ END
         tells 0 "$decided" whynot --alone --object enums.o $what
     done
     for what in PASS =PASS =2; do
-        tells 0 'exited at 6: r0 0x2\nit was reached 2 moves back\n' whynot --object enums.o $what
+        tells 0 "exited at 6: r0 0x2\nmade: -2 r0 = 0x2; 5: mov r0, 2\n$all_ran" whynot --object enums.o $what
     done
     tells 0 'exited at 6: r0 0x2\nit was reached 3 moves back\n' whynot --object enums.o prog
     for what in UNSPEC =UNSPEC ODD =ODD =3; do

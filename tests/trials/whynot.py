@@ -1,4 +1,4 @@
-"""Why a program did not come to a slot: small programs at random, each run or script, and each of their slots, against a model.
+"""Why a program did not come to a slot, or did not make a value: small programs at random, each run or script, each of their slots and values, against a model.
 
 whynot.py BPFDB COUNT [SEED]: so many programs of two to six slots. Tells where an answer is another than the model's; the last line counts. The
 model goes forwards: from each state it follows all ways of the program, with the slots to which functions return, until it finds the slot or
@@ -163,6 +163,25 @@ class Machine:
             after = before
         return 'it was out of reach from the opening', None
 
+    def made(self, goals):
+        """The line of the newest move that made a value at one of these slots, and the slots at which none did."""
+        line, left = '', set(goals)
+        for back, (before, is_step, _) in enumerate(reversed(self.moves), 1):
+            if is_step and before[0] in goals:
+                line = line or f'made: -{back} r0 = {self.program.insns[before[0]][1]:#x}; {self.program.text(before[0])}\n'
+                left.discard(before[0])
+        return line, left
+
+    def questions(self, starts, some):
+        """What is asked: slots, some of them together, and each value that an instruction makes; the goals of each, and what is told before the answer."""
+        for goals in [[s] for s in starts] + [some]:
+            yield ','.join(map(str, goals)), set(goals), ''
+        for value in range(4):
+            makers = [s for s in starts if self.program.insns[s][0] in ('mov', 'wide') and self.program.insns[s][1] == value]
+            if makers:
+                line, left = self.made(makers)
+                yield f'={value}', left, line
+
 
 def some_program(random):
     while True:
@@ -255,11 +274,10 @@ def main():
             machine, how, is_run = some_machine(chance, words, path, 0.5)
             program = machine.program
             starts = [s for s in range(len(program.insns)) if program.is_start(s)]
-            for goals in [[s] for s in starts] + [sorted(chance.sample(starts, min(2, len(starts))))]:
-                what = ','.join(map(str, goals))
-                text, back = machine.answer(set(goals))
+            for what, goals, line in machine.questions(starts, sorted(chance.sample(starts, min(2, len(starts))))):
+                text, back = machine.answer(goals) if goals else ('each instruction that makes it ran', None)
                 kinds[text.split(' ')[0] if text[0] != '-' else text.split('; ')[-1].split(' ')[0]] = 1
-                wanted = machine.place() + '\n' + text + '\n'
+                wanted = machine.place() + '\n' + line + text + '\n'
                 asked += 1
                 found = run(bpfdb, 'whynot', '--alone', *how, words, what)
                 if found == wanted:
@@ -270,7 +288,7 @@ def main():
                         found = found[:len(wanted)]
                 if found != wanted:
                     failed += 1
-                    print(f'FAILED: whynot, seed {seed}, slot {what}: {how} {machine.program.insns}\n{wanted!r}\n{found!r}')
+                    print(f'FAILED: whynot, seed {seed}, about {what}: {how} {machine.program.insns}\n{wanted!r}\n{found!r}')
     print(f'{asked} questions about {count} programs, kinds of answers {len(kinds)}: {failed} failed')
     sys.exit(failed > 0)
 

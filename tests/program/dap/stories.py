@@ -151,6 +151,10 @@ def whynot():
         hold((os.path.basename(lines[0]['source']['path']), lines[0]['instructionReference']), ('firewall.c', hex(8 * 31)), 'its place')
     place = f'({os.path.join(HERE, "firewall.c")}:47)'
     hold(editor.hand('whynot firewall.c:54').split('\n')[0], f'{branch.removesuffix(" (firewall.c:47)")} {place}', 'the branch behind a colon, with its line once')
+    for what in ('XDP_DROP', '=XDP_DROP', '=1'):
+        lines = editor.ask('bpfdb/whynot', what=what)['lines']
+        hold([line['text'] for line in lines[:2]], ['made: -7 r1 = 0x1; 59: mov r1, 1; in firewall (firewall.c:65)', branch], f'what made it, and the branch, of {what}')
+        hold([(line['source']['name'], line['line']) for line in lines[:2]], [('firewall.c', 65), ('firewall.c', 47)], f'their places, of {what}')
     hold(editor.state(), before, 'the state')
     for what, why in (('nowhere.c:54', 'there is no instruction at nowhere.c:54'),
                       ('nowhere', 'there is no instruction at nowhere: a slot, a function, a label, FILE:LINE or =VALUE'),
