@@ -1,4 +1,4 @@
-use Rattle.std.proofs.Common.{◌≡◌, length}
+use Rattle.std.proofs.Common.{◌≡◌}
 use Rattle.bpf_whynot.specs.Constants.{makers}
 use Rattle.bpf_whynot.specs.Tables.{AreGoals}
 use Rattle.bpf_whynot.proofs.Making.{has_some}

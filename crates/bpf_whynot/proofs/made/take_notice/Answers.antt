@@ -1,4 +1,4 @@
-use Rattle.std.proofs.Common.{ℕ, List, Option, sym, subst, ◌∙◌}
+use Rattle.std.proofs.Common.{ℕ, Option, sym, subst, ◌∙◌}
 use Rattle.bpf_whynot.specs.Makings.{without}
 use Rattle.bpf_whynot.specs.Tables.{AreGoals}
 use Rattle.bpf_whynot.proofs.made.take_notice.Goals as goal
