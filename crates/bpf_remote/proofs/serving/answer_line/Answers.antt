@@ -10,9 +10,9 @@ returns-in-Some g c = λ before.
 pub returns-in-Some-asked_in : goal.returns-in-Some-asked_in
 returns-in-Some-asked_in g c = λ before.
     by-why _ _ _ _ _ _ _ before c.args.digits.now _ _ c.in-None.ensures.none
-    (by-asked _ _ _ _ _ _ _ before c.args.digits.now _ _ (rw c.cpu-in-None.ensures at (sym c.asked_in.ensures ∙ c.in-Some-asked_in.is)) (c.answer_asked.ensures c.args.digits.now before))
+    (by-asked _ _ _ _ _ _ _ before c.args.digits.now _ _ (rw c.cpu.ensures at (sym c.asked_in.ensures ∙ c.in-Some-asked_in.is)) (c.answer_asked.ensures c.args.digits.now before))
 
 pub returns-in-None-asked_in : goal.returns-in-None-asked_in
 returns-in-None-asked_in g c = λ before.
     by-why _ _ _ _ _ _ _ before c.args.digits.now _ _ c.in-None.ensures.none
-    (by-asked _ _ _ _ _ _ _ before c.args.digits.now _ _ (rw c.cpu-in-None.ensures at (sym c.asked_in.ensures ∙ c.in-None-asked_in.is)) (c.answer_script.ensures before))
+    (by-asked _ _ _ _ _ _ _ before c.args.digits.now _ _ (rw c.cpu.ensures at (sym c.asked_in.ensures ∙ c.in-None-asked_in.is)) (c.answer_script.ensures before))

@@ -7,4 +7,4 @@ find-requires g c =
     rw (c.cpu.ensures, c.keeper.ensures) (record { history = way.track.history; stands = way.follows.history })
 
 pub returns : goal.returns
-returns g c = aimed g.K.Keeper.holds c.args.session.now _ c.find.result (rw (c.cpu.ensures, c.keeper.ensures) at c.find.ensures.ok) (rw c.cpu.ensures at c.find.ensures.err)
+returns g c = aimed g.K.Keeper.holds c.args.session.now c.args.text.now c.find.result (rw (c.cpu.ensures, c.keeper.ensures) at c.find.ensures.ok) (rw c.cpu.ensures at c.find.ensures.err)

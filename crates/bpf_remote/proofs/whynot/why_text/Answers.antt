@@ -1,11 +1,13 @@
-use Rattle.std.proofs.Common.{◌≡◌, ℕ, Bool, List, Some, refl, ap, subst, sym, ◌∙◌}
+use Rattle.std.proofs.Common.{◌≡◌, ℕ, Bool, List, Option, Some, false, refl, ap, subst, sym, ◌∙◌}
 use Rattle.arrayvec.specs.ArrayVec.{ArrayVec}
 use Rattle.bpf_journal.specs.Tracks.{Track}
+use Rattle.bpf_remote.specs.Origins.{question_of}
 use Rattle.bpf_remote.specs.Whynots.{query_of}
 use Rattle.bpf_session.specs.Sessions.{HasPast}
-use Rattle.bpf_whynot.specs.Answers.{Query, why_not}
+use Rattle.bpf_whynot.specs.Answers.{not_come_but, why_not}
 use Rattle.bpf_whynot.specs.Makings.{goals_left}
 use Rattle.bpf_whynot.specs.Tables.{AreGoals, told_by}
+use Rattle.bpf_whynot.specs.declared.made.Made.{Made}
 use Rattle.counted_io.specs.Counted.{Tally}
 use Rattle.bpf_remote.proofs.LineTexts.{if-ok, written}
 use Rattle.bpf_remote.proofs.whynot.why_text.Goals as goal
@@ -34,7 +36,9 @@ returns-clause-text g c = λ asked aims.
     let left = goals_left aims.0 t.history in
     let aim = aims.2 t.history past.history in
     let flags = subst (λ (flags : List Bool). AreGoals x.program left flags) (sym c.as_slice.ensures.value) aim.flags in
-    let there = rw (c.course_mut.ensures.value, c.kept.ensures t past, c.most_lines.ensures, aim.made) at (c.look_why-looked.ensures.text x.program left flags t (rw (sym c.course_mut.ensures.value) at past)) in
+    let there = rw (c.course_mut.ensures.value, c.kept.ensures t past, c.most_lines.ensures, not_come_but) at (c.look_why-looked.ensures.text x.program left flags t (rw (sym c.course_mut.ensures.value) at past)) in
     ap (λ (v : ArrayVec ℕ). v.items) c.into_inner.ensures
     ∙ written (λ (v : ArrayVec ℕ). Some v.items) _ _ _ _ _ _ _ there is
-    (ap (λ (v : Tally (ArrayVec ℕ)). Some v.inner.items) c.new-writer.ensures ∙ ap Some c.new.ensures) refl)
+    (ap (λ (v : Tally (ArrayVec ℕ)). Some v.inner.items) c.new-writer.ensures ∙ ap Some c.new.ensures) refl
+    ∙ ap (λ (m : Option Made). (why_not (told_by c.args.aim.now.reach)
+    (record { goals = left; made = m; question = question_of c.args.places c.args.moves t; alone = false }) t.history x).text) aim.made)
