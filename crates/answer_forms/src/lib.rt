@@ -19,3 +19,4 @@ pub use answer::Answer;
 pub use cut::{Pieces, begins, behind, cut_at};
 pub use graph::dot_of;
 pub use object::json_of;
+pub use string::push_quoted;

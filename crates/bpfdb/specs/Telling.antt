@@ -30,10 +30,15 @@ answer_for ask.Check = answer.Check
 answer_for (ask.Test tests) = answer.Report
 answer_for _ = answer.Run
 
+-- Objects of JSON: those of an answer, where the job doesn't write them itself.
+abbrev pub json_for : Ask → Option Telling
+json_for (ask.Conversation talk) = None
+json_for asked = Some (Json (answer_for asked))
+
 -- The form in which it is told, and its text in that.
 abbrev pub telling_in : Form → Ask → Option Telling
 telling_in form.Lines asked = None
-telling_in form.Json asked = Some (Json (answer_for asked))
+telling_in form.Json asked = json_for asked
 telling_in form.Dot asked = Some Graph
 
 abbrev pub telling_of : Plan → Option Telling

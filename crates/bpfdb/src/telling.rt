@@ -1,6 +1,6 @@
 //! What a job prints, told in another form: as objects of JSON, or as a graph.
 ghost use Rattle.std.specs.Prelude.{◌≡◌, ◌≤◌, IfOk};
-ghost use Rattle.bpfdb.specs.Telling.{EndsRetold, Retells, answer_for, told_in, telling_of};
+ghost use Rattle.bpfdb.specs.Telling.{EndsRetold, Retells, answer_for, json_for, told_in, telling_of};
 ghost use Rattle.bpfdb_faults.specs.Streams.{stream};
 ghost use Rattle.bpfdb_jobs.specs.Streams.{between};
 ghost use Rattle.bpfdb_limits.specs.Limits.{IsLimit};
@@ -29,8 +29,18 @@ pub fn telling_of(plan: &Plan<'_>) -> Option<Telling>
 {
     match plan.form {
         Form::Lines => None,
-        Form::Json => Some(Telling::Json(answer_for(&plan.ask))),
+        Form::Json => json_for(&plan.ask),
         Form::Dot => Some(Telling::Graph),
+    }
+}
+
+/// The form in which an answer is told as objects of JSON: none where the job writes them itself.
+fn json_for(ask: &Ask<'_>) -> Option<Telling>
+    ensures { result ≡ json_for ask.now }
+{
+    match ask {
+        Ask::Conversation(_) => None,
+        _ => Some(Telling::Json(answer_for(ask))),
     }
 }
 

@@ -29,6 +29,7 @@ use Rattle.bpfdb_options.specs.Subcommands.{subcommand_name}
 use Rattle.bpfdb_options.specs.TestParts.{test_part_name}
 use Rattle.bpfdb_options.specs.declared.ask.Ask.{Ask}
 use Rattle.bpfdb_options.specs.declared.ask.Ask.TheVariants as ask
+use Rattle.bpfdb_options.specs.declared.ask.ConversationAsk.{ConversationAsk}
 use Rattle.bpfdb_options.specs.declared.ask.DiffAsk.{DiffAsk}
 use Rattle.bpfdb_options.specs.declared.ask.OriginAsk.{OriginAsk}
 use Rattle.bpfdb_options.specs.declared.ask.OtherSide.{OtherSide}
@@ -127,7 +128,17 @@ pub record AsksTests (rows : List Row) (a : TestAsk) : Type 0 where
   pub tracefile : a.is_tracefile ≡ is_given (first_of (codes "cover-info") rows)
   pub anywhere : a.anywhere ≡ is_given (first_of (codes "anywhere") rows)
 
+-- Without either a script is obeyed as it is.
+pub record AsksConversation (rows : List Row) (a : ConversationAsk) : Type 0 where
+  pub asks : a.asks ≡ is_given (first_of (codes "questions") rows)
+  pub json : a.is_json ≡ is_given (first_of (codes "json") rows)
+
+abbrev pub asks_nothing : List Row → Bool
+asks_nothing rows = not (is_given (first_of (codes "questions") rows) || is_given (first_of (codes "json") rows))
+
 abbrev pub AreAsked : List Row → Ask → Type 0
+AreAsked rows ask.Debug = asks_nothing rows ≡ true
+AreAsked rows (ask.Conversation a) = AsksConversation rows a
 AreAsked rows (ask.Run strict) = strict ≡ is_given (first_of (codes "strict") rows)
 AreAsked rows (ask.Trace a) = Traces rows a
 AreAsked rows (ask.Origin a) = AsksOrigin rows a

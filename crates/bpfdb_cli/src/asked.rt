@@ -3,11 +3,12 @@ ghost use Rattle.std.specs.Prelude.{◌≡◌, IfNone, IfSome, Option, codes, op
 ghost use Rattle.clap.specs.Words.{first_of, found_of, rows_of};
 ghost use Rattle.bpfdb_cli.specs.Plans.{AreAsked, AreInRange, AsksDiff, AsksOrigin, AsksTests, AsksWhynot, NamesPart, NamesRegisters, Scopes, Traces, side_in};
 ghost use Rattle.bpfdb_options.specs.Asks.{subcommand_for};
+ghost use Rattle.bpfdb_options.specs.declared.subcommand.Subcommand.TheVariants.{Debug};
 
 use crate::values::{has_text, is_given, limit_or, number_or, text_of};
 use bpfdb_limits::GREATEST_COUNT;
 use bpfdb_options::{
-    Ask, DEFAULT_LINES, DiffAsk, OriginAsk, OtherSide, Registers, Scope, Subcommand, TestAsk,
+    Ask, ConversationAsk, DEFAULT_LINES, DiffAsk, OriginAsk, OtherSide, Registers, Scope, Subcommand, TestAsk,
     TestPart, TraceAsk, WhynotAsk,
 };
 use clap::ArgMatches;
@@ -28,7 +29,7 @@ pub fn ask_in<'a>(subcommand: Subcommand, found: &ArgMatches<'a>) -> Option<Ask<
             is_strict: is_given(found, "strict"),
         },
         Subcommand::Trace => Ask::Trace(trace),
-        Subcommand::Debug => Ask::Debug,
+        Subcommand::Debug => debug_in(found),
         Subcommand::Origin => Ask::Origin(origin_in(found, scope)),
         Subcommand::Whynot => Ask::Whynot(whynot_in(found, scope)),
         Subcommand::Diff => Ask::Diff(diff_in(found, scope)),
@@ -73,6 +74,22 @@ fn trace_in(found: &ArgMatches<'_>) -> Option<TraceAsk>
         is_calls: is_given(found, "calls"),
         is_strict: is_given(found, "strict"),
     })
+}
+
+/// Whether lines of a script may ask, and in which form replies are written.
+fn debug_in<'a>(found: &ArgMatches<'a>) -> Ask<'a>
+    ensures value { AreAsked (rows_of (found_of found.now)) result }
+    ensures subcommand { subcommand_for result ≡ Debug }
+{
+    let asked = ConversationAsk {
+        asks: is_given(found, "questions"),
+        is_json: is_given(found, "json"),
+    };
+    if asked.asks || asked.is_json {
+        Ask::Conversation(asked)
+    } else {
+        Ask::Debug
+    }
 }
 
 /// Which values are asked about.

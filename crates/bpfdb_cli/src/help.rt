@@ -102,9 +102,15 @@ Reads FILE, the context, and from standard input a script, one command a line:
                  x, disas, last-write
   end            quit
 
-Writes the reply to each command to standard output. A refused command gets a
-reply, changes nothing, and the session continues. The exit status is 0 then
-too, and where the program faulted. `man bpfdb` describes each command.";
+With --questions a line may also ask, of the session as it stands:
+
+  origin [WHAT]  where a value came from
+  whynot WHAT    why the program did not come to a slot, or to =VALUE
+
+Writes the reply to each command to standard output; with --json as an object of
+JSON, a line each, with the number of the line that it answers. A refused command
+gets a reply, changes nothing, and the session continues. The exit status is 0
+then too, and where the program faulted. `man bpfdb` describes each command.";
 
 pub const DEBUG_EXAMPLE: &str = "Example:
   $ printf 'break 1\\ncontinue\\nundo\\n' | bpfdb debug --journal 1048576 count.bin
@@ -437,6 +443,9 @@ pub const DECIDERS: &str = "Tells which branches decided that it came so";
 
 /// `--profile`.
 pub const PROFILE: &str = "Tells how often each instruction ran, and no steps";
+
+/// `--questions`.
+pub const QUESTIONS: &str = "Lines may ask: origin [WHAT], whynot WHAT";
 
 /// `--calls`.
 pub const CALLS: &str = "Tells calls of helpers and others' functions";

@@ -157,6 +157,15 @@ pub(crate) const PROFILE: CliOption<'static> = CliOption {
     long_about: "",
 };
 
+/// `--questions`.
+pub(crate) const QUESTIONS: CliOption<'static> = CliOption {
+    name: "questions",
+    takes: Takes::Nothing,
+    value: "",
+    about: help::QUESTIONS,
+    long_about: "",
+};
+
 /// `--calls`.
 pub(crate) const CALLS: CliOption<'static> = CliOption {
     name: "calls",

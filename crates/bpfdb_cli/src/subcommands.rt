@@ -101,6 +101,8 @@ pub(crate) const RUNS: [CliSubcommand<'static>; 3] = [
             options::WITH,
             options::NO_LINUX,
             options::FAITHFUL,
+            options::QUESTIONS,
+            options::JSON,
             options::PROGRAM,
         ],
     },

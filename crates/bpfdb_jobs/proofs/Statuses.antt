@@ -7,6 +7,7 @@ use Rattle.bpf_suite.specs.declared.cover.CoverForm.{CoverForm}
 use Rattle.bpfdb_faults.specs.Streams.{Stream}
 use Rattle.bpfdb_faults.specs.declared.fault.JobFault.{JobFault}
 use Rattle.bpfdb_jobs.specs.Cases as batches
+use Rattle.bpfdb_jobs.specs.Conversations as talks
 use Rattle.bpfdb_jobs.specs.Done.{Does, DoesJob, DoesLoaded, DoesPlain, Unloaded}
 use Rattle.bpfdb_jobs.specs.Endings.{Broken, EndsPrinted, EndsSession, ErrLost, Exhausted, OutLost, Printed, Refused, Served}
 use Rattle.bpfdb_jobs.specs.Jobs.{Print, Prints}
@@ -17,7 +18,8 @@ use Rattle.bpfdb_jobs.specs.Streams.{Outputs, behind}
 use Rattle.bpfdb_jobs.specs.Suites as tests
 use Rattle.bpfdb_jobs.specs.declared.job.Job.{Job}
 use Rattle.bpfdb_options.specs.declared.ask.Ask.{Ask}
-use Rattle.bpfdb_options.specs.declared.ask.Ask.TheVariants.{Run, Trace, Debug, Origin, Whynot, Diff, Gdb, Asm, Disasm, Lines, Check, Load, Link, Test, Batch}
+use Rattle.bpfdb_options.specs.declared.ask.Ask.TheVariants.{Run, Trace, Debug, Conversation, Origin, Whynot, Diff, Gdb, Asm, Disasm, Lines, Check, Load, Link, Test, Batch}
+use Rattle.bpfdb_options.specs.declared.ask.ConversationAsk.{ConversationAsk}
 use Rattle.bpfdb_options.specs.declared.ask.TestAsk.{TestAsk}
 use Rattle.bpfdb_options.specs.declared.test_part.TestPart.{TestPart}
 
@@ -58,6 +60,13 @@ module _ {R W E : Type 0} (reader : Stream R) (w : Outputs W E) where
   session_with job loaded loads Serves Breaks status (Refused refusal why r kept told two) other = absurd (other two)
   session_with job loaded loads Serves Breaks status (Broken why room breaks fails told two) other = absurd (other two)
 
+  conversation_with : (talk : ConversationAsk) (job : Job) (loaded : Loaded) → Loads job.target job.file.now loaded → (status : ℕ)
+      → talks.Converses talk job loaded reader w status → status ≢ 2 → EndsSessionWith job status
+  conversation_with talk job loaded loads status (talks.Served m to answers r spared e zero) other =
+      (loaded, record { opens = record { loads = loads; asked = m.room.asked; short = m.room.short }; sized = m.room.sized }, zero)
+  conversation_with talk job loaded loads status (talks.Refused refusal why r kept told two) other = absurd (other two)
+  conversation_with talk job loaded loads status (talks.Broken m why breaks fails told two) other = absurd (other two)
+
   batch_with : (job : Job) (status : ℕ) → batches.EndsBatch job reader w status → status ≢ 2 → EndsBatchWith job status
   batch_with job status (batches.Served b is answers r spared e zero) other = (b.maps.now, is.maps, zero)
   batch_with job status (batches.Refused refusal why only) other = absurd (other only.3)
@@ -82,6 +91,7 @@ module _ {R W E : Type 0} (reader : Stream R) (w : Outputs W E) where
   -- the status of a job over FILE's bytes or its listing
   plain_with : (s : Ask) (job : Job) (status : ℕ) → DoesPlain s job reader w status → status ≢ 2 → EndsWith s job status
   plain_with Debug job status does other = session_with job does.0 does.1 _ _ status does.2 other
+  plain_with (Conversation talk) job status does other = conversation_with talk job does.0 does.1 status does.2 other
   plain_with (Gdb registers) job status does other = session_with job does.0 does.1 _ _ status does.2 other
   plain_with Batch job status does other = batch_with job status does other
   plain_with (Test ask) job status does other = test_with ask.show ask job status does.1 other

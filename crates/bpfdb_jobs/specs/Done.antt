@@ -5,6 +5,7 @@ use Rattle.bpf_load.specs.Targets.{Loads}
 use Rattle.bpf_load.specs.declared.program.Loaded.{Loaded}
 use Rattle.bpfdb_jobs.specs.Cases.{EndsBatch}
 use Rattle.bpfdb_jobs.specs.Connections.{BreaksConnection, ServesConnection}
+use Rattle.bpfdb_jobs.specs.Conversations.{Converses}
 use Rattle.bpfdb_faults.specs.Streams.{Stream}
 use Rattle.bpfdb_jobs.specs.Endings.{EndsPrinted, EndsSession}
 use Rattle.bpfdb_faults.specs.Faults.{line_of}
@@ -18,7 +19,7 @@ use Rattle.bpfdb_jobs.specs.declared.job.Job.{Job}
 use Rattle.bpfdb_faults.specs.declared.refusal.JobRefusal.{JobRefusal}
 use Rattle.bpfdb_options.specs.declared.registers.Registers.{Registers}
 use Rattle.bpfdb_options.specs.declared.ask.Ask.{Ask}
-use Rattle.bpfdb_options.specs.declared.ask.Ask.TheVariants.{Batch, Debug, Gdb, Test}
+use Rattle.bpfdb_options.specs.declared.ask.Ask.TheVariants.{Batch, Conversation, Debug, Gdb, Test}
 
 -- A script was obeyed over a program.
 abbrev pub Debugs : {R W E : Type 0} → Job → Checked → Stream R → Stream W → Stream E → ℕ → Type 0
@@ -33,6 +34,7 @@ ServesGdb registers job loaded reader s status = EndsSession job (ServesConnecti
 -- Each other subcommand prints, and reads nothing; `batch` answers cases, `test` reports on tests, or shows a part of one.
 abbrev pub DoesPlain : {R W E : Type 0} → Ask → Job → Stream R → Outputs W E → ℕ → Type 0
 DoesPlain Debug job reader s status = (loaded : Loaded) × Loads job.target job.file.now loaded × Debugs job loaded.program reader s.output s.errors status
+DoesPlain (Conversation talk) job reader s status = (loaded : Loaded) × Loads job.target job.file.now loaded × Converses talk job loaded reader s status
 DoesPlain (Gdb registers) job reader s status = (loaded : Loaded) × Loads job.target job.file.now loaded × ServesGdb registers job loaded reader s status
 DoesPlain Batch job reader s status = EndsBatch job reader s status
 DoesPlain (Test ask) job reader s status = (reader.new ≡ reader.old) × EndsTest ask.show ask job s status

@@ -79,7 +79,7 @@ use Rattle.bpfdb_jobs.specs.declared.known.Known.{Known}
 use Rattle.bpfdb_options.specs.declared.options.Options.{Options}
 use Rattle.bpfdb_options.specs.Asks.{is_context, is_trace}
 use Rattle.bpfdb_options.specs.declared.ask.Ask.{Ask}
-use Rattle.bpfdb_options.specs.declared.ask.Ask.TheVariants.{Run, Trace, Debug, Origin, Whynot, Diff, Gdb, Asm, Disasm, Lines, Check, Load, Link, Test, Batch}
+use Rattle.bpfdb_options.specs.declared.ask.Ask.TheVariants.{Run, Trace, Debug, Conversation, Origin, Whynot, Diff, Gdb, Asm, Disasm, Lines, Check, Load, Link, Test, Batch}
 use Rattle.bpfdb_options.specs.declared.ask.DiffAsk.{DiffAsk}
 use Rattle.bpfdb_options.specs.declared.ask.OriginAsk.{OriginAsk}
 use Rattle.bpfdb_options.specs.declared.ask.TraceAsk.{TraceAsk}
@@ -314,6 +314,7 @@ HasFunctions tells job object functions = HasCode tells job object (names_of fun
 abbrev pub tells_places : Ask → Bool
 tells_places (Run strict) = true
 tells_places (Trace trace) = true
+tells_places (Conversation talk) = true
 tells_places (Origin origin) = true
 tells_places (Whynot why) = true
 tells_places (Diff diff) = true
@@ -463,6 +464,7 @@ Prints (Run strict) job a = (loaded : Loaded) × (known : Known) × Opens job lo
 Prints (Trace trace) job a = (loaded : Loaded) × (known : Known) × Opens job loaded × IsKnown job loaded.object known
     × (a ≡ trace_or_stopped (unwritten_in trace.is_strict known.own job (initial_of job loaded)) trace job known (initial_of job loaded) (run_end job loaded))
 Prints Debug job a = ⊥
+Prints (Conversation talk) job a = ⊥
 Prints (Origin origin) job a = (loaded : Loaded) × (known : Known) × (at : Arrival) × (what : Option What) × (tail : Answer) × (names : Option Names)
     × OpensSession job loaded × IsKnown job loaded.object known × (arrival_of job loaded ≡ Ok at) × Asks origin.what at.point.state what
     × IsTail origin.tells_branches (question_by known.places origin.scope at) (parts_asked at.point.state what) at.point tail

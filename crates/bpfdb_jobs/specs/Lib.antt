@@ -22,3 +22,4 @@ pub mod Streams
 pub mod Suites
 pub mod Tellings
 pub mod Whynots
+pub mod Conversations

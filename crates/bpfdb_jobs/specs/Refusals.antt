@@ -42,7 +42,7 @@ use Rattle.bpfdb_faults.specs.declared.refusal.JobRefusal.{JobRefusal}
 use Rattle.bpfdb_faults.specs.declared.refusal.JobRefusal.TheVariants.{Maps, Listing, Load, Opening, Open, OtherRun, OtherObject, OtherMap, TraceLine, Journal, What, Goal, NoPlace, Object, Functions, Tests, NoTest, Script}
 use Rattle.bpfdb_options.specs.Asks.{is_trace}
 use Rattle.bpfdb_options.specs.declared.ask.Ask.{Ask}
-use Rattle.bpfdb_options.specs.declared.ask.Ask.TheVariants.{Run, Trace, Debug, Origin, Whynot, Diff, Gdb, Asm, Disasm, Lines, Check, Load, Link, Test, Batch}
+use Rattle.bpfdb_options.specs.declared.ask.Ask.TheVariants.{Run, Trace, Debug, Conversation, Origin, Whynot, Diff, Gdb, Asm, Disasm, Lines, Check, Load, Link, Test, Batch}
 use Rattle.bpfdb_options.specs.declared.ask.DiffAsk.{DiffAsk}
 use Rattle.bpfdb_options.specs.declared.ask.OriginAsk.{OriginAsk}
 use Rattle.bpfdb_options.specs.declared.ask.WhynotAsk.{WhynotAsk}
@@ -233,6 +233,7 @@ abbrev pub RefusesAs : Ask → Job → JobRefusal → Type 0
 RefusesAs (Run strict) job refusal = RefusesMachine job refusal
 RefusesAs (Trace trace) job refusal = RefusesMachine job refusal
 RefusesAs Debug job refusal = Refuses job refusal
+RefusesAs (Conversation talk) job refusal = Refuses job refusal
 RefusesAs (Origin origin) job refusal = RefusesOrigin origin job refusal
 RefusesAs (Whynot why) job refusal = RefusesWhynot why job refusal
 RefusesAs (Diff diff) job refusal = RefusesDiff diff job refusal

@@ -11,7 +11,7 @@ use Rattle.bpfdb_jobs.specs.Shown.{Shows}
 use Rattle.bpfdb_jobs.specs.Suites.{AreTestsOf, status_of}
 use Rattle.bpfdb_jobs.specs.declared.job.Job.{Job}
 use Rattle.bpfdb_options.specs.declared.ask.Ask.{Ask}
-use Rattle.bpfdb_options.specs.declared.ask.Ask.TheVariants.{Batch, Debug, Gdb, Test}
+use Rattle.bpfdb_options.specs.declared.ask.Ask.TheVariants.{Batch, Conversation, Debug, Gdb, Test}
 use Rattle.bpfdb_options.specs.declared.ask.TestAsk.{TestAsk}
 use Rattle.bpfdb_options.specs.declared.test_part.TestPart.{TestPart}
 
@@ -32,6 +32,7 @@ EndsTestWith (Some part) ask job status = (test : List Section) × (bytes : List
 -- Each other subcommand printed.
 abbrev pub EndsWith : Ask → Job → ℕ → Type 0
 EndsWith Debug job status = EndsSessionWith job status
+EndsWith (Conversation talk) job status = EndsSessionWith job status
 EndsWith (Gdb registers) job status = EndsSessionWith job status
 EndsWith Batch job status = EndsBatchWith job status
 EndsWith (Test ask) job status = EndsTestWith ask.show ask job status

@@ -17,6 +17,7 @@ ghost use Rattle.bpfdb_jobs.specs.Streams.{between};
 
 use crate::batch::batch_job;
 use crate::check::check_job;
+use crate::conversation::conversation_job;
 use crate::debug::debug_job;
 use crate::diff::diff_job;
 use crate::gdb::gdb_job;
@@ -250,6 +251,7 @@ fn program_tool<R: Read, W: Write, E: Write>(
                 &mut streams.errors,
             )
         },
+        Ask::Conversation(ask) => conversation_job(alloc, *ask, job, loaded, known, reader, streams),
         Ask::Origin(origin) => origin_job(alloc, origin, job, loaded, known, streams),
         Ask::Whynot(why) => whynot_job(alloc, why, job, loaded, known, streams),
         Ask::Diff(diff) => diff_job(alloc, diff, job, loaded, known, streams),

@@ -63,9 +63,9 @@ pub fn gdb_job<R: Read, W: Write, E: Write>(
     session_ended(served, &mut streams.errors)
 }
 
-/// The names in the maps of the object that a program comes from, where they are known: gdb is served
+/// The names in the maps of the object that a program comes from, where they are known: a session is served
 /// without them where there is no memory for them.
-fn known_names<'a>(
+pub(crate) fn known_names<'a>(
     alloc: Global,
     job: &Job<'_>,
     object: Option<&'a LinkedObject>,

@@ -161,6 +161,7 @@ fn tells_places(ask: &Ask<'_>) -> bool
     match ask {
         Ask::Run { .. } => true,
         Ask::Trace(_) => true,
+        Ask::Conversation(_) => true,
         Ask::Origin(_) => true,
         Ask::Whynot(_) => true,
         Ask::Diff(_) => true,

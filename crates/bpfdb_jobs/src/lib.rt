@@ -5,6 +5,7 @@ mod against;
 mod batch;
 mod calls;
 mod check;
+mod conversation;
 mod cover;
 mod debug;
 mod diff;

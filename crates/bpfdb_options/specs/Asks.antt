@@ -11,6 +11,7 @@ abbrev pub subcommand_for : Ask → Subcommand
 subcommand_for (ask.Run strict) = Run
 subcommand_for (ask.Trace a) = Trace
 subcommand_for ask.Debug = Debug
+subcommand_for (ask.Conversation a) = Debug
 subcommand_for (ask.Origin a) = Origin
 subcommand_for (ask.Whynot a) = Whynot
 subcommand_for (ask.Diff a) = Diff

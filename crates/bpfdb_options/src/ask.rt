@@ -35,6 +35,15 @@ pub struct TraceAsk {
     pub is_strict: bool,
 }
 
+/// What is asked of a session, besides its replies as they are.
+#[derive(Clone, Copy)]
+pub struct ConversationAsk {
+    /// Lines may ask where a value came from and why a slot was not come to.
+    pub asks: bool,
+    /// Each reply is a line of JSON, with the number of the script's line that it answers.
+    pub is_json: bool,
+}
+
 /// What is asked of values.
 #[derive(Clone, Copy)]
 pub struct OriginAsk<'a> {
@@ -128,6 +137,8 @@ pub enum Ask<'a> {
     Trace(TraceAsk),
     /// The replies to a script of commands.
     Debug,
+    /// The same, of a script whose lines may ask, or in another form.
+    Conversation(ConversationAsk),
     /// Where a value came from.
     Origin(OriginAsk<'a>),
     /// Why the program did not come to a slot.
@@ -166,6 +177,7 @@ impl<'a> Ask<'a> {
             Ask::Run { .. } => Subcommand::Run,
             Ask::Trace(_) => Subcommand::Trace,
             Ask::Debug => Subcommand::Debug,
+            Ask::Conversation(_) => Subcommand::Debug,
             Ask::Origin(_) => Subcommand::Origin,
             Ask::Whynot(_) => Subcommand::Whynot,
             Ask::Diff(_) => Subcommand::Diff,

@@ -20,6 +20,11 @@ returns-in-Debug-clause-does g c =
     subst (λ (s : Ask). DoesPlain s c.args.job.now (stream g.R.Read.remaining c.args.reader.now c.debug_job.new.reader)
     (between g.W.Write.contents g.E.Write.contents c.args.streams.now (record { output = c.debug_job.new.writer; errors = c.debug_job.new.errors })) c.debug_job.result) (sym c.in-Debug.is) (c.args.loaded, c.requires.loaded, c.debug_job.ensures.does)
 
+pub returns-in-Conversation-clause-does : goal.returns-in-Conversation-clause-does
+returns-in-Conversation-clause-does g c =
+    subst (λ (s : Ask). DoesPlain s c.args.job.now (stream g.R.Read.remaining c.args.reader.now c.conversation_job.new.reader)
+    (between g.W.Write.contents g.E.Write.contents c.args.streams.now c.conversation_job.new.streams) c.conversation_job.result) (sym c.in-Conversation.is) (c.args.loaded, c.requires.loaded, c.conversation_job.ensures.does)
+
 pub returns-in-Origin-clause-does : goal.returns-in-Origin-clause-does
 returns-in-Origin-clause-does g c =
     subst (λ (s : Ask). DoesPlain s c.args.job.now (stream g.R.Read.remaining c.args.reader.now c.args.reader.now)

@@ -1,0 +1,3 @@
+pub mod Talking
+pub mod Telling
+pub mod Words

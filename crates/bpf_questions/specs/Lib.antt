@@ -1,0 +1,5 @@
+pub mod Inquiries
+pub mod Messages
+pub mod Conversations
+pub mod Hearing
+pub mod Failures

@@ -1,0 +1,253 @@
+//! Questions, answered by a session as it stands.
+ghost use Rattle.std.specs.Prelude.{◌≡◌, ◌-◌, ℕ, IfOk, List, codes};
+ghost use Rattle.bpf_journal.specs.Tracks.{Track};
+ghost use Rattle.bpf_origin.specs.Asked.{answer_about, parts_asked};
+ghost use Rattle.bpf_remote.specs.Origins.{ComesBack, named_by, refused_line};
+ghost use Rattle.bpf_session.specs.Sessions.{HasPast};
+ghost use Rattle.bpf_whynot.specs.Aims.{IsAim};
+ghost use Rattle.bpf_whynot.specs.Answers.{why_not};
+ghost use Rattle.bpf_whynot.specs.Asked.{goals_in};
+ghost use Rattle.bpf_whynot.specs.Tables.{told_by};
+ghost use Rattle.bpfdb_script.specs.Lines.{tokens};
+ghost use Rattle.bpf_questions.specs.Conversations as spec;
+ghost use Rattle.bpf_questions.specs.Hearing.{said_of};
+ghost use Rattle.bpf_questions.specs.Inquiries.{what_by};
+ghost use Rattle.bpf_questions.specs.declared.message.Kind.TheVariants as the_kind;
+
+use crate::inquiry::{Inquiry, Topic, what_in};
+use crate::message::{Kind, Message};
+use crate::obeying::{Heard, refused};
+use crate::view::View;
+use bpf_journal::Keeper;
+use bpf_lines::{Names, put_named};
+use bpf_machine::Cpu;
+use bpf_origin::{Question, Wanted, What, WhatFault, look_back, parts_asked};
+use bpf_session::Session;
+use bpf_whynot::{Aim, AimFault, Search, look_why};
+use counted_io::{Counted, Piece, WriteFault, put_all};
+use std::alloc::{AllocError, Global};
+
+/// An answer in memory.
+#[derive(Drop)]
+struct Found {
+    text: Vec<u8>,
+    /// How many of the moves that were taken back for it the session's keeper refused to keep again.
+    left: u64,
+}
+
+/// How it is asked of a session before whose state so many moves lie.
+fn question_of<'a, K: Keeper>(view: &View<'a>, session: &Session<K>, moves: u64) -> Question<'a>
+    ensures { (t : Track) → HasPast K.holds session.now t → result ≡ spec.question_of view.now moves t }
+{
+    Question {
+        addresses: false,
+        lines: view.lines,
+        opening: session.kept() as u64 == moves,
+        places: view.places,
+    }
+}
+
+/// What a text asks `origin` about in a machine: where it is empty, what is of interest there.
+fn what_asked(cpu: &Cpu, text: &[u8]) -> Result<Option<What>, WhatFault>
+    ensures { result ≡ spec.what_asked cpu.now text.now }
+{
+    if text.is_empty() {
+        return Ok(None);
+    }
+    match What::find(text, cpu) {
+        Ok(what) => Ok(Some(what)),
+        Err(fault) => Err(fault),
+    }
+}
+
+/// The answer where the values of a session's state came from.
+fn origin_found<K: Keeper>(
+    alloc: Global,
+    view: &View<'_>,
+    wanted: &mut Wanted,
+    session: &mut Session<K>,
+    moves: u64,
+    what: Option<What>,
+) -> Result<Found, AllocError>
+    ensures back { IfOk result (λ found. ComesBack K.holds K.refused K.room session.old session.new found.left) }
+    ensures text { IfOk result (λ found. (t : Track) → HasPast K.holds session.old t →
+        found.text.items ≡ (answer_about (spec.question_of view.now moves t)
+        (parts_asked session.old.moment.state what) t.history session.old.moment.state).text) }
+{
+    let question = question_of(view, session, moves);
+    let parts = parts_asked(session.cpu(), what);
+    let mut writer = Counted::new(Vec::new(alloc));
+    let looked = look_back(
+        session.course_mut(),
+        wanted,
+        parts.as_slice(),
+        question,
+        &mut writer,
+        Ok(()),
+    );
+    match looked.written {
+        Ok(()) => Ok(Found {
+            text: writer.into_inner(),
+            left: looked.left,
+        }),
+        Err(WriteFault) => Err(AllocError),
+    }
+}
+
+/// The answer why a session's program did not come to some slots.
+fn whynot_found<K: Keeper>(
+    alloc: Global,
+    view: &View<'_>,
+    wanted: &mut Wanted,
+    session: &mut Session<K>,
+    moves: u64,
+    aim: &Aim,
+) -> Result<Found, AllocError>
+    ensures back { (asked : List ℕ) → IsAim session.old.moment.state.program asked aim.now →
+        IfOk result (λ found. ComesBack K.holds K.refused K.room session.old session.new found.left) }
+    ensures text { (asked : List ℕ) (aims : IsAim session.old.moment.state.program asked aim.now) →
+        IfOk result (λ found. (t : Track) → HasPast K.holds session.old t →
+        found.text.items ≡ (why_not (told_by aim.now.reach) (spec.query_of view.now moves aims.goals t)
+        t.history session.old.moment.state).text) }
+{
+    let search = Search {
+        reach: &aim.reach,
+        goals: aim.goals.as_slice(),
+        question: question_of(view, session, moves),
+        alone: false,
+    };
+    let mut writer = Counted::new(Vec::new(alloc));
+    let looked = look_why(session.course_mut(), &search, wanted, &mut writer, Ok(()));
+    match looked.written {
+        Ok(()) => Ok(Found {
+            text: writer.into_inner(),
+            left: looked.left,
+        }),
+        Err(WriteFault) => Err(AllocError),
+    }
+}
+
+/// A text with the names of the places that it tells, where they are known.
+fn named(alloc: Global, names: Option<&Names<'_>>, text: Vec<u8>) -> Result<Vec<u8>, AllocError>
+    ensures { IfOk result (λ named. named.items ≡ named_by names.entry text.items) }
+{
+    let Some(names) = names else {
+        return Ok(text);
+    };
+    let mut writer = Counted::new(Vec::new(alloc));
+    match put_named(&mut writer, Ok(()), names, text.as_slice()) {
+        Ok(()) => Ok(writer.into_inner()),
+        Err(WriteFault) => Err(AllocError),
+    }
+}
+
+/// An answer as it is said, behind which so many moves fewer lie before the state.
+fn said(
+    alloc: Global,
+    view: &View<'_>,
+    found: Found,
+    moves: u64,
+) -> Result<(Heard, u64), AllocError>
+    ensures { IfOk result (λ heard. (said_of heard.0 ≡ spec.says the_kind.Answer (named_by view.now.names found.text.items))
+        × (heard.1 ≡ moves - found.left)) }
+{
+    let Found { text, left } = found;
+    let text = named(alloc, view.names, text)?;
+    let message = Message {
+        kind: Kind::Answer,
+        text,
+    };
+    Ok((Heard::Says(message), moves.saturating_sub(left)))
+}
+
+/// That a question is refused.
+fn refused_question(alloc: Global, number: u8, text: &str) -> Result<Heard, AllocError>
+    ensures { IfOk result (λ heard. said_of heard ≡ spec.says the_kind.Refused
+        (refused_line (codes "refused V") number text.now)) }
+{
+    let pieces = [
+        Piece::Text(b"refused V"),
+        Piece::Decimal(u64::from(number)),
+        Piece::Text(b": "),
+        Piece::Text(text.as_bytes()),
+        Piece::Text(b"\n"),
+    ];
+    let mut writer = Counted::new(Vec::new(alloc));
+    match put_all(&mut writer, Ok(()), &pieces) {
+        Ok(()) => Ok(Heard::Says(Message {
+            kind: Kind::Refused,
+            text: writer.into_inner(),
+        })),
+        Err(WriteFault) => Err(AllocError),
+    }
+}
+
+/// Answers where the values came from that a text names.
+fn answer_origin<K: Keeper>(
+    alloc: Global,
+    view: &View<'_>,
+    wanted: &mut Wanted,
+    session: &mut Session<K>,
+    moves: u64,
+    text: &[u8],
+) -> Result<(Heard, u64), AllocError>
+    ensures { IfOk result (λ heard. spec.AnswersOrigin K.holds K.refused K.room view.now (session.old, moves)
+        (session.new, heard.1) (spec.what_asked session.old.moment.state text.now) (said_of heard.0)) }
+{
+    match what_asked(session.cpu(), text) {
+        Ok(what) => {
+            let found = origin_found(alloc, view, wanted, session, moves, what)?;
+            said(alloc, view, found, moves)
+        }
+        Err(fault) => Ok((
+            refused_question(alloc, fault.number(), fault.text())?,
+            moves,
+        )),
+    }
+}
+
+/// Answers why the program did not come to the slots that a text names.
+fn answer_whynot<K: Keeper>(
+    alloc: Global,
+    view: &View<'_>,
+    wanted: &mut Wanted,
+    session: &mut Session<K>,
+    moves: u64,
+    text: &[u8],
+) -> Result<(Heard, u64), AllocError>
+    ensures { IfOk result (λ heard. spec.AnswersWhynot K.holds K.refused K.room view.now (session.old, moves)
+        (session.new, heard.1) (goals_in session.old.moment.state.program text.now) (said_of heard.0)) }
+{
+    match Aim::find(alloc, session.cpu().program(), text) {
+        Ok(aim) => {
+            let found = whynot_found(alloc, view, wanted, session, moves, &aim)?;
+            said(alloc, view, found, moves)
+        }
+        Err(AimFault::Goal(fault)) => Ok((
+            refused_question(alloc, fault.number(), fault.text())?,
+            moves,
+        )),
+        Err(AimFault::OutOfMemory) => Err(AllocError),
+    }
+}
+
+/// Answers a question to a session before whose state so many moves lie. Says how many lie before it then.
+pub(crate) fn answer<K: Keeper>(
+    alloc: Global,
+    view: &View<'_>,
+    wanted: &mut Wanted,
+    session: &mut Session<K>,
+    moves: u64,
+    inquiry: Inquiry<'_>,
+) -> Result<(Heard, u64), AllocError>
+    ensures { IfOk result (λ heard. spec.AnswersInquiry K.holds K.refused K.room view.now (session.old, moves)
+        (session.new, heard.1) inquiry.entry.topic (what_by (tokens inquiry.entry.words.now)) (said_of heard.0)) }
+{
+    match what_in(inquiry.words) {
+        Ok(text) => match inquiry.topic {
+            Topic::Origin => answer_origin(alloc, view, wanted, session, moves, text),
+            Topic::Whynot => answer_whynot(alloc, view, wanted, session, moves, text),
+        },
+        Err(refusal) => Ok((refused(alloc, refusal)?, moves)),
+    }
+}

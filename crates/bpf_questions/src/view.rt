@@ -1,0 +1,20 @@
+//! What a session is asked with.
+
+use crate::message::Form;
+use bpf_lines::Names;
+use bpfdb_script::SlotTexts;
+
+/// What a session is asked with.
+#[derive(Clone, Copy)]
+pub struct View<'a> {
+    /// Whether lines may ask; else a question is a line like another, and no command.
+    pub asks: bool,
+    /// The form of replies.
+    pub form: Form,
+    /// The most lines of moves that an answer tells.
+    pub lines: u64,
+    /// The names of the places in maps that an answer tells, where they are known.
+    pub names: Option<&'a Names<'a>>,
+    /// Where each slot stands in C, where that is known: it ends the lines of moves.
+    pub places: SlotTexts<'a>,
+}
