@@ -153,7 +153,7 @@ class Adapter(BreakpointRequests, WayRequests, StateRequests, CommandRequests):
         try:
             if gdb:
                 machine.history.forward(gdb.call('load', loaded.for_gdb))
-            machine.ask('')
+            machine.ask('info history')
             machine.read_code()
             if not gdb and loaded.source.has_setup():
                 self.go_to_entry(machine)

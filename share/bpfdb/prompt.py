@@ -67,7 +67,7 @@ class Prompt:
 
     def session(self):
         """Obeys each line to the end of input or `quit`."""
-        self.program.ask('')
+        self.program.ask('info history')
         self.greet()
         last = ''
         for typed in self.lines():

@@ -1,16 +1,21 @@
 """How bpfdb is spoken to: its lines and its replies."""
 
 import contextlib
+import json
 import os
 import re
 import subprocess
 
-from bpfdb.texts import in_memory
+from bpfdb.texts import in_memory, path_of
 
 # The bytes that a journal may have. (docs/JOURNAL.md)
 LARGEST_JOURNAL = 16777216
-# Commands of bpfdb that change nothing.
-SHOWS = ('info', 'x', 'disas', 'last-write')
+# Commands of bpfdb that change nothing, and questions.
+SHOWS = ('info', 'x', 'disas', 'last-write', 'origin', 'whynot')
+# What a session is asked about of `whynot`: slots, or the value that they make.
+ASKED = re.compile(r'[0-9]+(,[0-9]+)*|=[0-9a-fx]+(,[0-9]*){0,2}')
+# mov r0, 42; exit: the program where none is named.
+BUILT_IN = bytes.fromhex('b70000002a000000' '9500000000000000')
 # The mnemonics of instructions that take two slots.
 WIDE = ('lddw', 'ldmap', 'ldmapval')
 MOVE = re.compile(r'(\d+) (forward|back|redone); (\w+); (.*)')
@@ -27,31 +32,43 @@ class Hint(Exception):
 
 
 class Program:
-    """bpfdb, to which lines are sent and whose replies are read. A reply ends where two lines behind it are refused."""
+    """bpfdb, to which lines are sent and whose replies are read, each a line of JSON."""
 
     def __init__(self, subject):
         # how many moves lie before the state and the most that did, and the lines that led there
         self.subject, self.moves, self.most, self.lines = subject, 0, 0, []
         # (a file, since nothing reads it before the end; and a group of its own: an interrupt doesn't end it)
         self.errors = in_memory()
-        self.child = subprocess.Popen(subject.line('debug'), stdin=subprocess.PIPE, stdout=subprocess.PIPE, stderr=self.errors, text=True,
-                                      pass_fds=[file.fileno() for file in subject.kept], encoding='utf-8', errors='surrogateescape',
+        words, kept = ['debug', '--questions', '--json'], subject.kept
+        if subject.path is None:
+            kept = [*kept, in_memory()]
+            kept[-1].write(BUILT_IN)
+            kept[-1].flush()
+            line = [subject.words.program, *words, path_of(kept[-1])]
+        else:
+            line = subject.line(*words)
+        self.child = subprocess.Popen(line, stdin=subprocess.PIPE, stdout=subprocess.PIPE, stderr=self.errors, text=True,
+                                      pass_fds=[file.fileno() for file in kept], encoding='utf-8', errors='surrogateescape',
                                       preexec_fn=os.setpgrp)
 
     def ask(self, line):
         """The lines of the reply."""
         try:
-            self.child.stdin.write(line + '\n?\nstepi ?\n')
+            self.child.stdin.write(line + '\n')
             self.child.stdin.flush()
         except OSError:
             raise Ended from None
-        reply = []
-        for text in self.child.stdout:
-            reply.append(text.rstrip('\n'))
-            if reply[-2:] == ['refused Q1: unknown command', 'refused Q2: wrong argument']:
-                self.count(line, reply[:-2])
-                return reply[:-2]
-        raise Ended
+        # (a line without words has no reply)
+        reply = [text for part in line.split('\n') if part.strip(' \t\r') for text in self.reply()]
+        self.count(line, reply)
+        return reply
+
+    def reply(self):
+        """The lines of the next reply."""
+        text = self.child.stdout.readline()
+        if not text.endswith('\n'):
+            raise Ended
+        return json.loads(text)['text'].split('\n')[:-1]
 
     def count(self, line, reply):
         """Counts the moves of a line by its reply, and keeps the line if it was obeyed and does more than to show something."""
@@ -83,15 +100,18 @@ class Program:
         return self.asked('origin', what)
 
     def asked(self, of, what):
-        """What a subcommand says of the session of these lines, over a journal of the same size, and the words for it."""
+        """What the session answers, and the words for it. A place of C or of a listing is known to a subcommand alone: it is asked of the session of
+        these lines, over a journal of the same size."""
         subject = self.subject
+        if of == 'origin' or all(ASKED.fullmatch(word) for word in what):
+            return [of, *what], self.ask(' '.join([of, *what]))
         if subject.path is None:
             raise Hint('the program that is built in has no file')
         journal = [] if subject.words.has('--journal') else ['--journal', self.ask('info history')[0].split()[-2]]
         line = [*subject.line(of, *journal, '--script', '/dev/stdin'), *what]
         done = subprocess.run(line, input=''.join(line + '\n' for line in self.lines), capture_output=True, text=True,
                               pass_fds=[file.fileno() for file in subject.kept], encoding='utf-8', errors='surrogateescape')
-        return line[1:], done.stdout.splitlines()[1:] if done.stdout else done.stderr.splitlines()
+        return ['bpfdb', *line[1:]], done.stdout.splitlines()[1:] if done.stdout else done.stderr.splitlines()
 
     def end(self):
         """The exit status and what went to standard error, after the end of its input. (It has no prompt there: what comes is a line, or

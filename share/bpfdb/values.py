@@ -163,7 +163,7 @@ class Values:
 
     def tell_answer(self, name, asked, reply):
         """The lines of an answer, those of moves with their lines of source."""
-        self.announce(f"bpfdb {' '.join(word for word in asked if word != '--')}")
+        self.announce(' '.join(word for word in asked if word != '--'))
         for text in reply:
             slot = re.match(r'(?:made: )?-\d+ (?:.*?; )?(\d+): ', text)
             file, at, _ = self.source.lines.get(int(slot[1]) if slot else -1, ('', 0, ''))
