@@ -5,9 +5,9 @@ use Rattle.bpf_entries.specs.Keeping.{Kept}
 use Rattle.bpf_journal.specs.Tracks.{Track}
 use Rattle.bpf_remote.specs.Origins.{ComesBack, named_by}
 use Rattle.bpf_session.specs.Sessions.{HasPast, SessionValue}
-use Rattle.bpf_whynot.specs.Aims.{IsAim}
+use Rattle.bpf_whynot.specs.Aims.{AimsAt}
 use Rattle.bpf_whynot.specs.Answers.{why_not}
-use Rattle.bpf_whynot.specs.Asked.{goals_in}
+use Rattle.bpf_whynot.specs.Asked.{Goals, goals_in}
 use Rattle.bpf_whynot.specs.Tables.{told_by}
 use Rattle.bpf_whynot.specs.declared.aim.Aim.{Aim}
 use Rattle.bpf_whynot.specs.declared.fault.GoalFault.{GoalFault}
@@ -67,14 +67,14 @@ module _ {K : Type 0} (holds : K → List Kept → Type 0) (refusals room : K �
 
   -- why a slot was not come to
   pub answers-whynot : {E : Type 0} (r : Result (Heard × ℕ) E) (old : Stand holds refusals room) (new : SessionValue K) (asked text : List ℕ) (aim : Aim) (left : ℕ)
-      → (aims : IsAim old.0.moment.state.program asked aim) → ComesBack holds refusals room old.0 new left
-      → ((t : Track) → HasPast holds old.0 t → text ≡ (why_not (told_by aim.reach) (query_of v old.1 aims.goals t) t.history old.0.moment.state).text)
+      → (aims : AimsAt holds old.0.moment.keeper old.0.moment.state asked aim) → ComesBack holds refusals room old.0 new left
+      → ((t : Track) → HasPast holds old.0 t → text ≡ (why_not (told_by aim.reach) (query_of v old.1 aims.0 t old.0.moment.state) t.history old.0.moment.state).text)
       → IfOk r (λ heard. (said_of heard.0 ≡ says kind.Answer (named_by v.names text)) × (heard.1 ≡ old.1 - left))
       → IfOk r (λ heard. AnswersWhynot holds refusals room v old (new, heard.1) (goals_in old.0.moment.state.program asked) (said_of heard.0))
   answers-whynot (Ok heard) old new asked text aim left aims back texts (is, moves) =
-      subst (λ (goals : Result (List ℕ) GoalFault). AnswersWhynot holds refusals room v old (new, heard.1) goals (said_of heard.0)) (sym aims.named) (
+      subst (λ (goals : Result Goals GoalFault). AnswersWhynot holds refusals room v old (new, heard.1) goals (said_of heard.0)) (sym aims.1) (
         told_by aim.reach,
-        aims.tells,
+        (λ t past. (aims.2 t.history past.history).tells),
         record {
           left = left;
           back = back;

@@ -17,7 +17,8 @@ use Rattle.bpf_session.specs.Runs.{Exchange, Leaves, Wrote}
 use Rattle.bpf_session.specs.Sessions.{HasPast, SessionValue, bounds_of, point_of}
 use Rattle.bpf_session.specs.declared.reply.Reply.{Reply}
 use Rattle.bpf_whynot.specs.Answers.{Query, why_not}
-use Rattle.bpf_whynot.specs.Asked.{goals_in}
+use Rattle.bpf_whynot.specs.Asked.{Goals, goals_in}
+use Rattle.bpf_whynot.specs.Makings.{goals_left, made_last}
 use Rattle.bpf_whynot.specs.Reach.{TellsReach}
 use Rattle.bpf_whynot.specs.declared.fault.AimFault.TheVariants.{Goal}
 use Rattle.bpf_whynot.specs.declared.fault.GoalFault.{GoalFault}
@@ -68,15 +69,20 @@ what_asked x (byte ∷ bytes) = some_what (what_in x (byte ∷ bytes))
 abbrev pub question_of : View → ℕ → Track → Question
 question_of v moves t = record { addresses = false; lines = v.lines; opening = length t.history == moves; places = v.places }
 
-abbrev pub query_of : View → ℕ → List ℕ → Track → Query
-query_of v moves goals t = record { goals = goals; question = question_of v moves t; alone = false }
+abbrev pub query_of : View → ℕ → Goals → Track → State → Query
+query_of v moves goals t x = record {
+  goals = goals_left goals t.history;
+  made = made_last goals t.history x;
+  question = question_of v moves t;
+  alone = false;
+}
 
 -- The texts of the answers, with the names that are known.
 abbrev pub origin_text : View → ℕ → Option What → Track → State → List ℕ
 origin_text v moves what t x = named_by v.names (answer_about (question_of v moves t) (parts_asked x what) t.history x).text
 
-abbrev pub whynot_text : View → ℕ → (ℕ → List ℕ → Bool) → List ℕ → Track → State → List ℕ
-whynot_text v moves can goals t x = named_by v.names (why_not can (query_of v moves goals t) t.history x).text
+abbrev pub whynot_text : View → ℕ → (ℕ → List ℕ → Bool) → Goals → Track → State → List ℕ
+whynot_text v moves can goals t x = named_by v.names (why_not can (query_of v moves goals t x) t.history x).text
 
 module _ {K : Type 0} (holds : K → List Kept → Type 0) (refusals room : K → ℕ) where
   -- A session, with how many moves lie before its state: those that are kept, and those that the journal dropped.
@@ -110,9 +116,10 @@ module _ {K : Type 0} (holds : K → List Kept → Type 0) (refusals room : K �
   AnswersOrigin v old new (Err fault) said = Refuses old new (what_refusal fault) said
   AnswersOrigin v old new (Ok what) said = Answers old new (λ t. origin_text v old.1 what t old.0.moment.state) said
 
-  abbrev pub AnswersWhynot : View → Stand → Stand → Result (List ℕ) GoalFault → Said → Type 0
+  abbrev pub AnswersWhynot : View → Stand → Stand → Result Goals GoalFault → Said → Type 0
   AnswersWhynot v old new (Err fault) said = Refuses old new (aim_refusal (Goal fault)) said
-  AnswersWhynot v old new (Ok goals) said = (can : ℕ → List ℕ → Bool) × TellsReach old.0.moment.state.program goals can
+  AnswersWhynot v old new (Ok goals) said = (can : ℕ → List ℕ → Bool)
+      × ((t : Track) → HasPast holds old.0 t → TellsReach old.0.moment.state.program (goals_left goals t.history) can)
       × Answers old new (λ t. whynot_text v old.1 can goals t old.0.moment.state) said
 
   abbrev pub AnswersAbout : View → Stand → Stand → Topic → List ℕ → Said → Type 0

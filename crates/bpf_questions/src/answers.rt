@@ -1,10 +1,10 @@
 //! Questions, answered by a session as it stands.
-ghost use Rattle.std.specs.Prelude.{◌≡◌, ◌-◌, ℕ, IfOk, List, codes};
+ghost use Rattle.std.specs.Prelude.{◌≡◌, ◌-◌, ℕ, IfErr, IfOk, List, codes};
 ghost use Rattle.bpf_journal.specs.Tracks.{Track};
 ghost use Rattle.bpf_origin.specs.Asked.{answer_about, parts_asked};
 ghost use Rattle.bpf_remote.specs.Origins.{ComesBack, named_by, refused_line};
 ghost use Rattle.bpf_session.specs.Sessions.{HasPast};
-ghost use Rattle.bpf_whynot.specs.Aims.{IsAim};
+ghost use Rattle.bpf_whynot.specs.Aims.{AimsAt, IsNoAim};
 ghost use Rattle.bpf_whynot.specs.Answers.{why_not};
 ghost use Rattle.bpf_whynot.specs.Asked.{goals_in};
 ghost use Rattle.bpf_whynot.specs.Tables.{told_by};
@@ -94,6 +94,15 @@ fn origin_found<K: Keeper>(
     }
 }
 
+/// What a text asks `whynot` about of a session, and from where its program can come there.
+fn aim_at<K: Keeper>(alloc: Global, session: &Session<K>, text: &[u8]) -> Result<Aim, AimFault>
+    ensures ok { IfOk result (AimsAt K.holds session.now.moment.keeper session.now.moment.state text.now) }
+    ensures err { IfErr result (IsNoAim session.now.moment.state.program text.now) }
+{
+    session.invariant();
+    Aim::find(alloc, session.cpu(), session.keeper(), text)
+}
+
 /// The answer why a session's program did not come to some slots.
 fn whynot_found<K: Keeper>(
     alloc: Global,
@@ -103,16 +112,19 @@ fn whynot_found<K: Keeper>(
     moves: u64,
     aim: &Aim,
 ) -> Result<Found, AllocError>
-    ensures back { (asked : List ℕ) → IsAim session.old.moment.state.program asked aim.now →
+    ensures back { (asked : List ℕ) → AimsAt K.holds session.old.moment.keeper session.old.moment.state asked aim.now →
         IfOk result (λ found. ComesBack K.holds K.refused K.room session.old session.new found.left) }
-    ensures text { (asked : List ℕ) (aims : IsAim session.old.moment.state.program asked aim.now) →
-        IfOk result (λ found. (t : Track) → HasPast K.holds session.old t →
-        found.text.items ≡ (why_not (told_by aim.now.reach) (spec.query_of view.now moves aims.goals t)
+    ensures text { (asked : List ℕ)
+        (aims : AimsAt K.holds session.old.moment.keeper session.old.moment.state asked aim.now) →
+        IfOk result (λ found. (t : Track) → HasPast K.holds session.old t → found.text.items
+        ≡ (why_not (told_by aim.now.reach) (spec.query_of view.now moves aims.0 t session.old.moment.state)
         t.history session.old.moment.state).text) }
 {
+    session.invariant();
     let search = Search {
         reach: &aim.reach,
         goals: aim.goals.as_slice(),
+        made: aim.made,
         question: question_of(view, session, moves),
         alone: false,
     };
@@ -218,7 +230,7 @@ fn answer_whynot<K: Keeper>(
     ensures { IfOk result (λ heard. spec.AnswersWhynot K.holds K.refused K.room view.now (session.old, moves)
         (session.new, heard.1) (goals_in session.old.moment.state.program text.now) (said_of heard.0)) }
 {
-    match Aim::find(alloc, session.cpu().program(), text) {
+    match aim_at(alloc, session, text) {
         Ok(aim) => {
             let found = whynot_found(alloc, view, wanted, session, moves, &aim)?;
             said(alloc, view, found, moves)
