@@ -29,7 +29,7 @@ trap 'exit 130' HUP INT TERM
 
 # all_parts: each part, those that take longest first.
 all_parts() {
-    printf '%s\n' fuzz faults page wasm memory hostile transcripts rings limits context captures kernels convert calls callees trace gdb dap linux machine headers join counts turns target options road kinds load runs journal libraries listings bugs objects links direct named tracefile suite session opening origin branches names places whynot diff strict json pieces usage refusals results remote lines shell editors conformance symbols jobs install dist files streams build batch
+    printf '%s\n' fuzz faults page wasm memory hostile transcripts rings limits context captures kernels convert calls callees trace gdb dap linux machine headers join counts turns target options road kinds load runs journal libraries listings bugs objects links direct named tracefile suite session questions opening origin branches names places whynot diff strict json pieces usage refusals results remote lines shell editors conformance symbols jobs install dist files streams build batch
 }
 
 # total: the last lines of the parts, added up. Fails where a test failed, or a part has no such line.

@@ -38,7 +38,7 @@ TABLE
 }
 
 # The options of help that say nothing of that: how much runs, how the answer is told, what FILE is, and what else is read.
-others='--steps --strict --from --count --branches --profile --calls --journal --words --listing --object --script --lines --addresses --alone --registers
+others='--steps --strict --from --count --branches --profile --calls --questions --journal --words --listing --object --script --lines --addresses --alone --registers
     --json --dot --other-mem --other-packet --trace --writes --only --show --cover --cover-info --anywhere --relocatable --output --help'
 
 running='run trace debug origin whynot diff gdb'

@@ -95,7 +95,7 @@ if has python3 'bpfdb-shell'; then
     plainly 'numbers that are too large' 0 "p $digits\nb x.s:$digits\nx/${digits}xb 0\nb 18446744073709551616\np 18446744073709551616\np 18446744073709551615\n" \
         'refused Q12: line too long\nrefused Q12: line too long\nrefused Q12: line too long\nrefused Q2: wrong argument\n18446744073709551615 = 0xffffffffffffffff (-1)\n' \
         'bpfdb-shell: no value: 18446744073709551616 (a register as $r0, a number, a label, or a sum of them)\n'
-    plainly 'a byte zero' 0 'si\norigin r0\0000\n' '1 forward; done; at 1: exit\nrefused Q1: unknown command\n' '' plain.s
+    plainly 'a byte zero' 0 'si\norigin r0\0000\n' '1 forward; done; at 1: exit\nrefused V1: neither r0 to r9 nor ADDRESS:COUNT\n' '' plain.s
     plainly 'bytes that a terminal obeys' 0 'p \0033]0;T\0007\0302\0233\0342\0200\0256\0233\n' '' \
         'bpfdb-shell: no value: \\x1b]0;T\\x07\\xc2\\x9b\\xe2\\x80\\xae\\x9b (a register as $r0, a number, a label, or a sum of them)\n'
     plainly 'a listing with a control byte' 2 's\n' '' 'refused A6 at line 2: byte outside ASCII text\n' control.s
@@ -302,14 +302,14 @@ esac
 SCRIPT
     chmod 755 noted
     for row in \
-        '-m context overrun.o|load --json -- KEPT|debug -m context -- KEPT' \
-        '--section filter overrun.o --steps 9|load --section filter --json -- KEPT|debug --section filter --steps 9 -- KEPT' \
-        '--steps=9 --no-linux overrun.o|load --no-linux --json -- KEPT|debug --steps=9 --no-linux -- KEPT' \
-        '--entry=entry --object -mcontext --section filter --maps=1x1 overrun.o|lines --entry=entry --object --section filter --json -- KEPT|link --entry=entry --section filter -- KEPT|load --maps=1x1 --json -- KEPT|debug -mcontext --maps=1x1 -- KEPT' \
-        '--helper 5=0,14=-1 --struct xdp --with mock.o overrun.o|load --helper 5=0,14=-1 --struct xdp --with mock.o --json -- KEPT|debug --helper 5=0,14=-1 --struct xdp --with mock.o -- KEPT' \
-        '--journal=1024 sum.s|load --json -- sum.s|debug --journal=1024 -- sum.s' \
-        '--listing -m context -- sum.s|load --listing --json -- sum.s|debug --listing -m context -- sum.s' \
-        '--entry entry context|load --entry entry --json -- context|debug --entry entry -- context'; do
+        '-m context overrun.o|load --json -- KEPT|debug -m context --questions --json -- KEPT' \
+        '--section filter overrun.o --steps 9|load --section filter --json -- KEPT|debug --section filter --steps 9 --questions --json -- KEPT' \
+        '--steps=9 --no-linux overrun.o|load --no-linux --json -- KEPT|debug --steps=9 --no-linux --questions --json -- KEPT' \
+        '--entry=entry --object -mcontext --section filter --maps=1x1 overrun.o|lines --entry=entry --object --section filter --json -- KEPT|link --entry=entry --section filter -- KEPT|load --maps=1x1 --json -- KEPT|debug -mcontext --maps=1x1 --questions --json -- KEPT' \
+        '--helper 5=0,14=-1 --struct xdp --with mock.o overrun.o|load --helper 5=0,14=-1 --struct xdp --with mock.o --json -- KEPT|debug --helper 5=0,14=-1 --struct xdp --with mock.o --questions --json -- KEPT' \
+        '--journal=1024 sum.s|load --json -- sum.s|debug --journal=1024 --questions --json -- sum.s' \
+        '--listing -m context -- sum.s|load --listing --json -- sum.s|debug --listing -m context --questions --json -- sum.s' \
+        '--entry entry context|load --entry entry --json -- context|debug --entry entry --questions --json -- context'; do
         : > called
         # (the words have no blanks)
         # shellcheck disable=SC2086
