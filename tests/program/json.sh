@@ -179,7 +179,7 @@ refused 'refused A1 at line 1: unknown mnemonic' run --json --listing bad.s
 refused 'cannot read none.s' trace --json --listing none.s
 usage "unexpected argument '--json' found" link --json p.s
 usage "unexpected argument '--json' found" asm --json p.s
-usage "unexpected argument '--json' found" debug --json p.s
+usage "unexpected argument '--json' found" gdb --json p.s
 usage "unexpected argument '--json' found" gdb --json p.s
 usage "unexpected argument '--json' found" batch --json
 usage "the argument '--show <PART>' cannot be used with '--json'" test --show program --json p.s
