@@ -1,5 +1,5 @@
 -- What becomes of a job whose answer is told in another form: as objects of JSON, or as a graph.
-use Rattle.std.specs.Prelude.{ℕ, ◌≡◌, List, [], Vec, Option, Some, None, if◌then◌else◌}
+use Rattle.std.specs.Prelude.{ℕ, ◌≡◌, Bool, true, false, List, [], Vec, Option, Some, None, if◌then◌else◌}
 use Rattle.std.specs.declared.alloc.Global.{Global}
 use Rattle.bpfdb_cli.specs.declared.plans.Form.{Form}
 use Rattle.bpfdb_cli.specs.declared.plans.Form.TheVariants as form
@@ -18,6 +18,12 @@ use Rattle.answer_forms.specs.Graphs.{dot_of}
 use Rattle.answer_forms.specs.Objects.{json_of}
 use Rattle.answer_forms.specs.declared.answer.Answer.{Answer}
 use Rattle.answer_forms.specs.declared.answer.Answer.TheVariants as answer
+
+-- Whether lines of a script are obeyed.
+abbrev pub obeys_script : Ask → Bool
+obeys_script ask.Debug = true
+obeys_script (ask.Conversation talk) = true
+obeys_script asked = false
 
 -- What is printed, by what is asked.
 abbrev pub answer_for : Ask → Answer

@@ -1,12 +1,12 @@
 //! The program: a debugger that runs a BPF program (RFC 9669) forwards and backwards.
 #![tactic(auto)]
 
-ghost use Rattle.std.specs.Prelude.{◌≡◌, ◌≢◌, ◌≤◌, IsTrue, map, string_bytes};
+ghost use Rattle.std.specs.Prelude.{◌≡◌, ◌≢◌, ◌≤◌, IsTrue, map, string_bytes, true};
 ghost use Rattle.bpfdb.specs.Done.{EndsPlanWith};
 ghost use Rattle.bpfdb.specs.Words.{IsStatusOf};
 ghost use Rattle.bpfdb_cli.specs.Plans.{status_of};
 ghost use Rattle.bpfdb_limits.specs.Limits.{IsLimit};
-ghost use Rattle.bpfdb_options.specs.declared.ask.Ask.TheVariants.{Debug};
+ghost use Rattle.bpfdb.specs.Telling.{obeys_script};
 
 mod contexts;
 mod doing;
@@ -232,10 +232,11 @@ fn do_over<'a, F: Opener, R: Read, W: Write>(
 
 /// Whether commands are typed: the plan reads them, and standard input is a terminal.
 fn is_typed(rt: &HostRuntime, plan: &Plan<'_>) -> bool
-    ensures { IsTrue result → plan.now.ask ≡ Debug }
+    ensures { IsTrue result → obeys_script plan.now.ask ≡ true }
 {
     match &plan.ask {
         Ask::Debug => rt.stdin().is_terminal(),
+        Ask::Conversation(talk) => !talk.is_json && rt.stdin().is_terminal(),
         _ => false,
     }
 }
