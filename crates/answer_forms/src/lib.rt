@@ -18,5 +18,6 @@ mod tellers;
 pub use answer::Answer;
 pub use cut::{Pieces, begins, behind, cut_at};
 pub use graph::dot_of;
+pub use moves::push_pieces as push_places;
 pub use object::json_of;
 pub use string::push_quoted;

@@ -1,6 +1,8 @@
 pub mod Stepping
 pub mod Lines
 pub mod Steps
+pub mod Heads
+pub mod Members
 pub mod Branching
 pub mod Calling
 pub mod Counting

@@ -1,6 +1,8 @@
 -- Lines that are written one a turn.
-use Rattle.std.proofs.Common.{◌≡◌, ◌+◌, ◌-◌, ◌<◌, ℕ, suc, min, true, false, List, [], ◌++◌, drop, take, Option, Result, Ok, Err, sym, ap, subst, ◌∙◌, refl, arith, append_assoc, inl, inr}
+use Rattle.std.proofs.Common.{◌≡◌, ◌+◌, ◌-◌, ◌<◌, ℕ, Bool, suc, min, true, false, List, [], ◌∷◌, ◌++◌, drop, take, Option, Result, Ok, Err, sym, ap, subst, ◌∙◌, refl, arith, append_assoc, inl, inr}
 use Rattle.std.specs.Prelude.{OnOk}
+use Rattle.std.proofs.lemmas.List.{append-nil}
+use Rattle.std.proofs.lemmas.List.Concat.{flat_map-append}
 use Rattle.counted_io.specs.Counted.{Tally}
 use Rattle.counted_io.specs.Writing.{Writes, WritesAfter}
 use Rattle.counted_io.proofs.Appending.{Writes-Err}
@@ -12,9 +14,31 @@ use Rattle.bpfdb_script.specs.SlotTexts.{text_of_slot}
 use Rattle.bpfdb_script.proofs.Telling.{Telling, Telling-start, Telling-step, Telling-end}
 use Rattle.bpf_session.specs.Plain.{plain_end}
 use Rattle.bpf_trace.specs.Runs.{steps_of}
-use Rattle.bpf_trace.specs.Traces.{line_of, lines_from, lines_text, told_end_line, told_since, trace_text}
+use Rattle.bpf_trace.specs.Rows.{Row, row_of, row_text, rows_from, step_rows, text_of_rows, told_in, told_of, trace_text}
+use Rattle.bpf_trace.specs.Rows.Row.{End}
+use Rattle.bpf_trace.specs.SlotWords.{line_in}
+use Rattle.bpf_trace.specs.declared.form.Form.{Form}
 use Rattle.bpf_trace.specs.declared.trace.Shown.{Shown}
 use Rattle.bpf_trace.proofs.Stepping.{none_ended, none_left, one_more_step, shown_steps}
+
+-- the text of the rows of steps
+abbrev lines_from : Shown → List ℕ → ℕ → List State → List ℕ
+lines_from shown before k xs = text_of_rows shown (rows_from shown before k xs)
+
+abbrev lines_text : ℕ → Shown → State → List ℕ
+lines_text limit shown x = text_of_rows shown (step_rows limit shown x)
+
+-- the row of one
+pub row_is : (only_branches : Bool) (form : Form) (told : List ℕ) (k : ℕ) (x : State)
+    → line_in only_branches form (told_in form told) k x ≡ row_text form (row_of only_branches told k x)
+row_is true form told k x = refl
+row_is false form told k x = refl
+
+-- rows and one more
+pub with_last : (shown : Shown) (rows : List Row) (last : Row) → text_of_rows shown rows ++ row_text shown.form last ≡ text_of_rows shown (rows ++ last ∷ [])
+with_last shown rows last =
+    ap (λ (t : List ℕ). text_of_rows shown rows ++ t) (sym (append-nil (row_text shown.form last)))
+    ∙ sym (flat_map-append (row_text shown.form) rows (last ∷ []))
 
 -- what was told before a write failed is a beginning of the whole
 pub Telling-broken : {W A E : Type 0} (contents : W → Option (List ℕ)) (old : Tally W) (before : Result A E) (now : Tally W) (e : E) (rest whole : List ℕ)
@@ -31,7 +55,7 @@ module _ {W A E : Type 0} (contents : W → Option (List ℕ)) (old : Tally W) (
 
   -- and of its slot
   abbrev line_behind : ℕ → List ℕ → State → List ℕ
-  line_behind k last y = line_of shown (told_since last (text_of_slot shown.places y.pc)) (passed + k + 1) y
+  line_behind k last y = row_text shown.form (row_of shown.only_branches (told_of shown last (text_of_slot shown.places y.pc)) (passed + k + 1) y)
 
   pub lines_start : TellsLines 0 x [] old before
   lines_start =
@@ -83,12 +107,16 @@ broken_more contents old before now e text more whole w is = λ first front know
     (Writes-Err contents first now (Err e) e (front ++ text) more refl (w first front known))
 
 -- the whole trace
+abbrev end_of : ℕ → Shown → State → List ℕ
+end_of limit shown z = row_text shown.form (End (text_of_slot shown.places z.pc) limit z)
+
 pub trace_is : (limit most passed : ℕ) (shown : Shown) (x y z : State) → Advances (min limit (shown.from - 1)) x y passed
     → most ≡ min (limit - passed) shown.count → z ≡ plain_end limit x
-    → lines_from shown [] (passed + 1) (steps_of most y) ++ told_end_line shown.places limit z ≡ trace_text limit shown x
+    → text_of_rows shown (rows_from shown [] (passed + 1) (steps_of most y)) ++ end_of limit shown z ≡ trace_text limit shown x
 trace_is limit most passed shown x y z run e is =
-    ap (λ (text : List ℕ). text ++ told_end_line shown.places limit z) (shown_are limit most passed shown x y run e)
-    ∙ ap (λ (w : State). lines_text limit shown x ++ told_end_line shown.places limit w) is
+    ap (λ (text : List ℕ). text ++ end_of limit shown z) (shown_are limit most passed shown x y run e)
+    ∙ ap (λ (w : State). lines_text limit shown x ++ end_of limit shown w) is
+    ∙ with_last shown (step_rows limit shown x) (End (text_of_slot shown.places (plain_end limit x).pc) limit (plain_end limit x))
 
 -- what holds anyway
 pub anyway : {A E : Type 0} {P : Type 0} (r : Result A E) → P → OnOk r P

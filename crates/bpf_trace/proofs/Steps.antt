@@ -1,5 +1,5 @@
 -- The line of a step, as it is put together.
-use Rattle.std.proofs.Common.{◌≡◌, ◌+◌, ◌<◌, ℕ, List, [], ◌∷◌, ◌++◌, Option, Some, None, codes, decimal, flat_map, length, refl, sym, ap, ◌∙◌, append_assoc, arith}
+use Rattle.std.proofs.Common.{◌≡◌, ◌+◌, ◌<◌, ℕ, List, [], ◌∷◌, ◌++◌, Option, Some, None, codes, decimal, length, refl, sym, ap, ◌∙◌, append_assoc, arith}
 use Rattle.std.specs.Prelude.{IsSome, option_map, slice_index_or, unwrap_or}
 use Rattle.std.proofs.lemmas.List.FromFn.{get_or-map-range_with_len, length-map-range_with_len}
 use Rattle.bpf_entries.specs.Frames.{frame_base, frame_len}
@@ -21,7 +21,9 @@ use Rattle.bpf_origin.specs.declared.place.Part.TheVariants as part
 use Rattle.bpfdb_script.specs.Texts.{text_at}
 use Rattle.bpf_trace.specs.Taken.{Took, parts_by, register_by}
 use Rattle.bpf_cover.specs.Texts.{slot_text, texts_of}
-use Rattle.bpf_trace.specs.Traces.{step_line, written_text}
+use Rattle.bpf_trace.specs.Forms.{parts_in}
+use Rattle.bpf_trace.specs.Traces.{step_line}
+use Rattle.bpf_trace.specs.declared.form.Form.TheVariants.{Text}
 use Rattle.bpf_trace.specs.declared.taken.Taken.{Taken}
 use Rattle.bpf_cover.proofs.Making.{text_there}
 use Rattle.bpf_trace.proofs.Stepping.{next-program}
@@ -77,15 +79,15 @@ moved told line rest place = simp append_assoc refl
 
 -- the whole line, of which some is told
 pub whole_line : (k : ℕ) (x y : State) (told line text more place all : List ℕ) → IsState x → y ≡ next x → text ≡ text_at x.program x.pc
-    → told ++ line ≡ decimal k ++ codes " " ++ text → more ≡ line ++ flat_map (written_text y) (parts_by y (change x)) → all ≡ more ++ place ++ codes "\n"
+    → told ++ line ≡ decimal k ++ codes " " ++ text → more ≡ line ++ parts_in Text y (parts_by y (change x)) → all ≡ more ++ place ++ codes "\n"
     → told ++ all ≡ step_line place k x
 unfolding step_line
 whole_line k x y told line text more place all is e named parts wrote ends =
     let lead : told ++ line ≡ decimal k ++ (codes " " ++ text_at x.program x.pc) =
     parts ∙ ap (λ (t : List ℕ). decimal k ++ codes " " ++ t) named ∙ append_assoc (decimal k) (codes " ") (text_at x.program x.pc) in
-    let rest = flat_map (written_text y) (parts_by y (change x)) in
-    let same : flat_map (written_text y) (parts_by y (change x)) ≡ flat_map (written_text (next x)) (written (next x) (step_entry x)) =
-    ap (flat_map (written_text y)) (sym (step_wrote x y is)) ∙ ap (λ (z : State). flat_map (written_text z) (written z (step_entry x))) e in
+    let rest = parts_in Text y (parts_by y (change x)) in
+    let same : parts_in Text y (parts_by y (change x)) ≡ parts_in Text (next x) (written (next x) (step_entry x)) =
+    ap (parts_in Text y) (sym (step_wrote x y is)) ∙ ap (λ (z : State). parts_in Text z (written z (step_entry x))) e in
     ap (λ (t : List ℕ). told ++ t) (ends ∙ ap (λ (t : List ℕ). t ++ place ++ codes "\n") wrote)
     ∙ moved told line rest place
     ∙ ap (λ (t : List ℕ). t ++ ((rest ++ place) ++ codes "\n")) lead
@@ -93,14 +95,14 @@ whole_line k x y told line text more place all is e named parts wrote ends =
 
 -- the line of a step that was taken
 pub taken_line : (k : ℕ) (x y : State) (taken : Taken) (place : List ℕ) → Took x y taken
-    → ((((decimal k ++ codes " ") ++ text_at y.program taken.slot) ++ flat_map (written_text y) (parts_by y taken.change)) ++ place) ++ codes "\n"
+    → ((((decimal k ++ codes " ") ++ text_at y.program taken.slot) ++ parts_in Text y (parts_by y taken.change)) ++ place) ++ codes "\n"
     ≡ step_line place k x
 taken_line k x y taken place t =
     let text = text_at y.program taken.slot in
     let line = decimal k ++ codes " " ++ text in
-    let wrote = flat_map (written_text y) (parts_by y taken.change) in
+    let wrote = parts_in Text y (parts_by y taken.change) in
     let named : text ≡ text_at x.program x.pc =
     ap (λ (p : Checked). text_at p taken.slot) (ap (λ (z : State). z.program) t.next ∙ next-program x) ∙ ap (text_at x.program) t.slot in
-    let parts : line ++ wrote ≡ line ++ flat_map (written_text y) (parts_by y (change x)) =
-    ap (λ (c : Change). line ++ flat_map (written_text y) (parts_by y c)) t.change in
+    let parts : line ++ wrote ≡ line ++ parts_in Text y (parts_by y (change x)) =
+    ap (λ (c : Change). line ++ parts_in Text y (parts_by y c)) t.change in
     whole_line k x y [] line text (line ++ wrote) place (((line ++ wrote) ++ place) ++ codes "\n") t.is t.next named refl parts refl

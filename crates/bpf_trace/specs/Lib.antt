@@ -13,3 +13,7 @@ pub mod OwnCode
 pub mod Prototypes
 pub mod Calls
 pub mod Turns
+pub mod Forms
+pub mod Objects
+pub mod Rows
+pub mod SlotWords

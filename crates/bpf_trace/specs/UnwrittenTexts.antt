@@ -2,10 +2,7 @@
 use Rattle.std.specs.Prelude.{ℕ, nat_lt, if◌then◌else◌, List, [], ◌++◌, Option, Some, None, decimal, drop, length}
 use lib.Chars.{codes}
 use Rattle.counted_io.specs.Writing.{hexadecimal}
-use Rattle.bpf_steps.specs.State.{State}
 use Rattle.bpfdb_script.specs.SlotTexts.{SlotTexts, text_of_slot}
-use Rattle.bpf_trace.specs.Traces.{lines_text}
-use Rattle.bpf_trace.specs.declared.trace.Shown.{Shown}
 use Rattle.bpf_trace.specs.declared.strict_run.Unwritten.{Unwritten}
 
 -- Where a call stands, by what is told of its slot: that begins with `; in `.
@@ -22,7 +19,3 @@ unwritten_text read = codes "read of " ++ hexadecimal read.address ++ codes " at
 
 abbrev pub unwritten_line : SlotTexts → Unwritten → List ℕ
 unwritten_line places read = unwritten_text read ++ text_of_slot places read.slot ++ call_text places read.call ++ codes "\n"
-
--- The trace of a run up to that step: the lines of the steps before it that are shown, and this line.
-abbrev pub trace_until : Unwritten → Shown → State → List ℕ
-trace_until read shown x = lines_text read.steps shown x ++ unwritten_line shown.places read

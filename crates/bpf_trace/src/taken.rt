@@ -1,13 +1,15 @@
 //! Steps that are taken, and the line of one.
-ghost use Rattle.std.specs.Prelude.{◌≡◌, false, flat_map};
+ghost use Rattle.std.specs.Prelude.{◌≡◌, false};
 ghost use Rattle.bpf_entries.specs.Status.{has_ended};
 ghost use Rattle.bpf_isa.specs.Programs.{IsStart};
 ghost use Rattle.bpf_steps.specs.Next.{next};
 ghost use Rattle.bpf_steps.specs.State.{State};
+ghost use Rattle.bpf_trace.specs.Forms.{parts_in};
 ghost use Rattle.bpf_trace.specs.Taken.{Took, parts_by};
-ghost use Rattle.bpf_trace.specs.Traces.{step_line, written_text};
+ghost use Rattle.bpf_trace.specs.Traces.{step_line};
 ghost use Rattle.counted_io.specs.Writing.{WritesAfter};
 
+use crate::form::Form;
 use crate::line::Line;
 use crate::parts::add_parts;
 use bpf_machine::{Change, Cpu, Ended};
@@ -64,9 +66,9 @@ fn put_parts<W: Write>(
     change: &Change,
 ) -> Result<(), WriteFault>
     ensures { WritesAfter W.contents writer.old so_far writer.new result
-        (flat_map (written_text cpu.now) (parts_by cpu.now change.now)) }
+        (parts_in Form.Text cpu.now (parts_by cpu.now change.now)) }
 {
     let mut line = Line::new();
-    add_parts(&mut line, cpu, change);
+    add_parts(&mut line, Form::Text, cpu, change);
     put(writer, so_far, line.as_slice())
 }

@@ -1,7 +1,9 @@
 //! The line of a read of the stack where nothing was written.
+ghost use Rattle.bpf_trace.specs.Objects.{unwritten_lead, unwritten_object};
 ghost use Rattle.bpf_trace.specs.UnwrittenTexts.{call_text, called_by, unwritten_line, unwritten_text};
 ghost use Rattle.counted_io.specs.Writing.{WritesAfter};
 
+use crate::ending::put_slot;
 use crate::strict_run::Unwritten;
 use bpfdb_script::{SlotTexts, text_of_slot};
 use counted_io::{Counted, WriteFault, put, put_decimal, put_hexadecimal};
@@ -71,4 +73,35 @@ fn put_called<W: Write>(
     }
     let begun = put(writer, so_far, b"; called by ");
     put(writer, begun, told.split_at(5).1)
+}
+
+/// Writes the object of it, with the members of where its slot and the call stand.
+pub fn put_unwritten_object<W: Write>(
+    writer: &mut Counted<W>,
+    so_far: Result<(), WriteFault>,
+    members: &[u8],
+    called: &[u8],
+    read: &Unwritten,
+) -> Result<(), WriteFault>
+    ensures { WritesAfter W.contents writer.old so_far writer.new result
+        (unwritten_object members.now called.now read.now) }
+{
+    let begun = put_unwritten_lead(writer, so_far, read);
+    let placed = put(writer, begun, members);
+    let told = put(writer, placed, called);
+    put(writer, told, b"}\n")
+}
+
+/// Writes how the object begins.
+fn put_unwritten_lead<W: Write>(
+    writer: &mut Counted<W>,
+    so_far: Result<(), WriteFault>,
+    read: &Unwritten,
+) -> Result<(), WriteFault>
+    ensures { WritesAfter W.contents writer.old so_far writer.new result (unwritten_lead read.now) }
+{
+    let begun = put(writer, so_far, b"{\"kind\":\"unwritten\",\"address\":\"");
+    let addressed = put_hexadecimal(writer, begun, read.address);
+    let ended = put(writer, addressed, b"\"");
+    put_slot(writer, ended, u64::from(read.slot))
 }

@@ -1,21 +1,35 @@
-use Rattle.std.proofs.Common.{◌∙◌, refl}
-use Rattle.counted_io.proofs.Appending.{WritesAfter-WritesAfter}
-use Rattle.bpf_trace.proofs.Steps.{slot_within, text_is, whole_line}
+use Rattle.std.proofs.Common.{◌∙◌}
+use Rattle.counted_io.proofs.Appending.{WritesAfter-text}
+use Rattle.bpf_trace.proofs.Heads.{slot_before, step_line_is, step_object_is}
+use Rattle.bpf_trace.proofs.Steps.{slot_within, text_is}
 use Rattle.bpf_trace.proofs.step.put_step.Goals as goal
 
-pub at-requires : goal.at-requires
-at-requires g c =
-    let slot = c.from-slot.ensures ∙ c.pc.ensures in
+pub at-text-requires : goal.at-text-requires
+at-text-requires g c =
+    let slot = c.from.ensures ∙ c.pc-slot.ensures in
     rw slot (slot_within c.args.cpu.now.program c.args.texts.now c.args.cpu.now.pc c.requires.texts c.invariant.ensures.start)
 
-pub returns-clause-text : goal.returns-clause-text
-returns-clause-text g c =
+pub put_object-requires : goal.put_object-requires
+put_object-requires g c =
     let x = c.args.cpu.now in
-    let slot = c.from-slot.ensures ∙ c.pc.ensures in
-    let held = c.put_head-told.ensures.text in
-    let change = rw c.in-Ok.is at c.look.ensures.ok in
-    let text = rw slot at c.at.ensures in
+    let text = rw (c.from.ensures ∙ c.pc-slot.ensures) at c.at-text.ensures in
     let named = text ∙ text_is x.program c.args.texts.now x.pc c.requires.texts c.invariant.ensures.start in
-    let wrote = rw change at c.add_parts.ensures.text in
-    WritesAfter-WritesAfter g.W.Write.contents _ _ _ _ _ _ _ _ _ held.written c.put_told.ensures
-    (whole_line c.args.row.now.number x c.commit.new.self held.told _ _ _ _ _ c.invariant.ensures c.commit.ensures named held.parts wrote refl)
+    rw c.pc-slot.ensures (slot_before x.program x.pc _ named)
+
+pub returns-in-Text-clause-text : goal.returns-in-Text-clause-text
+returns-in-Text-clause-text g c =
+    let x = c.args.cpu.now in
+    let change = rw c.in-Ok.is at c.look.ensures.ok in
+    let text = rw (c.from.ensures ∙ c.pc-slot.ensures) at c.at-text.ensures in
+    let named = text ∙ text_is x.program c.args.texts.now x.pc c.requires.texts c.invariant.ensures.start in
+    rw c.in-Text.is (WritesAfter-text g.W.Write.contents _ _ _ _ _ _ (rw change at c.put_line.ensures)
+    (step_line_is c.args.row.now.number x c.commit.new.self _ c.args.row.now.place.now c.invariant.ensures c.commit.ensures named))
+
+pub returns-in-Json-clause-text : goal.returns-in-Json-clause-text
+returns-in-Json-clause-text g c =
+    let x = c.args.cpu.now in
+    let change = rw c.in-Ok.is at c.look.ensures.ok in
+    let text = rw (c.from.ensures ∙ c.pc-slot.ensures) at c.at-text.ensures in
+    let named = text ∙ text_is x.program c.args.texts.now x.pc c.requires.texts c.invariant.ensures.start in
+    rw c.in-Json.is (WritesAfter-text g.W.Write.contents _ _ _ _ _ _ (rw change at c.put_object.ensures)
+    (step_object_is c.args.row.now.number c.pc-slot.result x c.commit.new.self _ c.args.row.now.place.now c.invariant.ensures c.commit.ensures c.pc-slot.ensures named))

@@ -1,7 +1,8 @@
 use Rattle.std.proofs.Common.{ℕ, ◌≡◌, false, true, arith, ap, refl, subst, sym, ◌∙◌}
 use Rattle.bpf_entries.specs.Status.{has_ended}
 use Rattle.bpf_steps.specs.Runs.{Steps}
-use Rattle.bpf_trace.proofs.Lines.{Telling-broken, lines_start, lines_step, lines_ended, lines_all}
+use Rattle.counted_io.proofs.Appending.{WritesAfter-text}
+use Rattle.bpf_trace.proofs.Lines.{Telling-broken, row_is, lines_start, lines_step, lines_ended, lines_all}
 use Rattle.bpf_trace.proofs.Stepping.{Steps-none, Steps-more, next-program}
 use Rattle.bpf_trace.proofs.trace.put_steps.Goals as goal
 
@@ -12,14 +13,17 @@ loop-k-init g c = record {
   program = refl;
 }
 
-pub put_line-told-requires-clause-texts : goal.put_line-told-requires-clause-texts
-put_line-told-requires-clause-texts g c = rw c.loop-k.invariant.program c.requires.texts
+pub told_in-requires : goal.told_in-requires
+told_in-requires g c = λ is. c.requires.words.members is c.from-slot.result
+
+pub put_row-told-requires-clause-texts : goal.put_row-told-requires-clause-texts
+put_row-told-requires-clause-texts g c = rw c.loop-k.invariant.program c.requires.words.texts
 
 pub loop-k-preserved : goal.loop-k-preserved
 loop-k-preserved g c =
     let on : has_ended c.loop-k.cpu.status ≡ false = ap has_ended (sym c.status.ensures) ∙ sym c.has_ended.ensures ∙ c.if-has_ended.false in
-    rw (c.put_line-told.ensures.next, c.text_of_slot-place.ensures, c.from.ensures, c.pc.ensures) (record {
-      told = lines_step g.W.Write.contents c.args.writer.now c.args.so_far c.args.shown.now c.args.passed c.args.most c.args.cpu.now c.loop-k.k _ _ _ _ _ _ c.loop-k-test.true on c.loop-k.invariant.told (rw (c.told_since.ensures, c.text_of_slot-place.ensures, c.from.ensures, c.pc.ensures) at c.put_line-told.ensures.text);
+    rw (c.put_row-told.ensures.next, c.text_of_slot-place.ensures, c.from-slot.ensures, c.pc.ensures) (record {
+      told = lines_step g.W.Write.contents c.args.writer.now c.args.so_far c.args.shown.now c.args.passed c.args.most c.args.cpu.now c.loop-k.k _ _ _ _ _ _ c.loop-k-test.true on c.loop-k.invariant.told (WritesAfter-text g.W.Write.contents _ _ _ _ _ _ (rw (c.told_in.ensures, rw c.text_of_slot-place.ensures at c.is_told.ensures, c.from-slot.ensures, c.pc.ensures) at c.put_row-told.ensures.text) (row_is _ _ _ _ _));
       steps = Steps-more _ _ _ c.loop-k.invariant.steps on;
       program = next-program c.loop-k.cpu ∙ c.loop-k.invariant.program;
     })
@@ -32,7 +36,7 @@ returns-then-has_ended-clause-text g c =
 pub returns-in-Err-clause-text : goal.returns-in-Err-clause-text
 returns-in-Err-clause-text g c =
     let on : has_ended c.loop-k.cpu.status ≡ false = ap has_ended (sym c.status.ensures) ∙ sym c.has_ended.ensures ∙ c.if-has_ended.false in
-    let more = lines_step g.W.Write.contents c.args.writer.now c.args.so_far c.args.shown.now c.args.passed c.args.most c.args.cpu.now c.loop-k.k _ _ _ _ _ _ c.loop-k-test.true on c.loop-k.invariant.told (rw (c.told_since.ensures, c.text_of_slot-place.ensures, c.from.ensures, c.pc.ensures) at c.put_line-told.ensures.text) in
+    let more = lines_step g.W.Write.contents c.args.writer.now c.args.so_far c.args.shown.now c.args.passed c.args.most c.args.cpu.now c.loop-k.k _ _ _ _ _ _ c.loop-k-test.true on c.loop-k.invariant.told (WritesAfter-text g.W.Write.contents _ _ _ _ _ _ (rw (c.told_in.ensures, rw c.text_of_slot-place.ensures at c.is_told.ensures, c.from-slot.ensures, c.pc.ensures) at c.put_row-told.ensures.text) (row_is _ _ _ _ _)) in
     Telling-broken g.W.Write.contents c.args.writer.now c.args.so_far _ _ _ _ (rw c.in-Err.is at more)
 
 pub returns-then-has_ended-clause-taken : goal.returns-then-has_ended-clause-taken
@@ -42,7 +46,7 @@ pub returns-in-Err-clause-taken : goal.returns-in-Err-clause-taken
 returns-in-Err-clause-taken g c =
     let on : has_ended c.loop-k.cpu.status ≡ false = ap has_ended (sym c.status.ensures) ∙ sym c.has_ended.ensures ∙ c.if-has_ended.false in
     let more = c.loop-k-test.true in
-    record { steps = rw c.put_line-told.ensures.next (Steps-more _ _ _ c.loop-k.invariant.steps on); within = omega (arith, more) }
+    record { steps = rw c.put_row-told.ensures.next (Steps-more _ _ _ c.loop-k.invariant.steps on); within = omega (arith, more) }
 
 pub returns-clause-text : goal.returns-clause-text
 returns-clause-text g c =

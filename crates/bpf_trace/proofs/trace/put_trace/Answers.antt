@@ -5,8 +5,14 @@ use Rattle.bpf_trace.proofs.Lines.{anyway, broken_more, trace_is}
 use Rattle.bpf_trace.proofs.Stepping.{Steps-Steps, Steps-program, whole_run, whole_end, whole_way}
 use Rattle.bpf_trace.proofs.trace.put_trace.Goals as goal
 
-pub put_steps-taken-requires-clause-texts : goal.put_steps-taken-requires-clause-texts
-put_steps-taken-requires-clause-texts g c = c.requires.texts ∙ ap texts_of (sym (Steps-program _ _ _ c.run-passed.ensures.steps))
+pub put_steps-taken-requires-clause-words : goal.put_steps-taken-requires-clause-words
+put_steps-taken-requires-clause-words g c = record {
+  texts = c.requires.words.texts ∙ ap texts_of (sym (Steps-program _ _ _ c.run-passed.ensures.steps));
+  members = c.requires.words.members;
+}
+
+pub told_in-told-requires : goal.told_in-told-requires
+told_in-told-requires g c = λ is. c.requires.words.members is c.from-slot.result
 
 pub returns-in-Err-clause-text : goal.returns-in-Err-clause-text
 returns-in-Err-clause-text g c =
@@ -30,7 +36,8 @@ returns-clause-text g c =
     let most = c.min-2.ensures in
     let whole = whole_run c.args.limit _ _ _ _ _ _ _ _ c.run-passed.ensures.steps c.put_steps-taken.ensures.taken.steps (omega arith) refl c.run-rest.ensures in
     let run = rw (c.min.ensures, c.before-2.ensures) at c.run-passed.ensures in
-    WritesAfter-WritesAfter g.W.Write.contents _ _ _ _ _ _ _ _ _ c.put_steps-taken.ensures.text c.put_told_end.ensures
+    let told = rw (c.from-slot.ensures ∙ c.pc.ensures) at c.told_in-told.ensures in
+    WritesAfter-WritesAfter g.W.Write.contents _ _ _ _ _ _ _ _ _ c.put_steps-taken.ensures.text (rw told at c.put_end_row.ensures)
     (trace_is c.args.limit c.min-2.result c.run-passed.result c.args.shown c.args.cpu.now _ _ run c.min-2.ensures (whole_end _ _ _ _ whole))
 
 pub returns-clause-next : goal.returns-clause-next
@@ -40,7 +47,7 @@ returns-clause-next g c =
     let least = c.min.ensures in
     let most = c.min-2.ensures in
     let whole = whole_run c.args.limit _ _ _ _ _ _ _ _ c.run-passed.ensures.steps c.put_steps-taken.ensures.taken.steps (omega arith) refl c.run-rest.ensures in
-    anyway c.put_told_end.result (whole_end _ _ _ _ whole)
+    anyway c.put_end_row.result (whole_end _ _ _ _ whole)
 
 pub returns-clause-way : goal.returns-clause-way
 returns-clause-way g c =

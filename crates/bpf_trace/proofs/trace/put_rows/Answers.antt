@@ -2,10 +2,13 @@ use Rattle.std.proofs.Common.{◌∙◌, ap, sym}
 use Rattle.bpf_cover.specs.Texts.{texts_of}
 use Rattle.bpf_trace.proofs.Lines.{shown_are}
 use Rattle.bpf_trace.proofs.Stepping.{Steps-program}
-use Rattle.bpf_trace.proofs.trace.put_lines.Goals as goal
+use Rattle.bpf_trace.proofs.trace.put_rows.Goals as goal
 
-pub put_steps-taken-requires-clause-texts : goal.put_steps-taken-requires-clause-texts
-put_steps-taken-requires-clause-texts g c = c.requires ∙ ap texts_of (sym (Steps-program _ _ _ c.run-passed.ensures.steps))
+pub put_steps-taken-requires-clause-words : goal.put_steps-taken-requires-clause-words
+put_steps-taken-requires-clause-words g c = record {
+  texts = c.requires.texts ∙ ap texts_of (sym (Steps-program _ _ _ c.run-passed.ensures.steps));
+  members = c.requires.members;
+}
 
 pub returns : goal.returns
 returns g c =
