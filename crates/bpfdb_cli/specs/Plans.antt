@@ -100,6 +100,7 @@ pub record Traces (rows : List Row) (a : TraceAsk) : Type 0 where
   pub profile : a.is_profile ≡ is_given (first_of (codes "profile") rows)
   pub calls : a.is_calls ≡ is_given (first_of (codes "calls") rows)
   pub strict : a.is_strict ≡ is_given (first_of (codes "strict") rows)
+  pub json : a.is_json ≡ is_given (first_of (codes "json") rows)
 
 pub record AsksOrigin (rows : List Row) (a : OriginAsk) : Type 0 where
   pub what : option_map (λ s. s.now) a.what ≡ first_of (codes "what") rows

@@ -73,6 +73,7 @@ fn trace_in(found: &ArgMatches<'_>) -> Option<TraceAsk>
         is_profile: is_given(found, "profile"),
         is_calls: is_given(found, "calls"),
         is_strict: is_given(found, "strict"),
+        is_json: is_given(found, "json"),
     })
 }
 

@@ -33,6 +33,8 @@ pub struct TraceAsk {
     pub is_calls: bool,
     /// The run stops at the first read of the stack where nothing was written since the call.
     pub is_strict: bool,
+    /// Steps are told as objects of JSON.
+    pub is_json: bool,
 }
 
 /// What is asked of a session, besides its replies as they are.
