@@ -3,7 +3,7 @@ use Rattle.std.proofs.Common.{ℕ, ◌≡◌, List, [], ◌++◌, Option, Some, 
 use Rattle.std.specs.Prelude.{IfErr, OnOk}
 use Rattle.bpf_steps.specs.State.{State}
 use Rattle.bpf_session.specs.Plain.{plain_end}
-use Rattle.bpf_trace.specs.UnwrittenTexts.{trace_until}
+use Rattle.bpf_trace.specs.Rows.{trace_until}
 use Rattle.bpf_trace.specs.declared.strict_run.Unwritten.{Unwritten}
 use Rattle.bpf_trace.specs.Profiles.{counts_text, profile_of, profile_text}
 use Rattle.bpfdb_faults.specs.Streams.{Told}

@@ -52,14 +52,16 @@ use Rattle.bpf_session.specs.declared.plain.Ending.TheVariants.{Exited, Faulted,
 use Rattle.bpf_text.specs.Canonical.{canon}
 use Rattle.bpf_text.specs.LineTable.{IsLineTable}
 use Rattle.bpf_text.specs.Listing.{IsListing}
-use Rattle.bpf_trace.specs.UnwrittenTexts.{trace_until, unwritten_line}
+use Rattle.bpf_trace.specs.UnwrittenTexts.{unwritten_line}
 use Rattle.bpf_trace.specs.Written.{unwritten_of}
 use Rattle.bpf_trace.specs.declared.own_code.OwnCode.{OwnCode}
 use Rattle.bpf_trace.specs.declared.strict_run.Unwritten.{Unwritten}
 use Rattle.bpf_trace.specs.Calls.{calls_text}
 use Rattle.bpf_trace.specs.declared.calls.Called.{Called}
 use Rattle.bpf_trace.specs.Profiles.{profile_text}
-use Rattle.bpf_trace.specs.Traces.{told_end_line, trace_text}
+use Rattle.bpf_trace.specs.Rows.{trace_text, trace_until}
+use Rattle.bpf_trace.specs.Traces.{told_end_line}
+use Rattle.bpf_trace.specs.declared.form.Form.TheVariants.{Json, Text}
 use Rattle.bpf_trace.specs.declared.trace.Shown.{Shown}
 use Rattle.bpf_whynot.specs.Answers.{Query, why_not}
 use Rattle.bpf_whynot.specs.Asked.{Goals, goals_in}
@@ -187,6 +189,7 @@ shown_of trace known = record {
   count = trace.count;
   only_branches = trace.only_branches;
   places = known.places;
+  form = if trace.is_json then Json else Text;
 }
 
 -- With `--calls` it tells the calls that leave FILE's own code: all slots are of it where FILE is no object, or its lines aren't known.

@@ -2,7 +2,7 @@
 ghost use Rattle.std.specs.Prelude.{◌≡◌, ◌≤◌, IfErr, OnOk};
 ghost use Rattle.bpf_load.specs.Targets.{Loads};
 ghost use Rattle.bpf_session.specs.Plain.{plain_end};
-ghost use Rattle.bpf_trace.specs.UnwrittenTexts.{trace_until};
+ghost use Rattle.bpf_trace.specs.Rows.{trace_until};
 ghost use Rattle.bpf_trace.specs.Profiles.{profile_text};
 ghost use Rattle.bpf_trace.specs.Tellings.{Tells};
 ghost use Rattle.bpfdb_faults.specs.Streams.{Told, stream};
@@ -21,7 +21,7 @@ use crate::strict::strict_machine;
 use bpf_load::Loaded;
 use bpf_machine::{Cpu, Status};
 use bpf_trace::{
-    Profile, Shown, TraceFault, Unwritten, put_profile, write_trace, write_trace_until,
+    Form, Profile, Shown, TraceFault, Unwritten, put_profile, write_trace, write_trace_until,
 };
 use bpfdb_faults::{JobFault, give_up};
 use bpfdb_options::TraceAsk;
@@ -128,6 +128,11 @@ fn shown_steps<'a>(trace: &TraceAsk, known: Known<'a>) -> Shown<'a>
         count: trace.count,
         only_branches: trace.only_branches,
         places: known.places,
+        form: if trace.is_json {
+            Form::Json
+        } else {
+            Form::Text
+        },
     }
 }
 
