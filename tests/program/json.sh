@@ -232,6 +232,21 @@ cat > wanted/out <<'END'
 END
 compare 'what was left of a test, as objects of JSON'
 
+# The objects of a trace come one by one: a reader that goes away ends it, as it ends one of lines, and so does a full disk; and a million of them need no
+# more memory than a few.
+listing long.s 'mov r0, 0;loop: add r0, 1;jlt r0, 500000, loop;exit'
+: > script
+{ "$program" trace --json --listing long.s 2> found/err; echo $? > found/status; } < script | head -n 1 > found/out
+check 'a reader of objects that goes away' 2 '{"kind":"step","step":1,"slot":0,"insn":"mov r0, 0","parts":[{"part":"r0","value":"0x0"}]}\n' 'cannot write output\n'
+if [ -c /dev/full ]; then
+    "$program" trace --json --listing long.s < script > /dev/full 2> found/err
+    echo $? > found/status
+    : > found/out
+    check 'objects for a full disk' 2 '' 'cannot write output\n'
+fi
+(ulimit -v 20000 && "$program" trace --json --listing --steps 1000000 long.s < script 2> found/err; echo $? > found/status) | tail -n 1 > found/out
+check 'objects of a million steps' 1 '{"kind":"limit","limit":1000000,"slot":2}\n' ''
+
 # All that these folders have, and programs at random.
 if has python3 'answers as objects of JSON'; then
     mkdir all

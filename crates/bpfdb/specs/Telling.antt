@@ -1,5 +1,6 @@
 -- What becomes of a job whose answer is told in another form: as objects of JSON, or as a graph.
 use Rattle.std.specs.Prelude.{ℕ, ◌≡◌, Bool, true, false, List, [], Vec, Option, Some, None, if◌then◌else◌}
+use Rattle.std.specs.Option.{option_map}
 use Rattle.std.specs.declared.alloc.Global.{Global}
 use Rattle.bpfdb_cli.specs.declared.plans.Form.{Form}
 use Rattle.bpfdb_cli.specs.declared.plans.Form.TheVariants as form
@@ -25,26 +26,22 @@ obeys_script ask.Debug = true
 obeys_script (ask.Conversation talk) = true
 obeys_script asked = false
 
--- What is printed, by what is asked.
-abbrev pub answer_for : Ask → Answer
-answer_for (ask.Run strict) = answer.Value
-answer_for (ask.Trace trace) = if trace.is_profile then answer.Profile else if trace.is_calls then answer.Calls else answer.Run
-answer_for ask.Lines = answer.Lines
-answer_for ask.Load = answer.Program
-answer_for ask.Disasm = answer.Listing
-answer_for ask.Check = answer.Check
-answer_for (ask.Test tests) = answer.Report
-answer_for _ = answer.Run
-
--- Objects of JSON: those of an answer, where the job doesn't write them itself.
-abbrev pub json_for : Ask → Option Telling
-json_for (ask.Conversation talk) = None
-json_for asked = Some (Json (answer_for asked))
+-- What is printed, by what is asked; none where the job prints objects itself, as `trace` does of steps and `debug` of replies.
+abbrev pub answer_for : Ask → Option Answer
+answer_for (ask.Run strict) = Some answer.Value
+answer_for (ask.Trace trace) = if trace.is_profile then Some answer.Profile else if trace.is_calls then Some answer.Calls else None
+answer_for (ask.Conversation talk) = None
+answer_for ask.Lines = Some answer.Lines
+answer_for ask.Load = Some answer.Program
+answer_for ask.Disasm = Some answer.Listing
+answer_for ask.Check = Some answer.Check
+answer_for (ask.Test tests) = Some answer.Report
+answer_for _ = Some answer.Run
 
 -- The form in which it is told, and its text in that.
 abbrev pub telling_in : Form → Ask → Option Telling
 telling_in form.Lines asked = None
-telling_in form.Json asked = json_for asked
+telling_in form.Json asked = option_map Json (answer_for asked)
 telling_in form.Dot asked = Some Graph
 
 abbrev pub telling_of : Plan → Option Telling

@@ -1,6 +1,6 @@
 //! What a job prints, told in another form: as objects of JSON, or as a graph.
 ghost use Rattle.std.specs.Prelude.{◌≡◌, ◌≤◌, IfOk};
-ghost use Rattle.bpfdb.specs.Telling.{EndsRetold, Retells, answer_for, json_for, told_in, telling_of};
+ghost use Rattle.bpfdb.specs.Telling.{EndsRetold, Retells, answer_for, told_in, telling_of};
 ghost use Rattle.bpfdb_faults.specs.Streams.{stream};
 ghost use Rattle.bpfdb_jobs.specs.Streams.{between};
 ghost use Rattle.bpfdb_limits.specs.Limits.{IsLimit};
@@ -29,18 +29,11 @@ pub fn telling_of(plan: &Plan<'_>) -> Option<Telling>
 {
     match plan.form {
         Form::Lines => None,
-        Form::Json => json_for(&plan.ask),
+        Form::Json => match answer_for(&plan.ask) {
+            Some(answer) => Some(Telling::Json(answer)),
+            None => None,
+        },
         Form::Dot => Some(Telling::Graph),
-    }
-}
-
-/// The form in which an answer is told as objects of JSON: none where the job writes them itself.
-fn json_for(ask: &Ask<'_>) -> Option<Telling>
-    ensures { result ≡ json_for ask.now }
-{
-    match ask {
-        Ask::Conversation(_) => None,
-        _ => Some(Telling::Json(answer_for(ask))),
     }
 }
 
@@ -54,27 +47,28 @@ fn told_in(alloc: Global, telling: Telling, text: &[u8]) -> Result<Vec<u8>, Allo
     }
 }
 
-/// What is printed, by what is asked.
-fn answer_for(ask: &Ask<'_>) -> Answer
+/// What is printed, by what is asked; none where the job prints objects itself.
+fn answer_for(ask: &Ask<'_>) -> Option<Answer>
     ensures { result ≡ answer_for ask.now }
 {
     match ask {
-        Ask::Run { .. } => Answer::Value,
+        Ask::Run { .. } => Some(Answer::Value),
         Ask::Trace(trace) => {
             if trace.is_profile {
-                Answer::Profile
+                Some(Answer::Profile)
             } else if trace.is_calls {
-                Answer::Calls
+                Some(Answer::Calls)
             } else {
-                Answer::Run
+                None
             }
         }
-        Ask::Lines => Answer::Lines,
-        Ask::Load => Answer::Program,
-        Ask::Disasm => Answer::Listing,
-        Ask::Check => Answer::Check,
-        Ask::Test(_) => Answer::Report,
-        _ => Answer::Run,
+        Ask::Conversation(_) => None,
+        Ask::Lines => Some(Answer::Lines),
+        Ask::Load => Some(Answer::Program),
+        Ask::Disasm => Some(Answer::Listing),
+        Ask::Check => Some(Answer::Check),
+        Ask::Test(_) => Some(Answer::Report),
+        _ => Some(Answer::Run),
     }
 }
 
