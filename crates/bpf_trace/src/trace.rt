@@ -129,7 +129,8 @@ fn put_trace<'a, W: Write>(
     }
     let _rest = cpu.run(left - taken.steps);
     let slot = usize::from(cpu.pc());
-    let told = told_in(words, &shown, slot, true);
+    let place = text_of_slot(shown.places, slot);
+    let told = told_in(words, &shown, slot, place, true);
     put_end_row(writer, taken.written, shown.form, told, limit, cpu)
 }
 
@@ -183,7 +184,7 @@ fn put_steps<'a, W: Write>(
         let row = Row {
             form: shown.form,
             number: passed + k + 1,
-            place: told_in(words, shown, slot, is_told(shown, before, place)),
+            place: told_in(words, shown, slot, place, is_told(shown, before, place)),
         };
         told = put_row(
             cpu,

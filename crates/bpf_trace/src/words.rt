@@ -33,22 +33,23 @@ impl Words {
     }
 }
 
-/// What is told of a slot in the form of what is shown, or nothing where it isn't told.
+/// What is told of a slot with this text in the form of what is shown, or nothing where it isn't told.
 #[inline(always)]
-pub fn told_in<'a>(words: &'a Words, shown: &Shown<'a>, slot: usize, is_told: bool) -> &'a [u8]
-    requires { shown.now.form ≡ Form.Json → members_at words.now.members.items slot
+pub fn told_in<'a>(
+    words: &'a Words,
+    shown: &Shown<'a>,
+    slot: usize,
+    text: &'a [u8],
+    is_told: bool,
+) -> &'a [u8]
+    requires text { text.now ≡ text_of_slot shown.now.places slot }
+    requires members { shown.now.form ≡ Form.Json → members_at words.now.members.items slot
         ≡ place_members (text_of_slot shown.now.places slot) }
     ensures { result.now ≡ told_in shown.now.form
         (if is_told then text_of_slot shown.now.places slot else []) }
 {
     match shown.form {
-        Form::Text => {
-            if is_told {
-                text_of_slot(shown.places, slot)
-            } else {
-                &[]
-            }
-        }
+        Form::Text => { if is_told { text } else { &[] } }
         Form::Json => {
             if is_told {
                 text_of_slot(Some(words.members.as_slice()), slot)

@@ -13,8 +13,11 @@ loop-k-init g c = record {
   program = refl;
 }
 
-pub told_in-requires : goal.told_in-requires
-told_in-requires g c = λ is. c.requires.words.members is c.from-slot.result
+pub told_in-requires-clause-text : goal.told_in-requires-clause-text
+told_in-requires-clause-text g c = c.text_of_slot-place.ensures
+
+pub told_in-requires-clause-members : goal.told_in-requires-clause-members
+told_in-requires-clause-members g c = λ is. c.requires.words.members is c.from-slot.result
 
 pub put_row-told-requires-clause-texts : goal.put_row-told-requires-clause-texts
 put_row-told-requires-clause-texts g c = rw c.loop-k.invariant.program c.requires.words.texts

@@ -11,8 +11,11 @@ put_steps-taken-requires-clause-words g c = record {
   members = c.requires.words.members;
 }
 
-pub told_in-told-requires : goal.told_in-told-requires
-told_in-told-requires g c = λ is. c.requires.words.members is c.from-slot.result
+pub told_in-told-requires-clause-text : goal.told_in-told-requires-clause-text
+told_in-told-requires-clause-text g c = c.text_of_slot-place.ensures
+
+pub told_in-told-requires-clause-members : goal.told_in-told-requires-clause-members
+told_in-told-requires-clause-members g c = λ is. c.requires.words.members is c.from-slot.result
 
 pub returns-in-Err-clause-text : goal.returns-in-Err-clause-text
 returns-in-Err-clause-text g c =
