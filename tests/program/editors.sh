@@ -29,7 +29,7 @@ if has bash 'completion in bash'; then
     completed '--maps\n' bpfdb run --ma
     completed '--steps\n--strict\n--struct\n' bpfdb run --st
     completed '\n' bpfdb run --journal
-    completed '--journal\n' bpfdb debug --j
+    completed '--journal\n--json\n' bpfdb debug --j
     completed '--section\n' bpfdb link --sec
     completed '\n' bpfdb link --maps
     completed 'x86\nriscv\nbpf\n' bpfdb gdb --registers ''
