@@ -6,6 +6,8 @@ import subprocess
 
 from bpfdb.texts import readable
 
+# The form of what bpfdb prints: a program that reads that asks for it itself.
+FORMS = ('--json', '--questions')
 # How help tells an option: by its short name, if it has one, its long one, and what its value is called, if it has one.
 OPTION = re.compile(r' +(?:(-\w), )?(--[a-z][-a-z0-9]*)( <.+>)?', re.ASCII)
 
@@ -93,6 +95,9 @@ class CommandLine:
 
     def check(self):
         """Lets bpfdb say what is wrong where something isn't taken by each of the subcommands, or shows its help."""
+        for name, _, _ in self.options:
+            if name in FORMS and name not in self.own:
+                raise Refused(f"error: unexpected argument '{name}' found\n\nFor more information, try '--help'.\n", 2)
         for subcommand in self.subcommands:
             if self.rest or not all(self.is_taken(subcommand, option) for option in self.options):
                 done = answer([self.program, subcommand, *self.passed])

@@ -46,8 +46,9 @@ if has python3 'pages of runs'; then
     usage_end="\\n\\nFor more information, try '--help'.\\n"
     made 2 "error: -o PAGE names no file to write$usage_end" two.s
     made 2 "error: FILE is missing$usage_end" -o left/run.html
+    made 2 "error: unexpected argument '--json' found$usage_end" -o left/run.html two.s --json
     # (what is no word of its own goes to trace and to debug, and what one of them doesn't take that one refuses)
-    for row in 'trace --frob missing two.s' 'debug --strict two.s' 'debug two.s --json' 'trace -x two.s' 'trace --frob=3 two.s' 'trace two.s --journal 1024' 'trace two.s wrong.s'; do
+    for row in 'trace --frob missing two.s' 'debug --strict two.s' 'trace -x two.s' 'trace --frob=3 two.s' 'trace two.s --journal 1024' 'trace two.s wrong.s'; do
         words=${row#* }
         # shellcheck disable=SC2086
         "$program" $row 2>&1 | grep -q '^error: unexpected argument' || complain "tests/program/page.sh: bpfdb takes $row"
