@@ -8,8 +8,8 @@ ghost use Rattle.bpfdb_options.specs.declared.subcommand.Subcommand.TheVariants.
 use crate::values::{has_text, is_given, limit_or, number_or, text_of};
 use bpfdb_limits::GREATEST_COUNT;
 use bpfdb_options::{
-    Ask, ConversationAsk, DEFAULT_LINES, DiffAsk, OriginAsk, OtherSide, Registers, Scope, Subcommand, TestAsk,
-    TestPart, TraceAsk, WhynotAsk,
+    Ask, ConversationAsk, DEFAULT_LINES, DiffAsk, OriginAsk, OtherSide, Registers, Scope,
+    Subcommand, TestAsk, TestPart, TraceAsk, WhynotAsk,
 };
 use clap::ArgMatches;
 

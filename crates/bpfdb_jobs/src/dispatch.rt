@@ -251,7 +251,9 @@ fn program_tool<R: Read, W: Write, E: Write>(
                 &mut streams.errors,
             )
         },
-        Ask::Conversation(ask) => conversation_job(alloc, *ask, job, loaded, known, reader, streams),
+        Ask::Conversation(ask) => conversation_job(
+            alloc, *ask, job, loaded, known, reader, streams,
+        ),
         Ask::Origin(origin) => origin_job(alloc, origin, job, loaded, known, streams),
         Ask::Whynot(why) => whynot_job(alloc, why, job, loaded, known, streams),
         Ask::Diff(diff) => diff_job(alloc, diff, job, loaded, known, streams),

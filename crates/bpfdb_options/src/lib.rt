@@ -8,7 +8,8 @@ mod subcommand;
 mod test_part;
 
 pub use ask::{
-    Ask, ConversationAsk, DEFAULT_LINES, DiffAsk, OriginAsk, OtherSide, Scope, TestAsk, TraceAsk, WhynotAsk,
+    Ask, ConversationAsk, DEFAULT_LINES, DiffAsk, OriginAsk, OtherSide, Scope, TestAsk, TraceAsk,
+    WhynotAsk,
 };
 pub use options::{NO_OPTIONS, Options};
 pub use registers::Registers;
