@@ -112,7 +112,8 @@ fn whynot_found<K: Keeper>(
     moves: u64,
     aim: &Aim,
 ) -> Result<Found, AllocError>
-    ensures back { (asked : List ℕ) → AimsAt K.holds session.old.moment.keeper session.old.moment.state asked aim.now →
+    ensures back { (asked : List ℕ) →
+        AimsAt K.holds session.old.moment.keeper session.old.moment.state asked aim.now →
         IfOk result (λ found. ComesBack K.holds K.refused K.room session.old session.new found.left) }
     ensures text { (asked : List ℕ)
         (aims : AimsAt K.holds session.old.moment.keeper session.old.moment.state asked aim.now) →
@@ -160,8 +161,8 @@ fn said(
     found: Found,
     moves: u64,
 ) -> Result<(Heard, u64), AllocError>
-    ensures { IfOk result (λ heard. (said_of heard.0 ≡ spec.says the_kind.Answer (named_by view.now.names found.text.items))
-        × (heard.1 ≡ moves - found.left)) }
+    ensures { IfOk result (λ heard. (said_of heard.0
+        ≡ spec.says the_kind.Answer (named_by view.now.names found.text.items)) × (heard.1 ≡ moves - found.left)) }
 {
     let Found { text, left } = found;
     let text = named(alloc, view.names, text)?;
