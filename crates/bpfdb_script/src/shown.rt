@@ -1,8 +1,9 @@
 //! Names and texts of several lines, written as they are shown.
 ghost use Rattle.std.specs.Prelude.{◌≡◌, ◌&&◌, ◌||◌, ◌==◌, not, flat_map, IfSome, string_bytes};
+ghost use Rattle.std.specs.List.{list_all};
 ghost use Rattle.bstr.specs.Utf8.{pieces, spans_from};
 ghost use Rattle.counted_io.specs.Writing.{Writes, WritesAfter};
-ghost use Rattle.bpfdb_script.specs.Shown.{shown, shown_char, shown_lines, shown_span, steers as steers_by};
+ghost use Rattle.bpfdb_script.specs.Shown.{among, shown, shown_char, shown_lines, shown_span, steers as steers_by};
 ghost use Rattle.bpfdb_script.specs.Shown.{is_unseen as unseen_by, is_as_it_is as as_it_is_by};
 
 use bstr::ByteSlice;
@@ -52,7 +53,17 @@ pub fn put_shown<W: Write>(
 ) -> Result<(), WriteFault>
     ensures { WritesAfter W.contents writer.old so_far writer.new result (shown name.now) }
 {
+    if is_ascii_seen(name) {
+        return put(writer, so_far, name);
+    }
     put_chars(writer, so_far, false, name)
+}
+
+/// Whether a text is blanks and visible characters of ASCII alone, which are shown as they are.
+fn is_ascii_seen(text: &[u8]) -> bool
+    ensures { result ≡ list_all (among 0x20 0x7E) text.now }
+{
+    text.iter().all(|byte| matches!(*byte, 0x20..=0x7E))
 }
 
 /// Writes a text of several lines, in which a name may stand, after what was written so far, unless
