@@ -126,6 +126,17 @@ fn described<'a>(
         .after_help(example)
 }
 
+/// A command and one more option, or what stands behind them.
+fn with_option<'a>(
+    alloc: Global,
+    above: Command<'a>,
+    option: &CliOption<'a>,
+) -> Result<Command<'a>, AllocError>
+    ensures { IfOk result (λ command. app_of command ≡ with_option (app_of above.entry) option.now) }
+{
+    above.arg(argument_of(alloc, option)?)
+}
+
 /// A command with options, and with what stands behind them.
 fn with_options<'a>(
     alloc: Global,
@@ -137,7 +148,7 @@ fn with_options<'a>(
 {
     let mut command = bare;
     for option in options {
-        command = command.arg(argument_of(alloc, option)?)?;
+        command = with_option(alloc, command, option)?;
     }
     Ok(command)
 }
