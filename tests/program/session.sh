@@ -59,6 +59,54 @@ session 'redo of three commands keeps where each began' 'stepi 20\nstepi 20\nste
     "20 forward; done; ${at_jne}20 forward; done; ${at_jne}20 forward; done; ${at_jne}60 back; done; at 0: mov r6, 0\n\
 60 redone; done; ${at_jne}60 moves, 3 commands, 1211 of 65536 bytes\n20 back; done; ${at_jne}40 back; done; at 0: mov r6, 0\n" debug --listing deep.s
 
+# Watched bytes in the frames of calls, at their edges, and beside them. Frame 1 has the addresses from 0x200000400 to 0x2000005ff, frame 2 those
+# from 0x200000800 to 0x2000009ff. A call makes the bytes of the frame that it enters zero.
+cat > frames.s << 'END'
+mov r6, 3
+loop: callf f
+add r6, -1
+jne r6, 0, loop
+exit
+f: stb [r10-1], 1
+stb [r10-512], 1
+exit
+END
+first='at 5: stb [r10-1], 1\n'
+second='at 6: stb [r10-512], 1\n'
+third='at 7: exit\n'
+ended='end; exited at 4: r0 0x0\n'
+session 'a watch on the last byte of a frame that calls enter' 'watch 0x2000005ff\ncontinue\ncontinue\ncontinue\ncontinue\ncontinue\ncontinue\nrc\nrc\n' \
+    "ok\n3 forward; watch; ${second}5 forward; watch; ${first}1 forward; watch; ${second}5 forward; watch; ${first}1 forward; watch; ${second}\
+5 forward; ${ended}6 back; watch; ${first}1 back; watch; at 1: callf L5\n" debug --listing frames.s
+session 'a watch on its first byte' 'watch 0x200000400\ncontinue\ncontinue\ncontinue\ncontinue\ncontinue\ncontinue\n' \
+    "ok\n4 forward; watch; ${third}4 forward; watch; ${first}2 forward; watch; ${third}4 forward; watch; ${first}2 forward; watch; ${third}\
+4 forward; $ended" debug --listing frames.s
+history='20 moves, 1 commands, 1866 of 65536 bytes\n'
+back='20 back; done; at 0: mov r6, 3\n'
+session 'a watch on the last byte of the frame below' 'watch 0x2000001ff\ncontinue\ninfo history\nundo\n' \
+    "ok\n20 forward; $ended$history$back" debug --listing frames.s
+session 'a watch on the first byte of the frame above' 'watch 0x200000800\ncontinue\ninfo history\nundo\n' \
+    "ok\n20 forward; $ended$history$back" debug --listing frames.s
+session 'watches on both sides of a frame' 'watch 0x2000001ff\nwatch 0x200000800\ncontinue\ninfo history\nundo\n' \
+    "ok\nok\n20 forward; $ended$history$back" debug --listing frames.s
+cat > nested.s << 'END'
+callf g
+exit
+g: callf f
+stb [r10-1], 9
+callf f
+exit
+f: stb [r10-1], 7
+stb [r10-512], 7
+exit
+END
+session 'a watch on a frame below one that calls enter' 'watch 0x2000005ff\ncontinue\ncontinue\nrc\nrc\n' \
+    'ok\n6 forward; watch; at 4: callf L6\n6 forward; end; exited at 1: r0 0x0\n7 back; watch; at 3: stb [r10-1], 9\n5 back; start; at 0: callf L2\n' \
+    debug --listing nested.s
+session 'a watch on the frame of the inner one of two calls' 'watch 0x2000009ff\ncontinue\ncontinue\ncontinue\ncontinue\n' \
+    'ok\n3 forward; watch; at 7: stb [r10-512], 7\n4 forward; watch; at 6: stb [r10-1], 7\n1 forward; watch; at 7: stb [r10-512], 7\n'\
+'4 forward; end; exited at 1: r0 0x0\n' debug --listing nested.s
+
 # A byte that is written by step 2, and 148 moves later looked for; an edit of a register, one of the byte and one of another between them.
 cat > writes.s << 'END'
 mov r1, 7
