@@ -14,11 +14,12 @@ use Rattle.bpf_origin.specs.declared.question.Extent.{Extent}
 use Rattle.bpf_origin.specs.declared.question.Extent.TheVariants.{Whole}
 use Rattle.bpf_origin.specs.declared.origin.Turn.{Turn}
 use Rattle.bpf_origin.specs.Texts.{left_text}
-use Rattle.bpf_origin.specs.Answers.{Answer, answer}
+use Rattle.bpf_origin.specs.Answers.{Answer, answer, rows_from}
 use Rattle.bpf_origin.specs.Pasts.{Stand, StandsThere, gone_from, stand}
 use Rattle.bpf_origin.specs.Turns.{PassesOver, Written, TakesTurn}
 use Rattle.bpf_origin.specs.Writes.{written}
 use Rattle.bpf_origin.proofs.Backs.{back_more, back_on}
+use Rattle.bpf_origin.proofs.Telling.{told_left}
 use Rattle.bpf_origin.proofs.Turning.{turn_unhit}
 
 module _ {P W : Type 0} (state : P → State) (follows : P → Track → Type 0) (contents : W → Option (List ℕ)) (q : Question) (old : Tally W) (before : Written) (whole : Answer) (start : Track) (y : State) (all : ℕ) where
@@ -128,11 +129,11 @@ module _ {P W : Type 0} (state : P → State) (follows : P → Track → Type 0)
       → length hs + k ≡ all → Telling contents old before now told (answer q k n wanted hs (state p)).text whole.text
       → (answer q k n wanted hs (state p)).extent ≡ whole.extent → k ≡ all → WritesAfter contents now told after last (left_text q.opening (state p) wanted)
       → Ends p after last Whole all
-  unfolding answer
+  unfolding rows_from
   end_in k n wanted p now after told last (r ∷ h) f stands way count telling extent full left = absurd (omega (arith, count, full))
   end_in k n wanted p now after told last [] f stands way count telling extent full left = record {
     text = Telling-end contents old before after last [] whole.text
-        (Telling-step contents old before now after told last (left_text q.opening (state p) wanted) _ [] whole.text telling left (sym (append-nil _))) refl;
+        (Telling-step contents old before now after told last (left_text q.opening (state p) wanted) _ [] whole.text telling left (told_left q.places q.opening (state p) wanted ∙ sym (append-nil _))) refl;
     extent = extent;
     back = subst (λ (m : ℕ). StandsThere state follows p (gone_from m start y)) full
         (subst (λ (s : Stand). StandsThere state follows p s) (sym way) (record { at = refl; on = stands }));

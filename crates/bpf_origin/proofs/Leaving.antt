@@ -1,4 +1,4 @@
--- The lines of an answer that is not cut are those of its hits, and it ends with the places that are left.
+-- The rows of an answer that is not cut are those of its hits, and it ends with the places that are left.
 use Rattle.std.proofs.Common.{◌≡◌, ℕ, zero, suc, ◌+◌, ◌-◌, Bool, true, false, List, [], ◌∷◌, ◌++◌, length, flat_map, refl, sym, ap, ◌∙◌, append_assoc, arith}
 use Rattle.std.specs.List.{range_with_len}
 use Rattle.std.specs.Prelude.{◌==◌, nat_lt, if◌then◌else◌}
@@ -8,18 +8,18 @@ use Rattle.bpf_steps.specs.State.{State}
 use Rattle.bpf_origin.specs.declared.place.Place.{Place}
 use Rattle.bpf_origin.specs.declared.question.Extent.TheVariants.{Whole, Lines, Places}
 use Rattle.bpf_origin.specs.declared.question.Question.{Question}
-use Rattle.bpf_origin.specs.Answers.{Answer, answer, with_line, wanted_before, line_of}
-use Rattle.bpf_origin.specs.Meaning.{LinesAreHits, left_of, oldest, passed, told_at, told_by}
-use Rattle.bpf_origin.specs.Texts.{left_text, lines_text, places_text}
+use Rattle.bpf_origin.specs.Answers.{Rows, cut_at, rows_from, rows_left, wanted_before, with_row}
+use Rattle.bpf_origin.specs.Rows.{Row, moved}
+use Rattle.bpf_origin.specs.Meaning.{RowsAreHits, left_of, oldest, passed, told_at, told_by}
 use Rattle.bpf_origin.specs.Wanted.{most_places, are_hit, still_wanted}
 use Rattle.bpf_origin.specs.Writes.{written}
 
 -- a list of numbers that begins one later
-shifted : (f g : ℕ → List ℕ) (a n : ℕ) → ((i : ℕ) → f (suc i) ≡ g i) → flat_map f (range_with_len (suc a) n) ≡ flat_map g (range_with_len a n)
+shifted : {X : Type 0} (f g : ℕ → List X) (a n : ℕ) → ((i : ℕ) → f (suc i) ≡ g i) → flat_map f (range_with_len (suc a) n) ≡ flat_map g (range_with_len a n)
 shifted f g a zero same = refl
 shifted f g a (suc n) same =
     let e : suc a + 1 ≡ suc (a + 1) = omega arith in
-    rw e (ap (λ (t : List ℕ). t ++ flat_map f (range_with_len (suc (a + 1)) n)) (same a) ∙ ap (λ (t : List ℕ). g a ++ t) (shifted f g (a + 1) n same))
+    rw e (ap (λ t. t ++ flat_map f (range_with_len (suc (a + 1)) n)) (same a) ∙ ap (λ t. g a ++ t) (shifted f g (a + 1) n same))
 
 -- what is told behind the newest move is told of the history before it
 told_behind : (q : Question) (k : ℕ) (wanted : List Place) (r : Record) (h : List Record) (y : State) (i : ℕ)
@@ -27,41 +27,41 @@ told_behind : (q : Question) (k : ℕ) (wanted : List Place) (r : Record) (h : L
 unfolding left_of
 told_behind q k wanted r h y i = let e : k + suc i + 1 ≡ k + 1 + i + 1 = omega arith in rw e refl
 
--- the text of an answer is a text
-abbrev Reads : List ℕ → Answer → Type 0
-Reads text a = a.extent ≡ Whole → a.text ≡ text
+-- the rows of an answer are these
+abbrev Has : List Row → Rows → Type 0
+Has rows a = a.extent ≡ Whole → a.rows ≡ rows
 
-hit_reads : (line text : List ℕ) (a : Answer) (none full : Bool) → Reads text a
-    → Reads (line ++ text) (if none then record { text = lines_text; extent = Lines } else with_line line (if full then record { text = places_text; extent = Places } else a))
-hit_reads line text a true full reads = λ whole. cc
-hit_reads line text a false true reads = λ whole. cc
-hit_reads line text a false false reads = λ whole. ap (λ (t : List ℕ). line ++ t) (reads whole)
+hit_has : (row : Row) (rows : List Row) (a : Rows) (none full : Bool) → Has rows a
+    → Has (row ∷ rows) (if none then cut_at Lines else with_row row (if full then cut_at Places else a))
+hit_has row rows a true full has = λ whole. cc
+hit_has row rows a false true has = λ whole. cc
+hit_has row rows a false false has = λ whole. ap (λ (t : List Row). row ∷ t) (has whole)
 
-by_hit : (left : List Place → List ℕ) (line : List ℕ) (a b : Answer) (v w : List Place) (hit : Bool) → Reads (line ++ left v) a → Reads (left w) b
-    → Reads ((if hit then line else []) ++ left (if hit then v else w)) (if hit then a else b)
-by_hit left line a b v w true first second = first
-by_hit left line a b v w false first second = second
+by_hit : (left : List Place → List Row) (row : Row) (a b : Rows) (v w : List Place) (hit : Bool) → Has (row ∷ left v) a → Has (left w) b
+    → Has ((if hit then row ∷ [] else []) ++ left (if hit then v else w)) (if hit then a else b)
+by_hit left row a b v w true first second = first
+by_hit left row a b v w false first second = second
 
--- the text of the moves before the newest one
-abbrev rest_text : Question → ℕ → List Record → State → List Place → List ℕ
-rest_text q k h y wanted = flat_map (told_at q k wanted h y) (range_with_len 0 (length h)) ++ left_text q.opening (oldest h y) (left_of q.addresses wanted h y)
+-- the rows of the moves before the newest one
+abbrev rest_rows : Question → ℕ → List Record → State → List Place → List Row
+rest_rows q k h y wanted = flat_map (told_at q k wanted h y) (range_with_len 0 (length h)) ++ rows_left q.opening (oldest h y) (left_of q.addresses wanted h y)
 
-pub law_told : LinesAreHits
-unfolding answer left_of
+pub law_told : RowsAreHits
+unfolding rows_from left_of
 law_told q k n wanted [] y whole = refl
 law_told q k n wanted (r ∷ h) y whole =
     let hit = are_hit (written y (overwritten r.before r.move)) wanted in
-    let line = line_of q (k + 1) r y in
+    let row = moved q.addresses (k + 1) r y in
     let before = passed q.addresses r y wanted in
     let read =
-    by_hit (rest_text q (k + 1) h r.before) line _ _ (wanted_before q r y wanted) (still_wanted y (overwritten r.before r.move) wanted) hit
-    (hit_reads line (rest_text q (k + 1) h r.before (wanted_before q r y wanted)) (answer q (k + 1) (n - 1) (wanted_before q r y wanted) h r.before) (n == 0) (nat_lt most_places (length (wanted_before q r y wanted)))
+    by_hit (rest_rows q (k + 1) h r.before) row _ _ (wanted_before q r y wanted) (still_wanted y (overwritten r.before r.move) wanted) hit
+    (hit_has row (rest_rows q (k + 1) h r.before (wanted_before q r y wanted)) (rows_from q (k + 1) (n - 1) (wanted_before q r y wanted) h r.before) (n == 0) (nat_lt most_places (length (wanted_before q r y wanted)))
     (law_told q (k + 1) (n - 1) (wanted_before q r y wanted) h r.before))
     (law_told q (k + 1) n (still_wanted y (overwritten r.before r.move) wanted) h r.before)
     whole in
     let first : k + 0 + 1 ≡ k + 1 = omega arith in
     read
-    ∙ sym (append_assoc (if hit then line else []) (flat_map (told_at q (k + 1) before h r.before) (range_with_len 0 (length h))) _)
-    ∙ ap (λ (t : List ℕ). ((if hit then line else []) ++ t) ++ left_text q.opening (oldest h r.before) (left_of q.addresses before h r.before))
+    ∙ sym (append_assoc (if hit then row ∷ [] else []) (flat_map (told_at q (k + 1) before h r.before) (range_with_len 0 (length h))) _)
+    ∙ ap (λ (t : List Row). ((if hit then row ∷ [] else []) ++ t) ++ rows_left q.opening (oldest h r.before) (left_of q.addresses before h r.before))
     (sym (shifted (told_at q k wanted (r ∷ h) y) (told_at q (k + 1) before h r.before) 0 (length h) (told_behind q k wanted r h y)))
-    ∙ ap (λ j. ((told_by q j y wanted r) ++ flat_map (told_at q k wanted (r ∷ h) y) (range_with_len 1 (length h))) ++ left_text q.opening (oldest h r.before) (left_of q.addresses before h r.before)) (sym first)
+    ∙ ap (λ j. ((told_by q j y wanted r) ++ flat_map (told_at q k wanted (r ∷ h) y) (range_with_len 1 (length h))) ++ rows_left q.opening (oldest h r.before) (left_of q.addresses before h r.before)) (sym first)

@@ -7,6 +7,7 @@ pub mod Leaving
 pub mod Marking
 pub mod Wanting
 pub mod Backs
+pub mod Telling
 pub mod Turning
 pub mod Going
 pub mod Asking

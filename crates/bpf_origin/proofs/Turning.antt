@@ -26,56 +26,59 @@ use Rattle.bpf_origin.specs.Reads.{followed}
 use Rattle.bpf_origin.specs.Writes.{written}
 use Rattle.bpf_origin.specs.Wanted.{most_places, want_parts, are_hit, still_wanted}
 use Rattle.bpf_origin.specs.Texts.{head, tail, lines_text, places_text}
-use Rattle.bpf_origin.specs.Answers.{Answer, answer, with_line, wanted_before, line_of}
+use Rattle.bpf_origin.specs.Rows.{moved, row_text}
+use Rattle.bpf_origin.specs.Answers.{Answer, Rows, answer, cut_at, rows_from, told, wanted_before, with_line, with_row}
+use Rattle.bpf_origin.proofs.Telling.{told_cut}
 use Rattle.bpf_origin.specs.Turns.{Written, WentBack, TellsRest, TakesTurn}
 
--- The answer where the move wrote a wanted place.
-abbrev hit_answer : Question → ℕ → ℕ → List Place → Record → List Record → State → Answer
-hit_answer q k n wanted r h y =
-    if n == 0 then record { text = lines_text; extent = Lines }
-    else with_line (line_of q (k + 1) r y)
-    (if nat_lt most_places (length (wanted_before q r y wanted)) then record { text = places_text; extent = Places }
-    else answer q (k + 1) (n - 1) (wanted_before q r y wanted) h r.before)
+-- The line of a move.
+abbrev line_of : Question → ℕ → Record → State → List ℕ
+line_of q k r y = row_text q.places (moved q.addresses k r y)
+
+-- The rows where the move wrote a wanted place, by whether there is room for more, and for what it read.
+abbrev fitting : Question → ℕ → ℕ → List Place → Record → List Record → State → Bool → Rows
+fitting q k n wanted r h y full = if full then cut_at Places else rows_from q (k + 1) (n - 1) (wanted_before q r y wanted) h r.before
+
+abbrev hitting : Question → ℕ → ℕ → List Place → Record → List Record → State → Bool → Bool → Rows
+hitting q k n wanted r h y none full = if none then cut_at Lines else with_row (moved q.addresses (k + 1) r y) (fitting q k n wanted r h y full)
+
+abbrev is_full : Question → List Place → Record → State → Bool
+is_full q wanted r y = nat_lt most_places (length (wanted_before q r y wanted))
+
+abbrev by_hit : Question → ℕ → ℕ → List Place → Record → List Record → State → Bool → Answer
+by_hit q k n wanted r h y hit =
+    told q (if hit then hitting q k n wanted r h y (n == 0) (is_full q wanted r y)
+    else rows_from q (k + 1) n (still_wanted y (overwritten r.before r.move) wanted) h r.before)
 
 pub unhit : (q : Question) (k n : ℕ) (wanted : List Place) (r : Record) (h : List Record) (y : State) → are_hit (written y (overwritten r.before r.move)) wanted ≡ false → answer q k n wanted (r ∷ h) y ≡ answer q (k + 1) n (still_wanted y (overwritten r.before r.move) wanted) h r.before
-unfolding answer
-unhit q k n wanted r h y e =
-    ap (λ (b : Bool). if b then hit_answer q k n wanted r h y else answer q (k + 1) n (still_wanted y (overwritten r.before r.move) wanted) h r.before) e
+unfolding rows_from
+unhit q k n wanted r h y e = ap (by_hit q k n wanted r h y) e
 
-hit : (q : Question) (k n : ℕ) (wanted : List Place) (r : Record) (h : List Record) (y : State) → are_hit (written y (overwritten r.before r.move)) wanted ≡ true → answer q k n wanted (r ∷ h) y ≡ hit_answer q k n wanted r h y
-unfolding answer
-hit q k n wanted r h y e =
-    ap (λ (b : Bool). if b then hit_answer q k n wanted r h y else answer q (k + 1) n (still_wanted y (overwritten r.before r.move) wanted) h r.before) e
+hit : (q : Question) (k n : ℕ) (wanted : List Place) (r : Record) (h : List Record) (y : State) → are_hit (written y (overwritten r.before r.move)) wanted ≡ true → answer q k n wanted (r ∷ h) y ≡ told q (hitting q k n wanted r h y (n == 0) (is_full q wanted r y))
+unfolding rows_from
+hit q k n wanted r h y e = ap (by_hit q k n wanted r h y) e
 
 pub no_lines : (q : Question) (k n : ℕ) (wanted : List Place) (r : Record) (h : List Record) (y : State) → are_hit (written y (overwritten r.before r.move)) wanted ≡ true → n ≡ 0 → answer q k n wanted (r ∷ h) y ≡ record { text = lines_text; extent = Lines }
 no_lines q k n wanted r h y e none =
     let is : (n == 0) ≡ true = grind (arith, nat_tests) in
-    hit q k n wanted r h y e
-    ∙ ap (λ (b : Bool). if b then record { text = lines_text; extent = Lines }
-    else with_line (line_of q (k + 1) r y)
-    (if nat_lt most_places (length (wanted_before q r y wanted)) then record { text = places_text; extent = Places }
-    else answer q (k + 1) (n - 1) (wanted_before q r y wanted) h r.before)) is
+    hit q k n wanted r h y e ∙ ap (λ (b : Bool). told q (hitting q k n wanted r h y b (is_full q wanted r y))) is ∙ told_cut q Lines
 
-some_lines : (q : Question) (k n : ℕ) (wanted : List Place) (r : Record) (h : List Record) (y : State) → are_hit (written y (overwritten r.before r.move)) wanted ≡ true → 0 < n → answer q k n wanted (r ∷ h) y ≡ with_line (line_of q (k + 1) r y) (if nat_lt most_places (length (wanted_before q r y wanted)) then record { text = places_text; extent = Places } else answer q (k + 1) (n - 1) (wanted_before q r y wanted) h r.before)
+some_lines : (q : Question) (k n : ℕ) (wanted : List Place) (r : Record) (h : List Record) (y : State) → are_hit (written y (overwritten r.before r.move)) wanted ≡ true → 0 < n → answer q k n wanted (r ∷ h) y ≡ with_line (line_of q (k + 1) r y) (told q (fitting q k n wanted r h y (is_full q wanted r y)))
 some_lines q k n wanted r h y e some =
     let is : (n == 0) ≡ false = grind (arith, nat_tests) in
-    hit q k n wanted r h y e
-    ∙ ap (λ (b : Bool). if b then record { text = lines_text; extent = Lines }
-    else with_line (line_of q (k + 1) r y)
-    (if nat_lt most_places (length (wanted_before q r y wanted)) then record { text = places_text; extent = Places }
-    else answer q (k + 1) (n - 1) (wanted_before q r y wanted) h r.before)) is
+    hit q k n wanted r h y e ∙ ap (λ (b : Bool). told q (hitting q k n wanted r h y b (is_full q wanted r y))) is
 
 pub no_room : (q : Question) (k n : ℕ) (wanted : List Place) (r : Record) (h : List Record) (y : State) → are_hit (written y (overwritten r.before r.move)) wanted ≡ true → 0 < n → most_places < length (wanted_before q r y wanted) → answer q k n wanted (r ∷ h) y ≡ record { text = line_of q (k + 1) r y ++ places_text; extent = Places }
 no_room q k n wanted r h y e some full =
-    let is : nat_lt most_places (length (wanted_before q r y wanted)) ≡ true = grind (arith, nat_tests) in
+    let is : is_full q wanted r y ≡ true = grind (arith, nat_tests) in
     some_lines q k n wanted r h y e some
-    ∙ ap (λ (b : Bool). with_line (line_of q (k + 1) r y) (if b then record { text = places_text; extent = Places } else answer q (k + 1) (n - 1) (wanted_before q r y wanted) h r.before)) is
+    ∙ ap (λ (b : Bool). with_line (line_of q (k + 1) r y) (told q (fitting q k n wanted r h y b))) is
+    ∙ ap (with_line (line_of q (k + 1) r y)) (told_cut q Places)
 
 pub told_on : (q : Question) (k n : ℕ) (wanted : List Place) (r : Record) (h : List Record) (y : State) → are_hit (written y (overwritten r.before r.move)) wanted ≡ true → 0 < n → length (wanted_before q r y wanted) ≤ most_places → answer q k n wanted (r ∷ h) y ≡ with_line (line_of q (k + 1) r y) (answer q (k + 1) (n - 1) (wanted_before q r y wanted) h r.before)
 told_on q k n wanted r h y e some fits =
-    let is : nat_lt most_places (length (wanted_before q r y wanted)) ≡ false = grind (arith, nat_tests) in
-    some_lines q k n wanted r h y e some
-    ∙ ap (λ (b : Bool). with_line (line_of q (k + 1) r y) (if b then record { text = places_text; extent = Places } else answer q (k + 1) (n - 1) (wanted_before q r y wanted) h r.before)) is
+    let is : is_full q wanted r y ≡ false = grind (arith, nat_tests) in
+    some_lines q k n wanted r h y e some ∙ ap (λ (b : Bool). with_line (line_of q (k + 1) r y) (told q (fitting q k n wanted r h y b))) is
 
 -- What is told of a move that was taken back says whether it was a step.
 pub step_of : (o : Option Taken) (t : Taken) (r : Record) → o ≡ Some t → o ≡ Some (taken_of r) → t.is_step ≡ is_step r.move

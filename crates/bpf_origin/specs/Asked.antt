@@ -15,10 +15,9 @@ use Rattle.bpf_origin.specs.declared.fault.WhatFault.{WhatFault}
 use Rattle.bpf_origin.specs.declared.fault.WhatFault.TheVariants.{Unknown, Absent}
 use Rattle.bpf_origin.specs.declared.what.What.{What}
 use Rattle.bpf_origin.specs.declared.what.What.TheVariants.{Register, Bytes}
-use Rattle.bpf_origin.specs.Answers.{Answer, answer}
+use Rattle.bpf_origin.specs.Answers.{Answer, Rows, cut_at, rows_from, told}
 use Rattle.bpf_origin.specs.Places.{depth_for}
 use Rattle.bpf_origin.specs.Reads.{asked}
-use Rattle.bpf_origin.specs.Texts.{places_text}
 use Rattle.bpf_origin.specs.Wanted.{most_places, want_parts}
 
 -- A number below 2^64, as commands have them: decimal digits, or 0x and hexadecimal digits.
@@ -77,8 +76,10 @@ abbrev pub parts_asked : State → Option What → List Part
 parts_asked x None = asked x
 parts_asked x (Some what) = part_asked x what ∷ []
 
--- The answer about parts, in a state with its history.
+-- The rows about parts, in a state with its history; and the answer.
+abbrev pub rows_about : Question → List Part → List Record → State → Rows
+rows_about q parts h y =
+    if nat_lt most_places (length (want_parts [] parts)) then cut_at Places else rows_from q 0 q.lines (want_parts [] parts) h y
+
 abbrev pub answer_about : Question → List Part → List Record → State → Answer
-answer_about q parts h y =
-    if nat_lt most_places (length (want_parts [] parts)) then record { text = places_text; extent = Places }
-    else answer q 0 q.lines (want_parts [] parts) h y
+answer_about q parts h y = told q (rows_about q parts h y)

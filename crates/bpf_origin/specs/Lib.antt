@@ -7,6 +7,7 @@ pub mod Pasts
 pub mod Laws
 pub mod Matters
 pub mod Texts
+pub mod Rows
 pub mod Answers
 pub mod Meaning
 pub mod Turns

@@ -10,11 +10,11 @@ use Rattle.bpf_machine.specs.declared.moves.Move.TheVariants as move
 use Rattle.bpf_origin.specs.declared.place.Place.{Place}
 use Rattle.bpf_origin.specs.declared.question.Question.{Question}
 use Rattle.bpf_origin.specs.declared.question.Extent.TheVariants.{Whole}
-use Rattle.bpf_origin.specs.Answers.{answer, line_of}
+use Rattle.bpf_origin.specs.Answers.{rows_from, rows_left}
 use Rattle.bpf_origin.specs.Laws.{StandAlike, Agree, AgreeOn}
 use Rattle.bpf_origin.specs.Places.{IsPlace}
 use Rattle.bpf_origin.specs.Reads.{bases, conditions, followed, reads}
-use Rattle.bpf_origin.specs.Texts.{left_text}
+use Rattle.bpf_origin.specs.Rows.{Row, moved}
 use Rattle.bpf_origin.specs.Wanted.{is_in, want_parts, are_hit, still_wanted}
 use Rattle.bpf_origin.specs.Writes.{written}
 
@@ -55,22 +55,22 @@ LeftIsAll =
     IsRun h y → IsRun g w → GoAlike addresses h y g w → ArePlaces y wanted →
     Agree (left_of addresses wanted h y) (oldest h y) (oldest g w) → Agree wanted y w
 
--- What is told of the move with i newer ones, after k moves that were told before: its line, just if it wrote a place that the newer ones
+-- What is told of the move with i newer ones, after k moves that were told before: its row, just if it wrote a place that the newer ones
 -- left wanted.
-abbrev pub told_by : Question → ℕ → State → List Place → Record → List ℕ
-told_by q k y wanted r = if are_hit (written y (overwritten r.before r.move)) wanted then line_of q k r y else []
+abbrev pub told_by : Question → ℕ → State → List Place → Record → List Row
+told_by q k y wanted r = if are_hit (written y (overwritten r.before r.move)) wanted then moved q.addresses k r y ∷ [] else []
 
-abbrev pub told_at : Question → ℕ → List Place → List Record → State → ℕ → List ℕ
+abbrev pub told_at : Question → ℕ → List Place → List Record → State → ℕ → List Row
 told_at q k wanted h y i =
     option_map_or (told_by q (k + i + 1) (state_before i h y) (left_of q.addresses wanted (take i h) y)) (slice_get h i) []
 
--- An answer that is not cut has these lines, from the newest move to the oldest, and then a line for each place that is left, with its value
+-- An answer that is not cut has these rows, from the newest move to the oldest, and then a row for each place that is left, with its value
 -- in the oldest state.
-abbrev pub LinesAreHits : Type 0
-LinesAreHits =
-    (q : Question) (k n : ℕ) (wanted : List Place) (h : List Record) (y : State) → (answer q k n wanted h y).extent ≡ Whole →
-    (answer q k n wanted h y).text
-    ≡ flat_map (told_at q k wanted h y) (range_with_len 0 (length h)) ++ left_text q.opening (oldest h y) (left_of q.addresses wanted h y)
+abbrev pub RowsAreHits : Type 0
+RowsAreHits =
+    (q : Question) (k n : ℕ) (wanted : List Place) (h : List Record) (y : State) → (rows_from q k n wanted h y).extent ≡ Whole →
+    (rows_from q k n wanted h y).rows
+    ≡ flat_map (told_at q k wanted h y) (range_with_len 0 (length h)) ++ rows_left q.opening (oldest h y) (left_of q.addresses wanted h y)
 
 -- Two runs of steps, from states that stand alike, agree before each step on all that it reads, the registers of its addresses and of its
 -- condition among that.

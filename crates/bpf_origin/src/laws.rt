@@ -1,7 +1,7 @@
 //! Laws of the definitions, each proved as the contract of a function that does nothing.
 ghost use Rattle.bpf_origin.specs.Laws.{MovesKeepOtherPlaces, MovesWriteWhatTheyRead, StepsGoByConditions};
 ghost use Rattle.bpf_origin.specs.Matters.{EachReadMatters};
-ghost use Rattle.bpf_origin.specs.Meaning.{AgreeingRunsGoAlike, LeftIsAll, LinesAreHits};
+ghost use Rattle.bpf_origin.specs.Meaning.{AgreeingRunsGoAlike, LeftIsAll, RowsAreHits};
 
 /// A move changes no place but those that it writes.
 #[tactic(none)]
@@ -35,12 +35,12 @@ pub fn each_read_matters()
 
 /// What is left is all that an answer depends on: two histories along one path with the same
 /// addresses, from states that agree on the places that are left, lead to states that agree on the
-/// places asked for. An answer that is not cut has a line of a move just if that wrote a place that
-/// the newer ones left wanted, and ends with a line for each of the places that are left.
+/// places asked for. An answer that is not cut has a row of a move just if that wrote a place that
+/// the newer ones left wanted, and ends with a row for each of the places that are left.
 #[tactic(none)]
 pub fn what_is_left_is_all()
     ensures all { LeftIsAll }
-    ensures told { LinesAreHits }
+    ensures told { RowsAreHits }
 {}
 
 /// Two runs of steps go along one path, from states at one point of a program, if they agree before
