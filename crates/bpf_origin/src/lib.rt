@@ -21,7 +21,7 @@ mod writes;
 
 pub use answer::put_answer;
 pub use fault::WhatFault;
-pub use line::{put_part, put_part_name, put_slot, put_value};
+pub use line::{put_move, put_part, put_part_name, put_slot, put_value};
 pub use look::{Looked, go_on, look_back};
 pub use origin::put_origin;
 pub use past::Past;

@@ -4,7 +4,6 @@ ghost use Rattle.std.specs.Option.{option_map_or};
 ghost use Rattle.counted_io.specs.Writing.{WritesAfter};
 ghost use Rattle.bpf_journal.specs.Histories.{is_step as is_step_of};
 ghost use Rattle.bpf_isa.specs.Programs.{insn_at};
-ghost use Rattle.bpfdb_script.specs.Texts.{text_at};
 ghost use Rattle.bpf_machine.specs.declared.moves.Move.{Move};
 ghost use Rattle.bpf_origin.specs.Texts as spec;
 
@@ -12,8 +11,7 @@ use crate::place::Part;
 use crate::value::{register_at, word_at};
 use bpf_isa::Insn;
 use bpf_machine::Cpu;
-use bpf_text::put_insn;
-use bpfdb_script::{SlotTexts, text_of_slot};
+use bpfdb_script::{SlotTexts, put_at, text_of_slot};
 use byteorder::{ByteOrder, LittleEndian};
 use counted_io::{Counted, Piece, WriteFault, put, put_all, put_decimal};
 use std::io::Write;
@@ -229,26 +227,8 @@ fn put_reads<W: Write>(
     put_some_reads(writer, begun, parts)
 }
 
-/// Writes the slot and the instruction at pc.
-fn put_step<W: Write>(
-    writer: &mut Counted<W>,
-    so_far: Result<(), WriteFault>,
-    cpu: &Cpu,
-) -> Result<(), WriteFault>
-    ensures { WritesAfter W.contents writer.old so_far writer.new result
-        (text_at cpu.now.program cpu.now.pc) }
-{
-    let slot = usize::from(cpu.pc());
-    let numbered = put_decimal(writer, so_far, slot as u64);
-    let parted = put(writer, numbered, b": ");
-    match cpu.program().insn_at(slot) {
-        Some(insn) => put_insn(writer, parted, slot, insn),
-        None => parted,
-    }
-}
-
-/// Writes which move it was.
-fn put_move<W: Write>(
+/// Writes which move it was, from the machine before it.
+pub fn put_move<W: Write>(
     writer: &mut Counted<W>,
     so_far: Result<(), WriteFault>,
     cpu: &Cpu,
@@ -258,7 +238,8 @@ fn put_move<W: Write>(
         WritesAfter W.contents writer.old so_far writer.new result (spec.move_text cpu.now m) }
 {
     if is_step {
-        put_step(writer, so_far, cpu)
+        cpu.invariant();
+        put_at(writer, so_far, cpu.program(), usize::from(cpu.pc()))
     } else {
         put(writer, so_far, b"edit")
     }

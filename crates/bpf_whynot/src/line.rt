@@ -6,15 +6,14 @@ ghost use Rattle.bpf_steps.specs.State.{State};
 ghost use Rattle.bpf_machine.specs.declared.moves.Move.{Move};
 ghost use Rattle.bpf_machine.specs.declared.moves.Move.TheVariants as move_of;
 ghost use Rattle.bpf_origin.specs.Reads as reads;
-ghost use Rattle.bpf_origin.specs.Texts as origin;
 ghost use Rattle.bpf_whynot.specs.Answers as spec;
 ghost use Rattle.bpf_whynot.specs.Standings.{standing};
 
 use crate::standing::Standing;
 use bpf_isa::{Insn, Reg, Source};
 use bpf_machine::Cpu;
-use bpf_origin::{Part, Parts, put_part, put_slot, register_part};
-use bpfdb_script::{SlotTexts, put_at};
+use bpf_origin::{Part, Parts, put_move, put_part, put_slot, register_part};
+use bpfdb_script::SlotTexts;
 use counted_io::{Counted, Piece, WriteFault, put, put_all, put_decimal};
 use std::io::Write;
 
@@ -75,24 +74,6 @@ fn add_source(cpu: &Cpu, source: Source, parts: &mut Parts)
     match source {
         Source::Immediate(_) => {}
         Source::Register(register) => add_register(cpu, register, parts),
-    }
-}
-
-/// Writes which move it was, from the machine before it.
-fn put_move<W: Write>(
-    writer: &mut Counted<W>,
-    so_far: Result<(), WriteFault>,
-    cpu: &Cpu,
-    is_step: bool,
-) -> Result<(), WriteFault>
-    ensures { (m : Move) → is_step ≡ is_step_of m →
-        WritesAfter W.contents writer.old so_far writer.new result (origin.move_text cpu.now m) }
-{
-    if is_step {
-        cpu.invariant();
-        put_at(writer, so_far, cpu.program(), usize::from(cpu.pc()))
-    } else {
-        put(writer, so_far, b"edit")
     }
 }
 
