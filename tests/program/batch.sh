@@ -96,6 +96,26 @@ echo $? > found/status
 exec 7<&-
 check 'batch: through pipes, a case at a time' 0 '0x1\n0x2\n0x3\n' ''
 
+# Lines whose line feeds stand around every place where input is read on, by blanks behind a case; and a byte a read.
+: > script
+: > answers
+at=0
+for size in 8191 1 8190 2 8191 8192 8193 16383 16384 16385 3; do
+    at=$((at + 1))
+    if [ "$size" -lt 40 ]; then
+        printf '%*s\n' "$((size - 1))" '' >> script
+        echo 'refused C1: empty program' >> answers
+    else
+        printf 'b7000000%02x0000009500000000000000%*s\r\n' "$at" "$((size - 34))" '' >> script
+        printf '0x%x\n' "$at" >> answers
+    fi
+done
+run batch
+check 'batch: line feeds around the places where input is read on' 0 "$(text answers)" ''
+dd bs=1 if=script 2> /dev/null | "$program" batch > found/out 2> found/err
+echo $? > found/status
+check 'batch: a byte a write' 0 "$(text answers)" ''
+
 # Refused maps; input that can't be read, output that can't be written, and a FILE that isn't there.
 refused 'refused M1: value size not 1 to 256' batch --maps 0x1
 refused 'cannot read missing' batch missing

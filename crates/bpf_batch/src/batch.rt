@@ -9,7 +9,7 @@ use crate::fault::BatchFault;
 use bpf_isa::MapTable;
 use bpf_machine::Cpu;
 use counted_io::{Counted, WriteFault};
-use input_texts::{LineBuffer, ReadFault, next_line};
+use input_texts::{LineBuffer, ReadAhead, ReadFault, next_line};
 use std::alloc::Global;
 use std::io::{Read, Write};
 
@@ -96,10 +96,11 @@ pub fn run_batch<R: Read, W: Write>(
         × (writer.new.failures ≡ writer.old.failures)) }
     ensures err { IfErr result (λ why. FailsBy why reader.old reader.new writer.old writer.new) }
 {
+    let mut ahead = ReadAhead::new();
     let mut line = LineBuffer::new(alloc);
     let mut kept = None;
     'lines: loop {
-        let next = match next_line(reader, &mut line) {
+        let next = match next_line(reader, &mut ahead, &mut line) {
             Err(why) => return Err(fault_of(why)),
             Ok(next) => next,
         };

@@ -5,3 +5,4 @@ pub mod TraceCuts
 pub mod TraceReading
 pub mod CaseLines
 pub mod CaseReadings
+pub mod DigitValues

@@ -9,5 +9,6 @@ pub mod TraceForms
 pub mod TraceFaults
 pub mod Cases
 pub mod ReadLines
+pub mod ReadsAhead
 pub mod Turns
 pub mod Counts

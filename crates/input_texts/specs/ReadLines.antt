@@ -1,5 +1,6 @@
 -- How a line is read, of any reader.
-use Rattle.std.specs.Prelude.{◌≡◌, ◌<◌, ◌≤◌, ◌++◌, ◌∷◌, ℕ, Bool, true, false, List, [], Option, Some, Result, IfOk, IfErr, OnOk, length}
+use Rattle.std.specs.Prelude.{◌≡◌, ◌+◌, ◌-◌, ◌*◌, ◌<◌, ◌≤◌, ◌++◌, ◌∷◌, ℕ, Bool, true, false, List, [], Option, Some, Result, IfOk, IfErr, OnOk, length}
+use Rattle.std.specs.Io.KnownBytes.{prepend_known}
 use Rattle.counted_io.specs.Counted.{Tally, last_count, one_more}
 use Rattle.counted_io.specs.Lines.{lines}
 use Rattle.input_texts.specs.Cases.{longest_line}
@@ -37,10 +38,19 @@ abbrev pub Fails : ReadFault → ℕ → ℕ → Type 0
 Fails fault.Read old new = new ≡ one_more old
 Fails fault.Memory old new = new ≡ old
 
--- The next line was read from what a reader had left; reads come closer to their last count.
-pub record ReadsLine {R : Type 0} (remaining : R → Option (List ℕ)) (old new : Tally R) (buffer : Buffer) (result : Result NextLine ReadFault)
-    : Type 0 where
-  pub cut : IfOk result (λ next. (text : List ℕ) → remaining old.inner ≡ Some text → (rest : List ℕ) × (remaining new.inner ≡ Some rest) × CutsLine next text rest buffer)
+-- The most bytes that are ahead.
+abbrev pub most_ahead : ℕ
+most_ahead = 8192
+
+-- What is left of reads and of bytes ahead: each line takes some.
+abbrev pub to_come : {R : Type 0} → Tally R → List ℕ → ℕ
+to_come reader ahead = (last_count - reader.reads) * (most_ahead + 1) + length ahead
+
+-- The next line was read from what is ahead and what a reader has left.
+pub record ReadsLine {R : Type 0} (remaining : R → Option (List ℕ)) (old : Tally R) (ahead : List ℕ) (new : Tally R) (ahead' : List ℕ)
+    (buffer : Buffer) (result : Result NextLine ReadFault) : Type 0 where
+  pub cut : IfOk result (λ next. (text : List ℕ) → prepend_known ahead (remaining old.inner) ≡ Some text
+      → (rest : List ℕ) × (prepend_known ahead' (remaining new.inner) ≡ Some rest) × CutsLine next text rest buffer)
   pub same : OnOk result (new.failures ≡ old.failures)
-  pub nearer : OnOk result ((old.reads < new.reads) × (new.reads ≤ last_count))
+  pub nearer : OnOk result (to_come new ahead' < to_come old ahead)
   pub fault : IfErr result (λ why. Fails why old.failures new.failures)

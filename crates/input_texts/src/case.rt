@@ -1,11 +1,10 @@
 //! A line of a case: the words of its program, or a minus sign, and its context.
 ghost use Rattle.std.specs.Prelude.{◌≡◌, IfOk, [], if◌then◌else◌};
-ghost use Rattle.std.specs.Option.{option_map};
-ghost use Rattle.input_texts.specs.Cases.{bytes_of, case_of, first_word, is_shared, own_digits, rest_of};
+ghost use Rattle.input_texts.specs.Cases.{case_of, first_word, is_shared, own_digits, rest_of};
 
 use crate::case_fault::CaseFault;
+use crate::digits::bytes_of;
 use counted_io::{find_blank, trim, trim_start};
-use hex::{FromHexError, decode};
 use std::alloc::{AllocError, Global};
 use std::marker::Model;
 
@@ -78,15 +77,4 @@ fn own_digits(word: &[u8]) -> &[u8]
     ensures { result.now ≡ own_digits word.now }
 {
     if is_shared(word) { &[] } else { word }
-}
-
-/// The bytes that digits are, None where they are none.
-fn bytes_of(alloc: Global, digits: &[u8]) -> Result<Option<Vec<u8>>, AllocError>
-    ensures { IfOk result (λ bytes. option_map (λ v. v.items) bytes ≡ bytes_of digits.now) }
-{
-    match decode(alloc, digits) {
-        Ok(bytes) => Ok(Some(bytes)),
-        Err(FromHexError::OutOfMemory) => Err(AllocError),
-        Err(_) => Ok(None),
-    }
 }

@@ -1,9 +1,13 @@
-//! Lines of cases, read a byte at a time.
-ghost use Rattle.std.specs.Prelude.{◌≡◌, ◌≤◌, ◌<◌, ◌++◌, ◌∷◌, [], ◌↔◌, IsTrue, List, MatchOption, OnOk, length, ℕ};
+//! Lines of cases, cut from what was read ahead.
+ghost use Rattle.std.specs.Prelude.{◌≡◌, ◌≤◌, ◌<◌, ◌++◌, [], ◌↔◌, IfOk, IsTrue, List, MatchOption, OnOk, length, ℕ};
+ghost use Rattle.memchr.specs.Find.{IsFirstByte, is_byte};
 ghost use Rattle.input_texts.specs.Cases.{longest_line};
 ghost use Rattle.input_texts.specs.ReadLines.{Holds, ReadsLine, is_last, is_missing};
+ghost use Rattle.input_texts.specs.ReadsAhead.{TakesAhead};
 
-use counted_io::{Counted, read_byte};
+use crate::read_ahead::ReadAhead;
+use counted_io::Counted;
+use memchr::memchr;
 use std::alloc::{AllocError, Global};
 use std::io::Read;
 use std::marker::Model;
@@ -52,18 +56,40 @@ impl LineBuffer {
         !self.is_long && self.bytes.is_empty()
     }
 
-    /// Adds a byte, which is dropped where the line is too long to be read.
-    fn push(&mut self, byte: u8) -> Result<(), AllocError>
+    /// Adds a part, which is dropped where the line is too long to be read.
+    fn append(&mut self, part: &[u8]) -> Result<(), AllocError>
         ensures { OnOk result ((line : List ℕ) → Holds self.old line
-            → Holds self.new (line ++ byte ∷ [])) }
+            → Holds self.new (line ++ part.now)) }
     {
-        if self.bytes.len() >= LONGEST_LINE {
+        if self.is_long || LONGEST_LINE.saturating_sub(self.bytes.len()) < part.len() {
             self.is_long = true;
             return Ok(());
         }
-        match self.bytes.push(byte) {
+        match self.bytes.extend_from_slice(part) {
             Ok(()) => Ok(()),
             Err(_) => Err(AllocError),
+        }
+    }
+
+    /// Adds what is ahead up to a line feed, which is dropped, or all of it. Answers whether the line
+    /// has ended.
+    fn take(&mut self, ahead: &mut ReadAhead) -> Result<bool, AllocError>
+        ensures { IfOk result (λ ended. (line : List ℕ) → Holds self.old line
+            → TakesAhead ended line self.new ahead.old ahead.new) }
+    {
+        let bytes = ahead.as_slice();
+        match memchr(b'\n', bytes) {
+            Some(end) => {
+                self.append(&bytes[..end])?;
+                ahead.consume(end + 1);
+                Ok(true)
+            }
+            None => {
+                let count = bytes.len();
+                self.append(bytes)?;
+                ahead.consume(count);
+                Ok(false)
+            }
         }
     }
 
@@ -116,32 +142,31 @@ pub enum ReadFault {
     Memory,
 }
 
-/// Reads the next line, without its line feed. What follows the last line feed is a line only where
-/// it isn't empty.
+/// Reads the next line, without its line feed: what is ahead, and then as much as is needed to find
+/// where the line ends, in large pieces. What follows the last line feed is a line only where it isn't
+/// empty.
 pub fn next_line<R: Read>(
     reader: &mut Counted<R>,
+    ahead: &mut ReadAhead,
     line: &mut LineBuffer,
 ) -> Result<NextLine, ReadFault>
-    ensures { ReadsLine R.remaining reader.old reader.new line.new result }
+    ensures { ReadsLine R.remaining reader.old ahead.old reader.new ahead.new line.new result }
 {
     line.clear();
-    loop {
-        match read_byte(reader) {
+    'parts: loop {
+        match line.take(ahead) {
+            Err(_) => return Err(ReadFault::Memory),
+            Ok(true) => return Ok(NextLine::Ended),
+            Ok(false) => {}
+        }
+        match ahead.refill(reader) {
             Err(_) => return Err(ReadFault::Read),
-            Ok(None) => {
+            Ok(true) => {}
+            Ok(false) => {
                 if line.is_empty() {
                     return Ok(NextLine::Missing);
                 }
                 return Ok(NextLine::Last);
-            }
-            Ok(Some(byte)) => {
-                if byte == b'\n' {
-                    return Ok(NextLine::Ended);
-                }
-                match line.push(byte) {
-                    Ok(()) => {}
-                    Err(_) => return Err(ReadFault::Memory),
-                }
             }
         }
     }

@@ -2,30 +2,21 @@ use Rattle.std.proofs.Common.{Ok, ap, ◌∙◌}
 use Rattle.input_texts.proofs.CaseReadings.{Reading-more, Reading-line, Reading-fail, Reading-full, Reading-missing, Reading-last}
 use Rattle.input_texts.proofs.case_line.next_line.Goals as goal
 
-pub returns-in-Err : goal.returns-in-Err
-returns-in-Err g c = Reading-fail _ _ _ _ _ _ c.loop-line.invariant (rw c.in-Err.is at c.read_byte.ensures)
+pub returns-in-Ok-true : goal.returns-in-Ok-true
+returns-in-Ok-true g c =
+    Reading-line _ _ _ _ _ _ _ c.parts.invariant _ (rw (c.in-Ok-true.is ∙ ap Ok c.in-Ok-true.field-0-test) at c.take.ensures)
+
+pub parts-preserved : goal.parts-preserved
+parts-preserved g c =
+    Reading-more _ _ _ _ _ _ _ c.parts.invariant _ (rw (c.in-Ok-false.is ∙ ap Ok c.in-Ok-false.field-0-test) at c.take.ensures) _ _
+    (rw (c.in-Ok-true-refill.is ∙ ap Ok c.in-Ok-true-refill.field-0-test) at c.refill.ensures)
 
 pub returns-then-is_empty : goal.returns-then-is_empty
 returns-then-is_empty g c =
-    let e = c.in-Ok-None.is ∙ ap Ok c.in-Ok-None.field-0-is in
-    Reading-missing _ _ _ _ _ _ c.loop-line.invariant (rw e at c.read_byte.ensures) c.is_empty.ensures c.if-is_empty.true
+    Reading-missing _ _ _ _ _ _ _ c.parts.invariant _ (rw (c.in-Ok-false.is ∙ ap Ok c.in-Ok-false.field-0-test) at c.take.ensures) _ _ _
+    (rw (c.in-Ok-false-refill.is ∙ ap Ok c.in-Ok-false-refill.field-0-test) at c.refill.ensures) c.is_empty.ensures c.if-is_empty.true
 
-pub returns-in-Ok-None : goal.returns-in-Ok-None
-returns-in-Ok-None g c =
-    let e = c.in-Ok-None.is ∙ ap Ok c.in-Ok-None.field-0-is in
-    Reading-last _ _ _ _ _ _ c.loop-line.invariant (rw e at c.read_byte.ensures) c.is_empty.ensures c.if-is_empty.false
-
-pub returns-then-byte-eq10 : goal.returns-then-byte-eq10
-returns-then-byte-eq10 g c =
-    let e = c.in-Ok-Some.is ∙ ap Ok c.in-Ok-Some.field-0-is in
-    Reading-line _ _ _ _ _ _ c.loop-line.invariant (rw e at c.read_byte.ensures) c.if-byte-eq10.true
-
-pub returns-in-Err-push : goal.returns-in-Err-push
-returns-in-Err-push g c =
-    let e = c.in-Ok-Some.is ∙ ap Ok c.in-Ok-Some.field-0-is in
-    Reading-full _ _ _ _ _ _ _ c.loop-line.invariant (rw e at c.read_byte.ensures)
-
-pub loop-line-preserved : goal.loop-line-preserved
-loop-line-preserved g c =
-    let e = c.in-Ok-Some.is ∙ ap Ok c.in-Ok-Some.field-0-is in
-    Reading-more _ _ _ _ _ _ _ c.loop-line.invariant (rw e at c.read_byte.ensures) c.if-byte-eq10.false (rw c.in-Ok.is at c.push.ensures)
+pub returns-in-Ok-false-refill : goal.returns-in-Ok-false-refill
+returns-in-Ok-false-refill g c =
+    Reading-last _ _ _ _ _ _ _ c.parts.invariant _ (rw (c.in-Ok-false.is ∙ ap Ok c.in-Ok-false.field-0-test) at c.take.ensures) _ _ _
+    (rw (c.in-Ok-false-refill.is ∙ ap Ok c.in-Ok-false-refill.field-0-test) at c.refill.ensures) c.is_empty.ensures c.if-is_empty.false
