@@ -1,5 +1,5 @@
 -- Where a session stands, and what it was opened with.
-use Rattle.std.specs.Prelude.{ℕ, List, []}
+use Rattle.std.specs.Prelude.{ℕ, List, [], min}
 use Rattle.bpf_steps.specs.State.{State}
 use Rattle.bpf_journal.specs.Histories.{Record}
 
@@ -20,6 +20,10 @@ without_ahead p = record p { ahead = [] }
 pub record Bounds : Type 0 where
   pub limit : ℕ
   pub room : ℕ
+
+-- The same with so many steps at the most.
+abbrev pub within : ℕ → Bounds → Bounds
+within most b = record b { limit = min b.limit most }
 
 -- A session that was just opened over a machine: no history, nothing to be made again, no breakpoints, no watches.
 abbrev pub opening : State → Point

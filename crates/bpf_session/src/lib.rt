@@ -20,6 +20,6 @@ pub use fault::RunFault;
 pub use kept::run_kept;
 pub use plain::{Ending, run_plain};
 pub use reply::Reply;
-pub use script::run;
+pub use script::{put_answer, run};
 pub use session::Session;
 pub use watches::{Run, Sight};

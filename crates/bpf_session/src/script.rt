@@ -38,8 +38,8 @@ fn said_by(line: &LineBuffer) -> Result<Option<Command>, Refusal>
     }
 }
 
-/// Writes the answer to a command.
-fn put_answer<K: Keeper, W: Write>(
+/// Writes the answer to a command, from the session's present state.
+pub fn put_answer<K: Keeper, W: Write>(
     session: &Session<K>,
     answer: &Result<Reply, Refusal>,
     writer: &mut Counted<W>,

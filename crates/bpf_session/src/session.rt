@@ -7,6 +7,7 @@ ghost use Rattle.bpfdb_script.specs.Limits.{greatest_count};
 ghost use Rattle.bpf_session.specs.Accepted.{Accepts};
 ghost use Rattle.bpf_session.specs.Lending.{LendsCourse};
 ghost use Rattle.bpf_session.specs.Meaning.{accepted, does};
+ghost use Rattle.bpf_session.specs.Points.{within};
 ghost use Rattle.bpf_session.specs.Sessions.{HasPast, Obeys, bounds_of};
 
 mod backward;
@@ -144,6 +145,19 @@ impl<K: Keeper> Session<K> {
             Some(refusal) => Err(refusal),
             None => self.accept(command),
         }
+    }
+
+    /// Obeys a command, or refuses it, as `apply` does, with so many steps at the most: 1 or more.
+    pub fn apply_within(&mut self, command: &Command, most: u64) -> Result<Reply, Refusal>
+        requires { 1 ≤ most }
+        ensures { Obeys K.holds K.refused K.room self.old self.new
+            (λ gap. does gap (within most (bounds_of K.room self.old)) command.now) result }
+    {
+        let limit = self.limit;
+        self.limit = limit.min(most);
+        let answer = self.apply(command);
+        self.limit = limit;
+        answer
     }
 
     /// Obeys a command that is not refused, but where memory for its first move is.
