@@ -12,12 +12,13 @@ use Rattle.bpf_session.specs.Sessions.{SessionValue}
 use Rattle.bpfdb_script.specs.ReadLines.{Buffer, Holds, ReadsLine, is_last, is_missing}
 use Rattle.bpfdb_script.specs.declared.line.NextLine.{NextLine}
 use Rattle.bpfdb_script.specs.declared.line.NextLine.TheVariants.{Ended, Last, Missing}
-use Rattle.bpf_questions.specs.Conversations.{AnswersAll, BreaksOff, Hears, HearsAll, Said, Stand, told}
+use Rattle.bpf_questions.specs.Conversations.{AnswersAll, BreaksOff, Hears, HearsAll, Said, Stand, opened, told}
 use Rattle.bpf_questions.specs.Failures.{Counts, FailsBy}
 use Rattle.bpf_questions.specs.Hearing.{TellsLine}
 use Rattle.bpf_questions.specs.declared.conversation.Progress.{Progress}
 use Rattle.bpf_questions.specs.declared.fault.ConversationFault.{ConversationFault}
 use Rattle.bpf_questions.specs.declared.fault.ConversationFault.TheVariants.{Read, Write, Memory}
+use Rattle.bpf_questions.specs.declared.stop.Past.{Past}
 use Rattle.bpf_questions.specs.declared.view.View.{View}
 
 -- the number of the line behind so many
@@ -76,7 +77,7 @@ module _ {K : Type 0} (holds : K → List Kept → Type 0) (refusals room : K �
       pub done : List (List ℕ)
       pub split : lines script ≡ done ++ lines rest
       pub text : List ℕ
-      pub heard : HearsAll holds refusals room v (from, 0) (now, p.moves) 0 done text
+      pub heard : HearsAll holds refusals room v (opened holds refusals room from) (now, p.past) 0 done text
       pub numbered : p.lines ≡ counted (length done)
       pub written : contents writer.inner ≡ Some (first ++ text)
 
@@ -85,7 +86,7 @@ module _ {K : Type 0} (holds : K → List Kept → Type 0) (refusals room : K �
       pub wrote : writer.failures ≡ writer0.failures
       pub here : (script first : List ℕ) → remaining reader0.inner ≡ Some script → contents writer0.inner ≡ Some first → Here from now p reader writer script first
 
-    pub Talking-start : (from : SessionValue K) (reader : Tally R) (writer : Tally W) → Talking from from (record { moves = 0; lines = 0 }) reader reader writer writer
+    pub Talking-start : (from : SessionValue K) (reader : Tally R) (writer : Tally W) → Talking from from (record { past = (opened holds refusals room from).1; lines = 0 }) reader reader writer writer
     Talking-start from reader writer = record {
       read = refl;
       wrote = refl;
@@ -113,7 +114,7 @@ module _ {K : Type 0} (holds : K → List Kept → Type 0) (refusals room : K �
           → Tells (BreaksOff holds refusals room Read v from) reader0 reader' writer0 writer
       Talking-unread why r = λ script first left held.
           let h = i.here script first left held in
-          (h.done, lines h.rest, h.split, (now, p.moves), h.text, h.heard, h.written)
+          (h.done, lines h.rest, h.split, (now, p.past), h.text, h.heard, h.written)
 
       pub fails-unread : {E : Type 0} (why : E) → ReadsLine remaining reader reader' buffer (Err why) → FailsBy Read reader0 reader' writer0 writer
       fails-unread why r = (r.fault ∙ rw i.read refl, i.wrote)
@@ -127,12 +128,12 @@ module _ {K : Type 0} (holds : K → List Kept → Type 0) (refusals room : K �
           let h = i.here script first left held in
           let c = r.cut h.rest h.left in
           let all : lines script ≡ h.done = h.split ∙ ap (λ (t : List ℕ). h.done ++ lines t) c.2.0 ∙ append-nil h.done in
-          (h.done, (now, p.moves), h.text, h.heard, h.written, inl (all, refl, ([], c.1 ∙ ap (λ (t : List ℕ). Some t) c.2.1, refl)))
+          (h.done, (now, p.past), h.text, h.heard, h.written, inl (all, refl, ([], c.1 ∙ ap (λ (t : List ℕ). Some t) c.2.1, refl)))
 
       -- what is said to the line in the buffer
-      abbrev pub Says : Result (Option ℕ) ConversationFault → Type 0
+      abbrev pub Says : Result (Option Past) ConversationFault → Type 0
       Says result = (text : List ℕ) → Holds buffer text
-          → TellsLine holds refusals room contents v (now, p.moves) new (counted (p.lines + 1)) text (writer, writer') result
+          → TellsLine holds refusals room contents v (now, p.past) new (counted (p.lines + 1)) text (writer, writer') result
 
       -- the line that was read, and the lines behind it
       record Taken (rest : List ℕ) : Type 0 where
@@ -173,46 +174,46 @@ module _ {K : Type 0} (holds : K → List Kept → Type 0) (refusals room : K �
           next-number h e ∙ ap counted same
 
       -- one line more is behind us
-      pub Here-on : {E : Type 0} (next : NextLine) (moves : ℕ) (q : Progress) → q.moves ≡ moves → q.lines ≡ counted (p.lines + 1)
+      pub Here-on : {E : Type 0} (next : NextLine) (past : Past) (q : Progress) → q.past ≡ past → q.lines ≡ counted (p.lines + 1)
           → ReadsLine {E = E} remaining reader reader' buffer (Ok next) → is_missing next ≡ false
-          → Says (Ok (Some moves)) → (script first : List ℕ) → Here from now p reader writer script first → Here from new q reader' writer' script first
-      Here-on next moves q moved one r some says script first h =
+          → Says (Ok (Some past)) → (script first : List ℕ) → Here from now p reader writer script first → Here from new q reader' writer' script first
+      Here-on next past q moved one r some says script first h =
           let t = taken next r some h.rest h.left in
           let (said, heard, on, writes) = says t.line t.held in
           let same = number h.done h.numbered in
-          let here = subst (λ (m : ℕ). Hears holds refusals room v (now, p.moves) (new, m) t.line said) (sym moved) heard in
-          let pushed = hears-push (from, 0) (now, p.moves) (new, q.moves) 0 h.done h.text t.line said h.heard here on in
+          let here = subst (λ (m : Past). Hears holds refusals room v (now, p.past) (new, m) t.line said) (sym moved) heard in
+          let pushed = hears-push (opened holds refusals room from) (now, p.past) (new, q.past) 0 h.done h.text t.line said h.heard here on in
           record {
             rest = t.after;
             left = t.left;
             done = h.done ++ t.line ∷ [];
             split = h.split ∙ ap (λ (ls : List (List ℕ)). h.done ++ ls) t.cut ∙ sym (append_assoc h.done (t.line ∷ []) (lines t.after));
             text = h.text ++ told holds refusals room v (counted (p.lines + 1)) said.message;
-            heard = subst (λ (n : ℕ). HearsAll holds refusals room v (from, 0) (new, q.moves) 0 (h.done ++ t.line ∷ []) (h.text ++ told holds refusals room v n said.message)) (sym same) pushed;
+            heard = subst (λ (n : ℕ). HearsAll holds refusals room v (opened holds refusals room from) (new, q.past) 0 (h.done ++ t.line ∷ []) (h.text ++ told holds refusals room v n said.message)) (sym same) pushed;
             numbered = one ∙ next-number h.done h.numbered ∙ ap counted (sym (length-append h.done (t.line ∷ [])));
             written = wrote-on _ _ first h.text _ h.written writes.ok;
           }
 
-      pub Talking-step : {E : Type 0} (next : NextLine) (moves : ℕ) (q : Progress) → q.moves ≡ moves → q.lines ≡ counted (p.lines + 1)
+      pub Talking-step : {E : Type 0} (next : NextLine) (past : Past) (q : Progress) → q.past ≡ past → q.lines ≡ counted (p.lines + 1)
           → ReadsLine {E = E} remaining reader reader' buffer (Ok next) → is_missing next ≡ false
-          → Says (Ok (Some moves)) → writer'.failures ≡ writer.failures → Talking from new q reader0 reader' writer0 writer'
-      Talking-step next moves q moved one r some says wrote = record {
+          → Says (Ok (Some past)) → writer'.failures ≡ writer.failures → Talking from new q reader0 reader' writer0 writer'
+      Talking-step next past q moved one r some says wrote = record {
         read = r.same ∙ i.read;
         wrote = wrote ∙ i.wrote;
-        here = λ script first left held. Here-on next moves q moved one r some says script first (i.here script first left held);
+        here = λ script first left held. Here-on next past q moved one r some says script first (i.here script first left held);
       }
 
       -- the last line was answered
-      pub Talking-last : {E : Type 0} (next : NextLine) (moves : ℕ) → ReadsLine {E = E} remaining reader reader' buffer (Ok next) → is_last next ≡ true
-          → Says (Ok (Some moves)) → Tells (AnswersAll holds refusals room v from new) reader0 reader' writer0 writer'
+      pub Talking-last : {E : Type 0} (next : NextLine) (past : Past) → ReadsLine {E = E} remaining reader reader' buffer (Ok next) → is_last next ≡ true
+          → Says (Ok (Some past)) → Tells (AnswersAll holds refusals room v from new) reader0 reader' writer0 writer'
       unfolding Here-on
-      Talking-last next moves r last says = λ script first left held.
+      Talking-last next past r last says = λ script first left held.
           let h0 = i.here script first left held in
-          let q : Progress = record { moves = moves; lines = counted (p.lines + 1) } in
-          let h = Here-on next moves q refl refl r (last-is-there next last) says script first h0 in
+          let q : Progress = record { past = past; lines = counted (p.lines + 1) } in
+          let h = Here-on next past q refl refl r (last-is-there next last) says script first h0 in
           let none : h.rest ≡ [] = let s : Some h.rest ≡ Some [] = sym h.left ∙ last-left next r last h0.rest h0.left in cc in
           let all : lines script ≡ h.done = h.split ∙ ap (λ (t : List ℕ). h.done ++ lines t) none ∙ append-nil h.done in
-          (h.done, (new, moves), h.text, h.heard, h.written, inl (all, refl, ([], h.left ∙ ap (λ (t : List ℕ). Some t) none, refl)))
+          (h.done, (new, past), h.text, h.heard, h.written, inl (all, refl, ([], h.left ∙ ap (λ (t : List ℕ). Some t) none, refl)))
 
       -- a line that ends the session
       pub Talking-quit : {E : Type 0} (next : NextLine) → ReadsLine {E = E} remaining reader reader' buffer (Ok next) → is_missing next ≡ false
@@ -220,13 +221,13 @@ module _ {K : Type 0} (holds : K → List Kept → Type 0) (refusals room : K �
       Talking-quit next r some says = λ script first left held.
           let h = i.here script first left held in
           let t = taken next r some h.rest h.left in
-          let (moves, heard, kept) = says t.line t.held in (
+          let (past, heard, kept) = says t.line t.held in (
             h.done,
-            (now, p.moves),
+            (now, p.past),
             h.text,
             h.heard,
             ap (λ (w : Tally W). contents w.inner) kept ∙ h.written,
-            inr (t.line, lines t.after, moves, h.split ∙ ap (λ (ls : List (List ℕ)). h.done ++ ls) t.cut, heard, (t.after, t.left, refl)),
+            inr (t.line, lines t.after, past, h.split ∙ ap (λ (ls : List (List ℕ)). h.done ++ ls) t.cut, heard, (t.after, t.left, refl)),
           )
 
       -- a write failed, or memory ran out
@@ -236,22 +237,22 @@ module _ {K : Type 0} (holds : K → List Kept → Type 0) (refusals room : K �
       stops Read next r some says script first h = let t = taken next r some h.rest h.left in absurd (says t.line t.held)
       stops Memory next r some says script first h =
           let t = taken next r some h.rest h.left in
-          (h.done, lines h.rest, h.split, (now, p.moves), h.text, h.heard, ap (λ (w : Tally W). contents w.inner) (says t.line t.held) ∙ h.written)
+          (h.done, lines h.rest, h.split, (now, p.past), h.text, h.heard, ap (λ (w : Tally W). contents w.inner) (says t.line t.held) ∙ h.written)
       stops Write next r some says script first h =
           let t = taken next r some h.rest h.left in
-          let (moves, said, heard, writes) = says t.line t.held in
+          let (past, said, heard, writes) = says t.line t.held in
           let e = writes.err in (
             h.done,
             lines h.rest,
             h.split,
-            (now, p.moves),
+            (now, p.past),
             h.text,
             h.heard,
             (
               t.line,
               lines t.after,
               t.cut,
-              (new, moves),
+              (new, past),
               said,
               heard,
               e.0,

@@ -28,11 +28,12 @@ use Rattle.bpf_questions.specs.Inquiries.{asked_in, inquiry_of, what_by}
 use Rattle.bpf_questions.specs.declared.inquiry.Topic.{Topic}
 use Rattle.bpf_questions.specs.declared.message.Kind.TheVariants as kind
 use Rattle.bpf_questions.specs.declared.obeying.Heard.{Heard}
+use Rattle.bpf_questions.specs.declared.stop.Past.{Past}
 use Rattle.bpf_questions.specs.declared.view.View.{View}
 
 -- a message that wasn't written counts its failure
 pub counts-unwritten : {W : Type 0} (contents : W → Option (List ℕ)) (old new : Tally W) (why : ConversationFault) (text : List ℕ)
-    → WritesMessage {A = Unit {0}} contents old new (Err why) text → Counts {A = Option ℕ} (Err why) old new
+    → WritesMessage {A = Unit {0}} contents old new (Err why) text → Counts {A = Option Past} (Err why) old new
 counts-unwritten contents old new Write text w = w.fault
 counts-unwritten {W = W} contents old new Memory text w = ap (λ (t : Tally W). t.failures) w
 counts-unwritten contents old new Read text w = absurd w
@@ -47,8 +48,8 @@ module _ {K : Type 0} (holds : K → List Kept → Type 0) (refusals room : K �
   pub hears-long : (s : Stand holds refusals room) (line : List ℕ) (said : Said) → longest_line < length line
       → said ≡ says kind.Refused (refusal_text LineTooLong) → Hears holds refusals room v s s line said
   hears-long s line said long is =
-      let obeys : ObeysLine holds refusals room s s (Err LineTooLong) said = (refl, is) in
-      let by-line = subst (λ (a : Answer). ObeysLine holds refusals room s s a said) (sym (command_of-long line long)) obeys in
+      let obeys : ObeysLine holds refusals room v s s (Err LineTooLong) said = (refl, is) in
+      let by-line = subst (λ (a : Answer). ObeysLine holds refusals room v s s a said) (sym (command_of-long line long)) obeys in
       subst (λ (asked : Option (Topic × List (List ℕ))). HearsAs holds refusals room v s s asked line said) (sym (asked-long v.asks line long)) by-line
 
   -- a question
@@ -58,7 +59,7 @@ module _ {K : Type 0} (holds : K → List Kept → Type 0) (refusals room : K �
       let asked : asked_in v.asks line ≡ Some (topic, words) = rw asks (sym is) in
       subst (λ (asked : Option (Topic × List (List ℕ))). HearsAs holds refusals room v old new asked line said) (sym asked) answers
 
-  pub hears-inquiry : {E : Type 0} (r : Result (Heard × ℕ) E) (old : Stand holds refusals room) (new : SessionValue K) (topic : Topic) (words : List (List ℕ))
+  pub hears-inquiry : {E : Type 0} (r : Result (Heard × Past) E) (old : Stand holds refusals room) (new : SessionValue K) (topic : Topic) (words : List (List ℕ))
       (P : List ℕ → Type 0) → v.asks ≡ true → ((line : List ℕ) → P line → Some (topic, words) ≡ inquiry_of line)
       → IfOk r (λ heard. AnswersInquiry holds refusals room v old (new, heard.1) topic (what_by words) (said_of heard.0))
       → IfOk r (λ heard. (line : List ℕ) → P line → Hears holds refusals room v old (new, heard.1) line (said_of heard.0))
@@ -66,10 +67,10 @@ module _ {K : Type 0} (holds : K → List Kept → Type 0) (refusals room : K �
   hears-inquiry (Err fault) old new topic words P asks is answers = tt
 
   -- why a slot was not come to
-  pub answers-whynot : {E : Type 0} (r : Result (Heard × ℕ) E) (old : Stand holds refusals room) (new : SessionValue K) (asked text : List ℕ) (aim : Aim) (left : ℕ)
+  pub answers-whynot : {E : Type 0} (r : Result (Heard × Past) E) (old : Stand holds refusals room) (new : SessionValue K) (asked text : List ℕ) (aim : Aim) (left : ℕ)
       → (aims : AimsAt holds old.0.moment.keeper old.0.moment.state asked aim) → ComesBack holds refusals room old.0 new left
-      → ((t : Track) → HasPast holds old.0 t → text ≡ (why_not (told_by aim.reach) (query_of v old.1 aims.0 t old.0.moment.state) t.history old.0.moment.state).text)
-      → IfOk r (λ heard. (said_of heard.0 ≡ says kind.Answer (named_by v.names text)) × (heard.1 ≡ old.1 - left))
+      → ((t : Track) → HasPast holds old.0 t → text ≡ (why_not (told_by aim.reach) (query_of v old.1.moves aims.0 t old.0.moment.state) t.history old.0.moment.state).text)
+      → IfOk r (λ heard. (said_of heard.0 ≡ says kind.Answer (named_by v.names text)) × (heard.1 ≡ record old.1 { moves = old.1.moves - left }))
       → IfOk r (λ heard. AnswersWhynot holds refusals room v old (new, heard.1) (goals_in old.0.moment.state.program asked) (said_of heard.0))
   answers-whynot (Ok heard) old new asked text aim left aims back texts (is, moves) =
       subst (λ (goals : Result Goals GoalFault). AnswersWhynot holds refusals room v old (new, heard.1) goals (said_of heard.0)) (sym aims.1) (
@@ -86,9 +87,9 @@ module _ {K : Type 0} (holds : K → List Kept → Type 0) (refusals room : K �
 
   -- what wasn't written
   pub tells-unwritten : {W : Type 0} (contents : W → Option (List ℕ)) (why : ConversationFault) (old : Stand holds refusals room) (new : SessionValue K)
-      (moves number : ℕ) (line text : List ℕ) (k : Kind) (before after : Tally W) → Hears holds refusals room v old (new, moves) line (says k text)
+      (past : Past) (number : ℕ) (line text : List ℕ) (k : Kind) (before after : Tally W) → Hears holds refusals room v old (new, past) line (says k text)
       → WritesMessage {A = Unit {0}} contents before after (Err why) (message_text v.form number k text)
       → TellsLine holds refusals room contents v old new number line (before, after) (Err why)
-  tells-unwritten contents Write old new moves number line text k before after h w = (moves, says k text, h, w)
-  tells-unwritten contents Memory old new moves number line text k before after h w = w
-  tells-unwritten contents Read old new moves number line text k before after h w = w
+  tells-unwritten contents Write old new past number line text k before after h w = (past, says k text, h, w)
+  tells-unwritten contents Memory old new past number line text k before after h w = w
+  tells-unwritten contents Read old new past number line text k before after h w = w

@@ -7,14 +7,13 @@ use Rattle.bpf_origin.specs.Asked.{answer_about, parts_asked, what_in}
 use Rattle.bpf_origin.specs.declared.fault.WhatFault.{WhatFault}
 use Rattle.bpf_origin.specs.declared.question.Question.{Question}
 use Rattle.bpf_origin.specs.declared.what.What.{What}
-use Rattle.bpf_remote.specs.Moves.{counted, moves_after}
+use Rattle.bpf_remote.specs.Moves.{counted}
 use Rattle.bpf_remote.specs.Origins.{ComesBack, named_by, what_refusal}
 use Rattle.bpf_remote.specs.Whynots.{aim_refusal}
-use Rattle.bpf_remote.specs.Ways.{Obeyed}
+use Rattle.bpf_session.specs.Meaning.{does}
 use Rattle.bpf_session.specs.Output.{is_quit}
-use Rattle.bpf_session.specs.Replies.{text_of_answer}
 use Rattle.bpf_session.specs.Runs.{Exchange, Leaves, Wrote}
-use Rattle.bpf_session.specs.Sessions.{HasPast, SessionValue, bounds_of, point_of}
+use Rattle.bpf_session.specs.Sessions.{HasPast, Obeys, SessionValue, bounds_of, point_of}
 use Rattle.bpf_session.specs.declared.reply.Reply.{Reply}
 use Rattle.bpf_whynot.specs.Answers.{Query, why_not}
 use Rattle.bpf_whynot.specs.Asked.{Goals, goals_in}
@@ -29,12 +28,14 @@ use Rattle.bpfdb_script.specs.declared.refusal.Refusal.{Refusal}
 use Rattle.counted_io.specs.Lines.{lines}
 use Rattle.bpf_questions.specs.Inquiries.{asked_in, what_by}
 use Rattle.bpf_questions.specs.Messages.{message_text}
+use Rattle.bpf_questions.specs.Strict.{ahead, answer_text, behind, bounded, past_after, there}
 use Rattle.bpf_questions.specs.declared.fault.ConversationFault.{ConversationFault}
 use Rattle.bpf_questions.specs.declared.fault.ConversationFault.TheVariants as fault
 use Rattle.bpf_questions.specs.declared.inquiry.Topic.{Topic}
 use Rattle.bpf_questions.specs.declared.inquiry.Topic.TheVariants as topic
 use Rattle.bpf_questions.specs.declared.message.Kind.{Kind}
 use Rattle.bpf_questions.specs.declared.message.Kind.TheVariants as kind
+use Rattle.bpf_questions.specs.declared.stop.Past.{Past}
 use Rattle.bpf_questions.specs.declared.view.View.{View}
 
 -- What is said to a line, if anything is, and whether the session goes on.
@@ -85,21 +86,28 @@ abbrev pub whynot_text : View → ℕ → (ℕ → List ℕ → Bool) → Goals 
 whynot_text v moves can goals t x = named_by v.names (why_not can (query_of v moves goals t x) t.history x).text
 
 module _ {K : Type 0} (holds : K → List Kept → Type 0) (refusals room : K → ℕ) where
-  -- A session, with how many moves lie before its state: those that are kept, and those that the journal dropped.
+  -- A session, with what lies before its state.
   abbrev pub Stand : Type 0
-  Stand = SessionValue K × ℕ
+  Stand = SessionValue K × Past
 
-  -- A command is obeyed, or refused.
-  abbrev pub ObeysCommand : Stand → Stand → Command → Bool → Said → Type 0
-  ObeysCommand old new command true said = (new ≡ old) × (said ≡ ends)
-  ObeysCommand old new command false said = (answer : Result Reply Refusal) × Obeyed holds refusals room old.0 new.0 command answer
-      × (new.1 ≡ moves_after answer command old.1)
-      × ((t : Track) → HasPast holds new.0 t → said ≡ says (kind_of answer) (text_of_answer (bounds_of room new.0) answer (point_of new.0 t)))
+  -- A command is obeyed, or refused, by a forward command with no more steps than there are to the stop of a strict session.
+  abbrev pub ObeysBefore : Option ℕ → SessionValue K → SessionValue K → Command → Result Reply Refusal → Type 0
+  ObeysBefore steps old new command answer = Obeys holds refusals room old new (λ gap. does gap (bounded steps (bounds_of room old)) command) answer
 
-  abbrev pub ObeysLine : Stand → Stand → Answer → Said → Type 0
-  ObeysLine old new (Ok None) said = (new ≡ old) × (said ≡ nothing)
-  ObeysLine old new (Ok (Some command)) said = ObeysCommand old new command (is_quit command) said
-  ObeysLine old new (Err refusal) said = (new ≡ old) × (said ≡ says kind.Refused (refusal_text refusal))
+  abbrev pub reply_text : View → Past → SessionValue K → Command → Result Reply Refusal → Track → List ℕ
+  reply_text v past new command answer t =
+      answer_text (there (ahead v past) answer) (bounds_of room new) answer (point_of new t) ++ behind v past command answer
+
+  abbrev pub ObeysCommand : View → Stand → Stand → Command → Bool → Said → Type 0
+  ObeysCommand v old new command true said = (new ≡ old) × (said ≡ ends)
+  ObeysCommand v old new command false said = (answer : Result Reply Refusal) × ObeysBefore (ahead v old.1) old.0 new.0 command answer
+      × (new.1 ≡ past_after answer command old.1)
+      × ((t : Track) → HasPast holds new.0 t → said ≡ says (kind_of answer) (reply_text v old.1 new.0 command answer t))
+
+  abbrev pub ObeysLine : View → Stand → Stand → Answer → Said → Type 0
+  ObeysLine v old new (Ok None) said = (new ≡ old) × (said ≡ nothing)
+  ObeysLine v old new (Ok (Some command)) said = ObeysCommand v old new command (is_quit command) said
+  ObeysLine v old new (Err refusal) said = (new ≡ old) × (said ≡ says kind.Refused (refusal_text refusal))
 
   -- A question is refused, or answered from the kept history; the session stands then where it stood, but for moves that its keeper refused to keep
   -- again, of which a ring refuses none.
@@ -109,18 +117,18 @@ module _ {K : Type 0} (holds : K → List Kept → Type 0) (refusals room : K �
   pub record Answers (old new : Stand) (text : Track → List ℕ) (said : Said) : Type 0 where
     pub left : ℕ
     pub back : ComesBack holds refusals room old.0 new.0 left
-    pub moves : new.1 ≡ old.1 - left
+    pub moves : new.1 ≡ record old.1 { moves = old.1.moves - left }
     pub tells : (t : Track) → HasPast holds old.0 t → said ≡ says kind.Answer (text t)
 
   abbrev pub AnswersOrigin : View → Stand → Stand → Result (Option What) WhatFault → Said → Type 0
   AnswersOrigin v old new (Err fault) said = Refuses old new (what_refusal fault) said
-  AnswersOrigin v old new (Ok what) said = Answers old new (λ t. origin_text v old.1 what t old.0.moment.state) said
+  AnswersOrigin v old new (Ok what) said = Answers old new (λ t. origin_text v old.1.moves what t old.0.moment.state) said
 
   abbrev pub AnswersWhynot : View → Stand → Stand → Result Goals GoalFault → Said → Type 0
   AnswersWhynot v old new (Err fault) said = Refuses old new (aim_refusal (Goal fault)) said
   AnswersWhynot v old new (Ok goals) said = (can : ℕ → List ℕ → Bool)
       × ((t : Track) → HasPast holds old.0 t → TellsReach old.0.moment.state.program (goals_left goals t.history) can)
-      × Answers old new (λ t. whynot_text v old.1 can goals t old.0.moment.state) said
+      × Answers old new (λ t. whynot_text v old.1.moves can goals t old.0.moment.state) said
 
   abbrev pub AnswersAbout : View → Stand → Stand → Topic → List ℕ → Said → Type 0
   AnswersAbout v old new topic.Origin text said = AnswersOrigin v old new (what_asked old.0.moment.state text) said
@@ -132,7 +140,7 @@ module _ {K : Type 0} (holds : K → List Kept → Type 0) (refusals room : K �
 
   -- A line is a question, or is obeyed as a script's.
   abbrev pub HearsAs : View → Stand → Stand → Option (Topic × List (List ℕ)) → List ℕ → Said → Type 0
-  HearsAs v old new None line said = ObeysLine old new (command_of line) said
+  HearsAs v old new None line said = ObeysLine v old new (command_of line) said
   HearsAs v old new (Some inquiry) line said = AnswersInquiry v old new inquiry.0 (what_by inquiry.1) said
 
   abbrev pub Hears : View → Stand → Stand → List ℕ → Said → Type 0
@@ -152,21 +160,25 @@ module _ {K : Type 0} (holds : K → List Kept → Type 0) (refusals room : K �
   -- A script was answered up to its end, or to a line that ends the session, behind which the lines are left.
   abbrev pub Finishes : View → Stand → SessionValue K → List (List ℕ) → Exchange → Type 0
   Finishes v at to done x = ((lines x.script ≡ done) × (at.0 ≡ to) × Leaves x [])
-      ⊎ ((line : List ℕ) × (ahead : List (List ℕ)) × (moves : ℕ) × (lines x.script ≡ done ++ line ∷ ahead) × Hears v at (to, moves) line ends × Leaves x ahead)
+      ⊎ ((line : List ℕ) × (more : List (List ℕ)) × (past : Past) × (lines x.script ≡ done ++ line ∷ more) × Hears v at (to, past) line ends × Leaves x more)
+
+  -- Nothing lies before the first line.
+  abbrev pub opened : SessionValue K → Stand
+  opened from = (from, record { moves = 0; edit = None })
 
   abbrev pub AnswersAll : View → SessionValue K → SessionValue K → Exchange → Type 0
-  AnswersAll v from to x = (done : List (List ℕ)) × (at : Stand) × (text : List ℕ) × HearsAll v (from, 0) at 0 done text × Wrote x text
+  AnswersAll v from to x = (done : List (List ℕ)) × (at : Stand) × (text : List ℕ) × HearsAll v (opened from) at 0 done text × Wrote x text
       × Finishes v at to done x
 
   -- A read or a write failed, or memory ran out: the first lines were answered. Where a write failed a beginning of the reply to the next one was
   -- written, too.
   abbrev pub StopsBy : ConversationFault → View → Stand → ℕ → List (List ℕ) → List ℕ → Exchange → Type 0
-  StopsBy fault.Read v at count ahead text x = Wrote x text
-  StopsBy fault.Memory v at count ahead text x = Wrote x text
-  StopsBy fault.Write v at count ahead text x = (line : List ℕ) × (more : List (List ℕ)) × (ahead ≡ line ∷ more)
+  StopsBy fault.Read v at count left text x = Wrote x text
+  StopsBy fault.Memory v at count left text x = Wrote x text
+  StopsBy fault.Write v at count left text x = (line : List ℕ) × (more : List (List ℕ)) × (left ≡ line ∷ more)
       × (next : Stand) × (said : Said) × Hears v at next line said
       × (part rest : List ℕ) × (told v (counted (count + 1)) said.message ≡ part ++ rest) × Wrote x (text ++ part)
 
   abbrev pub BreaksOff : ConversationFault → View → SessionValue K → Exchange → Type 0
-  BreaksOff why v from x = (done ahead : List (List ℕ)) × (lines x.script ≡ done ++ ahead) × (at : Stand) × (text : List ℕ)
-      × HearsAll v (from, 0) at 0 done text × StopsBy why v at (length done) ahead text x
+  BreaksOff why v from x = (done left : List (List ℕ)) × (lines x.script ≡ done ++ left) × (at : Stand) × (text : List ℕ)
+      × HearsAll v (opened from) at 0 done text × StopsBy why v at (length done) left text x

@@ -9,6 +9,7 @@ use Rattle.bpf_questions.specs.declared.fault.ConversationFault.{ConversationFau
 use Rattle.bpf_questions.specs.declared.fault.ConversationFault.TheVariants as fault
 use Rattle.bpf_questions.specs.declared.obeying.Heard.{Heard}
 use Rattle.bpf_questions.specs.declared.obeying.Heard.TheVariants as heard
+use Rattle.bpf_questions.specs.declared.stop.Past.{Past}
 use Rattle.bpf_questions.specs.declared.view.View.{View}
 
 abbrev pub said_of : Heard → Said
@@ -18,11 +19,11 @@ said_of (heard.Says message) = says message.kind message.text.items
 
 module _ {K W : Type 0} (holds : K → List Kept → Type 0) (refusals room : K → ℕ) (contents : W → Option (List ℕ)) where
   -- What a line was told, and whether it was written.
-  abbrev pub TellsLine : View → SessionValue K × ℕ → SessionValue K → ℕ → List ℕ → Tally W × Tally W → Result (Option ℕ) ConversationFault → Type 0
-  TellsLine v old new number line w (Ok (Some moves)) = (said : Said) × Hears holds refusals room v old (new, moves) line said × (said.on ≡ true)
+  abbrev pub TellsLine : View → SessionValue K × Past → SessionValue K → ℕ → List ℕ → Tally W × Tally W → Result (Option Past) ConversationFault → Type 0
+  TellsLine v old new number line w (Ok (Some past)) = (said : Said) × Hears holds refusals room v old (new, past) line said × (said.on ≡ true)
       × Writes {A = Unit {0}} {E = ConversationFault} contents w.0 w.1 (Ok tt) (told holds refusals room v number said.message)
-  TellsLine v old new number line w (Ok None) = (moves : ℕ) × Hears holds refusals room v old (new, moves) line ends × (w.1 ≡ w.0)
-  TellsLine v old new number line w (Err fault.Write) = (moves : ℕ) × (said : Said) × Hears holds refusals room v old (new, moves) line said
+  TellsLine v old new number line w (Ok None) = (past : Past) × Hears holds refusals room v old (new, past) line ends × (w.1 ≡ w.0)
+  TellsLine v old new number line w (Err fault.Write) = (past : Past) × (said : Said) × Hears holds refusals room v old (new, past) line said
       × Writes {A = Unit {0}} {E = ConversationFault} contents w.0 w.1 (Err fault.Write) (told holds refusals room v number said.message)
   TellsLine v old new number line w (Err fault.Memory) = w.1 ≡ w.0
   TellsLine v old new number line w (Err fault.Read) = ⊥

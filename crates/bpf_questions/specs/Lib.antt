@@ -1,5 +1,6 @@
 pub mod Inquiries
 pub mod Messages
+pub mod Strict
 pub mod Conversations
 pub mod Hearing
 pub mod Failures

@@ -17,6 +17,7 @@ ghost use Rattle.bpf_questions.specs.declared.message.Kind.TheVariants as the_ki
 use crate::inquiry::{Inquiry, Topic, what_in};
 use crate::message::{Kind, Message};
 use crate::obeying::{Heard, refused};
+use crate::stop::Past;
 use crate::view::View;
 use bpf_journal::Keeper;
 use bpf_lines::{Names, put_named};
@@ -159,10 +160,11 @@ fn said(
     alloc: Global,
     view: &View<'_>,
     found: Found,
-    moves: u64,
-) -> Result<(Heard, u64), AllocError>
+    past: Past,
+) -> Result<(Heard, Past), AllocError>
     ensures { IfOk result (λ heard. (said_of heard.0
-        ≡ spec.says the_kind.Answer (named_by view.now.names found.text.items)) × (heard.1 ≡ moves - found.left)) }
+        ≡ spec.says the_kind.Answer (named_by view.now.names found.text.items))
+        × (heard.1 ≡ record past { moves = past.moves - found.left })) }
 {
     let Found { text, left } = found;
     let text = named(alloc, view.names, text)?;
@@ -170,7 +172,8 @@ fn said(
         kind: Kind::Answer,
         text,
     };
-    Ok((Heard::Says(message), moves.saturating_sub(left)))
+    let moves = past.moves.saturating_sub(left);
+    Ok((Heard::Says(message), Past { moves, ..past }))
 }
 
 /// That a question is refused.
@@ -201,21 +204,18 @@ fn answer_origin<K: Keeper>(
     view: &View<'_>,
     wanted: &mut Wanted,
     session: &mut Session<K>,
-    moves: u64,
+    past: Past,
     text: &[u8],
-) -> Result<(Heard, u64), AllocError>
-    ensures { IfOk result (λ heard. spec.AnswersOrigin K.holds K.refused K.room view.now (session.old, moves)
+) -> Result<(Heard, Past), AllocError>
+    ensures { IfOk result (λ heard. spec.AnswersOrigin K.holds K.refused K.room view.now (session.old, past)
         (session.new, heard.1) (spec.what_asked session.old.moment.state text.now) (said_of heard.0)) }
 {
     match what_asked(session.cpu(), text) {
         Ok(what) => {
-            let found = origin_found(alloc, view, wanted, session, moves, what)?;
-            said(alloc, view, found, moves)
+            let found = origin_found(alloc, view, wanted, session, past.moves, what)?;
+            said(alloc, view, found, past)
         }
-        Err(fault) => Ok((
-            refused_question(alloc, fault.number(), fault.text())?,
-            moves,
-        )),
+        Err(fault) => Ok((refused_question(alloc, fault.number(), fault.text())?, past)),
     }
 }
 
@@ -225,42 +225,42 @@ fn answer_whynot<K: Keeper>(
     view: &View<'_>,
     wanted: &mut Wanted,
     session: &mut Session<K>,
-    moves: u64,
+    past: Past,
     text: &[u8],
-) -> Result<(Heard, u64), AllocError>
-    ensures { IfOk result (λ heard. spec.AnswersWhynot K.holds K.refused K.room view.now (session.old, moves)
+) -> Result<(Heard, Past), AllocError>
+    ensures { IfOk result (λ heard. spec.AnswersWhynot K.holds K.refused K.room view.now (session.old, past)
         (session.new, heard.1) (goals_in session.old.moment.state.program text.now) (said_of heard.0)) }
 {
     match aim_at(alloc, session, text) {
         Ok(aim) => {
-            let found = whynot_found(alloc, view, wanted, session, moves, &aim)?;
-            said(alloc, view, found, moves)
+            let found = whynot_found(alloc, view, wanted, session, past.moves, &aim)?;
+            said(alloc, view, found, past)
         }
         Err(AimFault::Goal(fault)) => Ok((
             refused_question(alloc, fault.number(), fault.text())?,
-            moves,
+            past,
         )),
         Err(AimFault::OutOfMemory) => Err(AllocError),
     }
 }
 
-/// Answers a question to a session before whose state so many moves lie. Says how many lie before it then.
+/// Answers a question to a session, before whose state this lies. Says what lies before it then.
 pub(crate) fn answer<K: Keeper>(
     alloc: Global,
     view: &View<'_>,
     wanted: &mut Wanted,
     session: &mut Session<K>,
-    moves: u64,
+    past: Past,
     inquiry: Inquiry<'_>,
-) -> Result<(Heard, u64), AllocError>
-    ensures { IfOk result (λ heard. spec.AnswersInquiry K.holds K.refused K.room view.now (session.old, moves)
+) -> Result<(Heard, Past), AllocError>
+    ensures { IfOk result (λ heard. spec.AnswersInquiry K.holds K.refused K.room view.now (session.old, past)
         (session.new, heard.1) inquiry.entry.topic (what_by (tokens inquiry.entry.words.now)) (said_of heard.0)) }
 {
     match what_in(inquiry.words) {
         Ok(text) => match inquiry.topic {
-            Topic::Origin => answer_origin(alloc, view, wanted, session, moves, text),
-            Topic::Whynot => answer_whynot(alloc, view, wanted, session, moves, text),
+            Topic::Origin => answer_origin(alloc, view, wanted, session, past, text),
+            Topic::Whynot => answer_whynot(alloc, view, wanted, session, past, text),
         },
-        Err(refusal) => Ok((refused(alloc, refusal)?, moves)),
+        Err(refusal) => Ok((refused(alloc, refusal)?, past)),
     }
 }

@@ -11,6 +11,7 @@ use crate::fault::ConversationFault;
 use crate::inquiry::inquiry_in;
 use crate::message::write_message;
 use crate::obeying::{Heard, obey_line, refused};
+use crate::stop::Past;
 use crate::view::View;
 use bpf_journal::Keeper;
 use bpf_origin::Wanted;
@@ -23,8 +24,8 @@ use std::io::{Read, Write};
 /// How far a script has been answered.
 #[derive(Clone, Copy)]
 pub(crate) struct Progress {
-    /// How many moves lie before the session's state.
-    pub moves: u64,
+    /// What lies before the session's state.
+    pub past: Past,
     /// How many lines were read.
     pub lines: u64,
 }
@@ -35,26 +36,26 @@ fn hear<K: Keeper>(
     view: &View<'_>,
     wanted: &mut Wanted,
     session: &mut Session<K>,
-    moves: u64,
+    past: Past,
     line: &LineBuffer,
-) -> Result<(Heard, u64), AllocError>
+) -> Result<(Heard, Past), AllocError>
     ensures { IfOk result (λ heard. (text : List ℕ) → Holds line.now text →
-        Hears K.holds K.refused K.room view.now (session.old, moves) (session.new, heard.1) text (said_of heard.0)) }
+        Hears K.holds K.refused K.room view.now (session.old, past) (session.new, heard.1) text (said_of heard.0)) }
 {
     let Some(bytes) = line.bytes() else {
-        return Ok((refused(alloc, Refusal::LineTooLong)?, moves));
+        return Ok((refused(alloc, Refusal::LineTooLong)?, past));
     };
     if !view.asks {
-        return obey_line(alloc, session, bytes, moves);
+        return obey_line(alloc, view, session, bytes, past);
     }
     match inquiry_in(bytes) {
-        Some(inquiry) => answer(alloc, view, wanted, session, moves, inquiry),
-        None => obey_line(alloc, session, bytes, moves),
+        Some(inquiry) => answer(alloc, view, wanted, session, past, inquiry),
+        None => obey_line(alloc, view, session, bytes, past),
     }
 }
 
-/// Answers a line, and writes what is said to it. Says how many moves lie before the state then; None where
-/// the session ends.
+/// Answers a line, and writes what is said to it. Says what lies before the state then; None where the
+/// session ends.
 fn tell_line<K: Keeper, W: Write>(
     alloc: Global,
     view: &View<'_>,
@@ -63,17 +64,17 @@ fn tell_line<K: Keeper, W: Write>(
     progress: Progress,
     line: &LineBuffer,
     writer: &mut Counted<W>,
-) -> Result<Option<u64>, ConversationFault>
+) -> Result<Option<Past>, ConversationFault>
     ensures tells { (text : List ℕ) → Holds line.now text →
-        TellsLine K.holds K.refused K.room W.contents view.now (session.old, progress.moves) session.new
+        TellsLine K.holds K.refused K.room W.contents view.now (session.old, progress.past) session.new
         (counted (progress.lines + 1)) text (writer.old, writer.new) result }
     ensures counts { Counts result writer.old writer.new }
 {
-    let Ok((heard, moves)) = hear(alloc, view, wanted, session, progress.moves, line) else {
+    let Ok((heard, past)) = hear(alloc, view, wanted, session, progress.past, line) else {
         return Err(ConversationFault::Memory);
     };
     match heard {
-        Heard::Nothing => Ok(Some(moves)),
+        Heard::Nothing => Ok(Some(past)),
         Heard::End => Ok(None),
         Heard::Says(message) => {
             match write_message(
@@ -83,7 +84,7 @@ fn tell_line<K: Keeper, W: Write>(
                 progress.lines.saturating_add(1),
                 &message,
             ) {
-                Ok(()) => Ok(Some(moves)),
+                Ok(()) => Ok(Some(past)),
                 Err(fault) => Err(fault),
             }
         }
@@ -122,7 +123,11 @@ pub fn converse<K: Keeper, R: Read, W: Write>(
     ensures err { IfErr result (λ why. FailsBy why reader.old reader.new writer.old writer.new) }
 {
     let mut line = LineBuffer::new();
-    let mut progress = Progress { moves: 0, lines: 0 };
+    let past = Past {
+        moves: 0,
+        edit: None,
+    };
+    let mut progress = Progress { past, lines: 0 };
     'lines: loop {
         let next = match next_line(reader, &mut line) {
             Err(_) => return Err(ConversationFault::Read),
@@ -131,16 +136,16 @@ pub fn converse<K: Keeper, R: Read, W: Write>(
         if next.is_missing() {
             return Ok(());
         }
-        let moves = match tell_line(alloc, view, wanted, session, progress, &line, writer) {
+        let past = match tell_line(alloc, view, wanted, session, progress, &line, writer) {
             Err(why) => return Err(why),
-            Ok(Some(moves)) => moves,
+            Ok(Some(past)) => past,
             Ok(None) => return Ok(()),
         };
         if next.is_last() {
             return Ok(());
         }
         progress = Progress {
-            moves,
+            past,
             lines: progress.lines.saturating_add(1),
         };
     }

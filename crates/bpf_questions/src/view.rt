@@ -1,6 +1,7 @@
 //! What a session is asked with.
 
 use crate::message::Form;
+use crate::stop::Stop;
 use bpf_lines::Names;
 use bpfdb_script::SlotTexts;
 
@@ -17,4 +18,8 @@ pub struct View<'a> {
     pub names: Option<&'a Names<'a>>,
     /// Where each slot stands in C, where that is known: it ends the lines of moves.
     pub places: SlotTexts<'a>,
+    /// Whether the session is strict: behind no edit its forward commands stop at `stop`.
+    pub is_strict: bool,
+    /// The read that stops the run of a strict session, where there is one.
+    pub stop: Option<Stop<'a>>,
 }

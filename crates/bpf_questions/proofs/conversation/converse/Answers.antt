@@ -1,5 +1,6 @@
-use Rattle.std.proofs.Common.{ℕ, Ok, Option, ap, refl, sym, ◌∙◌}
+use Rattle.std.proofs.Common.{Ok, Option, ap, refl, sym, ◌∙◌}
 use Rattle.bpf_questions.proofs.Talking.{Talking-last, Talking-missing, Talking-quit, Talking-start, Talking-step, Talking-unanswered, Talking-unread, fails-unanswered, fails-unread}
+use Rattle.bpf_questions.specs.declared.stop.Past.{Past}
 use Rattle.bpf_questions.proofs.conversation.converse.Goals as goal
 
 pub lines-init : goal.lines-init
@@ -34,7 +35,7 @@ returns-then-is_last-clause-value g c =
 
 pub returns-in-Err-tell_line-clause-err : goal.returns-in-Err-tell_line-clause-err
 returns-in-Err-tell_line-clause-err g c =
-    fails-unanswered _ _ _ _ _ _ _ c.lines.session c.tell_line.new.session _ _ _ _ _ c.lines.writer c.tell_line.new.writer _ c.lines.invariant (Option ℕ) _ _ (rw c.in-Ok.is at c.next_line.ensures)
+    fails-unanswered _ _ _ _ _ _ _ c.lines.session c.tell_line.new.session _ _ _ _ _ c.lines.writer c.tell_line.new.writer _ c.lines.invariant (Option Past) _ _ (rw c.in-Ok.is at c.next_line.ensures)
     (rw c.in-Err-tell_line.is at c.tell_line.ensures.counts)
 
 pub returns-in-Ok-None-clause-ok : goal.returns-in-Ok-None-clause-ok

@@ -15,7 +15,7 @@ returns-in-Ok-write_message-clause-tells g c = λ text held.
 
 pub returns-clause-tells : goal.returns-clause-tells
 returns-clause-tells g c = λ text held.
-    tells-unwritten g.K.Keeper.holds g.K.Keeper.refused g.K.Keeper.room c.args.view.now g.W.Write.contents _ (c.args.session.now, c.args.progress.moves) c.hear.new.session c.in-Ok.moves _ text _ c.in-Says.message.kind c.args.writer.now _
+    tells-unwritten g.K.Keeper.holds g.K.Keeper.refused g.K.Keeper.room c.args.view.now g.W.Write.contents _ (c.args.session.now, c.args.progress.past) c.hear.new.session c.in-Ok.past _ text _ c.in-Says.message.kind c.args.writer.now _
     (rw c.in-Says.is at (c.in-Ok.ensures text held)) (rw (c.saturating_add.ensures, c.in-Err.is) at c.write_message.ensures)
 
 pub returns-in-Ok-write_message-clause-counts : goal.returns-in-Ok-write_message-clause-counts
