@@ -264,8 +264,8 @@ trace_app = with_rule (with_rule (with_file_kinds (with_rule (with_rule (with_ru
     mem_rule) packet_rule) maps_rule) regs_rule) steps_rule) from_rule) count_rule) branches_rule) profile_rule) calls_rule) strict_rule)) json_rule) file_rule
 
 abbrev pub debug_app : App
-debug_app = with_rule (with_rule (with_rule (with_file_kinds (with_rule (with_rule (with_rule (with_rule (with_rule (with_rule (new_app (codes "debug"))
-    mem_rule) packet_rule) maps_rule) regs_rule) journal_rule) steps_rule)) questions_rule) json_rule) file_rule
+debug_app = with_rule (with_rule (with_rule (with_file_kinds (with_rule (with_rule (with_rule (with_rule (with_rule (with_rule (with_rule (new_app (codes "debug"))
+    mem_rule) packet_rule) maps_rule) regs_rule) journal_rule) steps_rule) strict_rule)) questions_rule) json_rule) file_rule
 
 abbrev pub asm_app : App
 asm_app = with_rule (new_app (codes "asm")) file_rule

@@ -129,13 +129,15 @@ pub record AsksTests (rows : List Row) (a : TestAsk) : Type 0 where
   pub tracefile : a.is_tracefile ≡ is_given (first_of (codes "cover-info") rows)
   pub anywhere : a.anywhere ≡ is_given (first_of (codes "anywhere") rows)
 
--- Without either a script is obeyed as it is.
+-- Without all of these a script is obeyed as it is.
 pub record AsksConversation (rows : List Row) (a : ConversationAsk) : Type 0 where
   pub asks : a.asks ≡ is_given (first_of (codes "questions") rows)
   pub json : a.is_json ≡ is_given (first_of (codes "json") rows)
+  pub strict : a.is_strict ≡ is_given (first_of (codes "strict") rows)
 
 abbrev pub asks_nothing : List Row → Bool
-asks_nothing rows = not (is_given (first_of (codes "questions") rows) || is_given (first_of (codes "json") rows))
+asks_nothing rows = not (is_given (first_of (codes "questions") rows)
+    || (is_given (first_of (codes "json") rows) || is_given (first_of (codes "strict") rows)))
 
 abbrev pub AreAsked : List Row → Ask → Type 0
 AreAsked rows ask.Debug = asks_nothing rows ≡ true

@@ -77,7 +77,7 @@ fn trace_in(found: &ArgMatches<'_>) -> Option<TraceAsk>
     })
 }
 
-/// Whether lines of a script may ask, and in which form replies are written.
+/// Whether lines of a script may ask, in which form replies are written, and whether it is strict.
 fn debug_in<'a>(found: &ArgMatches<'a>) -> Ask<'a>
     ensures value { AreAsked (rows_of (found_of found.now)) result }
     ensures subcommand { subcommand_for result ≡ Debug }
@@ -85,8 +85,9 @@ fn debug_in<'a>(found: &ArgMatches<'a>) -> Ask<'a>
     let asked = ConversationAsk {
         asks: is_given(found, "questions"),
         is_json: is_given(found, "json"),
+        is_strict: is_given(found, "strict"),
     };
-    if asked.asks || asked.is_json {
+    if asked.asks || asked.is_json || asked.is_strict {
         Ask::Conversation(asked)
     } else {
         Ask::Debug

@@ -110,8 +110,9 @@ With --questions a line may also ask, of the session as it stands:
 Writes the reply to each command to standard output; with --json as an object of
 JSON, a line each, with the number of the line that it answers. A refused
 command gets a reply, changes nothing, and the session continues. The exit
-status is 0 then too, and where the program faulted. `man bpfdb` describes each
-command.";
+status is 0 then too, and where the program faulted. --strict stops before an
+instruction that reads a byte of the stack which nothing wrote since the call of
+its function, as long as no edit was made. `man bpfdb` describes each command.";
 
 pub const DEBUG_EXAMPLE: &str = "Example:
   $ printf 'break 1\\ncontinue\\nundo\\n' | bpfdb debug --journal 1048576 count.bin

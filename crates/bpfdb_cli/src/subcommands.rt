@@ -88,6 +88,7 @@ pub(crate) const RUNS: [CliSubcommand<'static>; 3] = [
             options::REGS,
             options::JOURNAL,
             options::STEPS,
+            options::STRICT,
             options::WORDS,
             options::LISTING,
             options::OBJECT,

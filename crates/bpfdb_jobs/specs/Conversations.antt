@@ -1,5 +1,6 @@
--- What `debug` comes to where lines may ask, or replies are lines of JSON: each line of standard input is answered by the session as it stands.
-use Rattle.std.specs.Prelude.{ℕ, ◌≡◌, Bool, if◌then◌else◌, List}
+-- What `debug` comes to where lines may ask, replies are lines of JSON, or the session is strict: each line of standard input is answered by the session as it
+-- stands.
+use Rattle.std.specs.Prelude.{ℕ, ◌≡◌, Bool, if◌then◌else◌, List, [], Option, Some, None, map}
 use Rattle.std.specs.Option.{option_map}
 use Rattle.bpf_journal.specs.Tracks.{RingHolds, ring_room}
 use Rattle.bpf_load.specs.declared.program.Loaded.{Loaded}
@@ -9,15 +10,20 @@ use Rattle.bpf_questions.specs.declared.fault.ConversationFault.{ConversationFau
 use Rattle.bpf_questions.specs.declared.fault.ConversationFault.TheVariants as broken
 use Rattle.bpf_questions.specs.declared.message.Form.{Form}
 use Rattle.bpf_questions.specs.declared.message.Form.TheVariants as form
+use Rattle.bpf_questions.specs.declared.stop.Stop.{Stop}
 use Rattle.bpf_questions.specs.declared.view.View.{View}
 use Rattle.bpf_ring.specs.declared.keeper.RingKeeper.{RingKeeper}
 use Rattle.bpf_session.specs.Sessions.{SessionValue}
+use Rattle.bpf_trace.specs.UnwrittenTexts.{unwritten_line}
+use Rattle.bpf_trace.specs.declared.own_code.OwnCode.{OwnCode}
+use Rattle.bpf_trace.specs.declared.strict_run.Unwritten.{Unwritten}
+use Rattle.bpfdb_script.specs.SlotTexts.{SlotTexts}
 use Rattle.bpfdb_faults.specs.Faults.{input_line, line_of, output_line, session_line}
 use Rattle.bpfdb_faults.specs.Streams.{Spared, Stream, Told}
 use Rattle.bpfdb_faults.specs.declared.fault.JobFault.TheVariants as fault
 use Rattle.bpfdb_faults.specs.declared.refusal.JobRefusal.{JobRefusal}
 use Rattle.bpfdb_jobs.specs.Connections.{Begins, KnowsNames, ring_refusals}
-use Rattle.bpfdb_jobs.specs.Jobs.{AreTold, HasRoom}
+use Rattle.bpfdb_jobs.specs.Jobs.{AreTold, HasOwn, HasRoom, initial_of, unwritten_in}
 use Rattle.bpfdb_jobs.specs.Refusals.{Refuses}
 use Rattle.bpfdb_jobs.specs.Scripts.{Exchanges}
 use Rattle.bpfdb_jobs.specs.Streams.{Outputs}
@@ -27,6 +33,22 @@ use Rattle.bpfdb_options.specs.declared.ask.ConversationAsk.{ConversationAsk}
 abbrev pub form_of : Bool → Form
 form_of json = if json then form.Json else form.Text
 
+-- The stop of a strict session: that of the run with `--strict`, and the line that tells it.
+abbrev pub told_stop : Option Stop → Option (ℕ × List ℕ)
+told_stop stop = option_map (λ s. (s.steps, s.text.now)) stop
+
+abbrev pub stop_by : SlotTexts → Option Unwritten → Option (ℕ × List ℕ)
+stop_by places unwritten = option_map (λ read. (read.steps, unwritten_line places read)) unwritten
+
+abbrev pub stop_line : SlotTexts → Option Unwritten → List ℕ
+stop_line places None = []
+stop_line places (Some read) = unwritten_line places read
+
+pub record Stops (strict : Bool) (job : Job) (loaded : Loaded) (places : SlotTexts) (stop : Option Stop) : Type 0 where
+  pub own : OwnCode
+  pub is_own : HasOwn job loaded.object (option_map (λ texts. map (λ text. text.items) texts.now) places) own
+  pub told : told_stop stop ≡ stop_by places (unwritten_in strict own job (initial_of job loaded))
+
 -- What the session is asked with. An answer has at most 1,000 lines of moves.
 pub record IsView (ask : ConversationAsk) (job : Job) (loaded : Loaded) (v : View) : Type 0 where
   pub asks : v.asks ≡ ask.asks
@@ -34,6 +56,8 @@ pub record IsView (ask : ConversationAsk) (job : Job) (loaded : Loaded) (v : Vie
   pub lines : v.lines ≡ 1000
   pub names : KnowsNames job loaded.object (option_map (λ n. n.now) v.names)
   pub places : AreTold job loaded.object v.places
+  pub strict : v.is_strict ≡ ask.is_strict
+  pub stop : Stops ask.is_strict job loaded v.places v.stop
 
 -- The line of a script that is broken off.
 abbrev pub conversation_line : ConversationFault → List ℕ

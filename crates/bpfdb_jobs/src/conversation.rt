@@ -1,4 +1,4 @@
-//! What a job of `debug` does whose lines may ask, or whose replies are lines of JSON.
+//! What a job of `debug` does whose lines may ask, whose replies are lines of JSON, or which is strict.
 ghost use Rattle.std.specs.Prelude.{◌≡◌, ◌≤◌, IfErr, OnOk};
 ghost use Rattle.bpfdb_faults.specs.Streams.{Told, stream};
 ghost use Rattle.bpfdb_jobs.specs.Conversations.{Converses, conversation_line, form_of};
@@ -9,8 +9,9 @@ ghost use Rattle.bpfdb_limits.specs.Limits.{IsLimit};
 use crate::gdb::known_names;
 use crate::job::Job;
 use crate::known::Known;
-use crate::opening::{session_of, wanted_of};
+use crate::opening::{session_over, wanted_of};
 use crate::streams::Streams;
+use crate::strict::{Strict, stop_line, stop_of, strict_machine};
 use bpf_load::Loaded;
 use bpf_questions::{ConversationFault, Form, View, converse};
 use bpfdb_faults::{JobFault, give_up};
@@ -20,7 +21,8 @@ use std::alloc::Global;
 use std::io::{Read, Write};
 
 /// Opens a session as `debug` does, and answers the lines of the reader, the script, up to the first
-/// `quit`: those that ask from the session as it stands. Each reply is flushed.
+/// `quit`: those that ask from the session as it stands. Each reply is flushed. A strict session stops at
+/// the first read of the stack where nothing was written, which its run is looked for at first.
 #[inline(never)]
 pub fn conversation_job<R: Read, W: Write, E: Write>(
     alloc: Global,
@@ -38,8 +40,22 @@ pub fn conversation_job<R: Read, W: Write, E: Write>(
     ensures status { result ≤ 2 }
 {
     let Loaded { program, object } = loaded;
-    let mut session = match session_of(alloc, job, program) {
+    let Strict { cpu, unwritten } = match strict_machine(
+        alloc,
+        job,
+        ask.is_strict,
+        known.own,
+        program,
+    ) {
+        Ok(strict) => strict,
+        Err(refusal) => return give_up(&mut streams.errors, &JobFault::Refused(refusal)),
+    };
+    let mut session = match session_over(alloc, job, cpu) {
         Ok(session) => session,
+        Err(refusal) => return give_up(&mut streams.errors, &JobFault::Refused(refusal)),
+    };
+    let line = match stop_line(alloc, known.places, unwritten) {
+        Ok(line) => line,
         Err(refusal) => return give_up(&mut streams.errors, &JobFault::Refused(refusal)),
     };
     let mut wanted = match wanted_of(alloc) {
@@ -54,6 +70,8 @@ pub fn conversation_job<R: Read, W: Write, E: Write>(
         lines: DEFAULT_LINES,
         names: names.as_ref(),
         places: known.places,
+        is_strict: ask.is_strict,
+        stop: stop_of(unwritten, line.as_slice()),
     };
     let output = &mut streams.output;
     let answered = converse(alloc, &view, &mut wanted, &mut session, reader, output);

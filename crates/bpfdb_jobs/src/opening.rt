@@ -1,6 +1,7 @@
 //! What a job is done with: a machine with its journal, a session.
 ghost use Rattle.std.specs.Prelude.{◌≡◌, IfErr, IfOk, OnOk, false};
 ghost use Rattle.bpf_entries.specs.Status.{has_ended};
+ghost use Rattle.bpf_isa.specs.Programs.{Checked};
 ghost use Rattle.bpf_opening.specs.Lists.{or_bare};
 ghost use Rattle.bpf_steps.specs.Opening.{Refused};
 ghost use Rattle.bpfdb_jobs.specs.Jobs.{BeginsFor, OpensMachine, opening_asked};
@@ -94,10 +95,24 @@ pub fn session_of(
     ensures ok { IfOk result (IsOpening job.now program) }
     ensures err { IfErr result (Refuses job.now) }
 {
-    let cpu = match machine_of(alloc, job, program) {
-        Ok(cpu) => cpu,
-        Err(refusal) => return Err(refusal),
-    };
+    match machine_of(alloc, job, program) {
+        Ok(cpu) => session_over(alloc, job, cpu),
+        Err(refusal) => Err(refusal),
+    }
+}
+
+/// A session before its first command, over the machine of a program before its first step.
+pub fn session_over(
+    alloc: Global,
+    job: &Job<'_>,
+    cpu: Cpu,
+) -> Result<Session<RingKeeper>, JobRefusal<'static>>
+    requires limit { IsLimit job.now.options.limit }
+    ensures ok { (program : Checked) → OpensMachine job.now program cpu →
+        IfOk result (IsOpening job.now program) }
+    ensures err { (program : Checked) → OpensMachine job.now program cpu →
+        IfErr result (Refuses job.now) }
+{
     let size = job.options.journal as usize;
     let keeper = match RingKeeper::open(alloc, size) {
         Ok(keeper) => keeper,

@@ -44,6 +44,8 @@ pub struct ConversationAsk {
     pub asks: bool,
     /// Each reply is a line of JSON, with the number of the script's line that it answers.
     pub is_json: bool,
+    /// Behind no edit it stops at the first read of the stack where nothing was written since the call.
+    pub is_strict: bool,
 }
 
 /// What is asked of values.
@@ -139,7 +141,7 @@ pub enum Ask<'a> {
     Trace(TraceAsk),
     /// The replies to a script of commands.
     Debug,
-    /// The same, of a script whose lines may ask, or in another form.
+    /// The same, of a script whose lines may ask, or in another form, or of a strict session.
     Conversation(ConversationAsk),
     /// Where a value came from.
     Origin(OriginAsk<'a>),
