@@ -293,7 +293,7 @@ class Adapter(BreakpointRequests, WayRequests, StateRequests, CommandRequests):
         if stop.hits:
             body['hitBreakpointIds'] = stop.hits
         self.entered = True
-        if self.wanted.is_run and stop.reason in ('exited', 'exception'):
+        if self.wanted.is_run and stop.reason in ('exited', 'exception', 'strict'):
             self.lose()
         else:
             self.event('stopped', **body)

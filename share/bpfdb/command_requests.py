@@ -73,7 +73,7 @@ class CommandRequests:
         self.changed()
         self.views = [None]
         end = move and move[3] == 'end'
-        reason = {'break': 'breakpoint', 'watch': 'data breakpoint'}.get(move[3], 'step') if move else 'step'
+        reason = {'break': 'breakpoint', 'watch': 'data breakpoint', 'strict': 'strict'}.get(move[3], 'step') if move else 'step'
         self.later = [lambda: self.stopped(self.runner.end() if end else Stop(reason))]
 
     def count_of(self, words):

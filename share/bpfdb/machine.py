@@ -17,11 +17,12 @@ ADDRESS = re.compile(r'fault access (0x[0-9a-f]+) at')
 
 
 class Move:
-    """What a command that moves replied: how many moves, why it stopped, and where."""
+    """What a command that moves replied: how many moves, why it stopped, and where; and what a strict session says behind that."""
 
     def __init__(self, line, reply):
-        found = MOVE.match(reply)
+        found = MOVE.match(reply[0])
         self.line, self.count, self.kind, self.why, self.place = line, int(found[1]), found[2], found[3], found[4]
+        self.said = '\n'.join(reply[1:])
 
     def at(self):
         """The slot of the next instruction, and its text; none where the program has ended."""
@@ -46,7 +47,7 @@ class History:
             self.forward(int(move[1]))
         elif move:
             self.now += int(move[1]) if move[2] == 'redone' else -int(move[1])
-        elif reply == ['ok'] and line.split()[:1] == ['set']:
+        elif reply[:1] == ['ok'] and line.split()[:1] == ['set']:
             self.forward(1, True)
 
     def forward(self, count, is_edit=False):
@@ -112,7 +113,7 @@ class Machine:
 
     def move(self, line):
         """What a command that moves came to."""
-        return Move(line, self.demand(line)[0])
+        return Move(line, self.demand(line))
 
     def cached(self, name, find):
         if name not in self.kept:

@@ -51,6 +51,8 @@ class Runner:
             return self.end()
         if move.why == 'start':
             return self.beginning()
+        if move.why == 'strict':
+            return Stop('strict', move.said)
         if move.why == 'memory':
             return Stop('pause', 'no memory is left to keep a further move')
         if move.why in ('break', 'watch'):

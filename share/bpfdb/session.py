@@ -73,13 +73,15 @@ class Program:
     def count(self, line, reply):
         """Counts the moves of a line by its reply, and keeps the line if it was obeyed and does more than to show something."""
         words, move = line.split(), MOVE.match(reply[0]) if reply else None
-        if words[:1] == ['set'] and reply == ['ok']:
+        # (behind an edit of a strict session there is a line more)
+        if words[:1] == ['set'] and reply[:1] == ['ok']:
             self.moves += 1
         elif move:
             self.moves += -int(move[1]) if move[2] == 'back' else int(move[1])
         self.most = max(self.most, self.moves)
         if reply and not reply[0].startswith('refused ') and words[0] not in SHOWS:
-            self.lines.append(line)
+            # (another session than a strict one doesn't stop there by itself)
+            self.lines.append(f'stepi {move[1]}' if move and move[3] == 'strict' else line)
 
     def dropped(self):
         """Says how many moves the journal dropped, and how many the largest would keep of such moves; empty if it dropped none."""

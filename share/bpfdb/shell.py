@@ -47,7 +47,7 @@ class Shell(Prompt, Meanings, Values, Listings, Halts, Ways):
             for text in reply:
                 self.say(text, '31' if '; fault ' in text else '')
         move = MOVE.match(reply[0]) if reply else None
-        if move or (reply == ['ok'] and line.startswith('set ')):
+        if move or (reply[:1] == ['ok'] and line.startswith('set ')):
             self.moved, self.next_listed = True, None
         if move and (move[2], move[3]) == ('back', 'start'):
             self.tell_dropped()

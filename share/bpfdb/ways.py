@@ -29,7 +29,7 @@ class Ways:
             self.send(f'delete {slot}', quiet=True)
 
     def jump(self, name, rest, form):
-        if self.send(f'set pc {self.slot(rest)}') == ['ok']:
+        if self.send(f'set pc {self.slot(rest)}')[:1] == ['ok']:
             self.send('continue')
 
     def rewind(self):

@@ -70,7 +70,7 @@ _bpfdb() {
     case $job in
     run) words="-m --mem --packet --maps --regs --steps --strict --words --listing --object --section --entry --entries --helper --fields --struct --with --no-linux --faithful --json -h --help" ;;
     trace) words="-m --mem --packet --maps --regs --steps --from --count --branches --profile --calls --strict --words --listing --object --section --entry --entries --helper --fields --struct --with --no-linux --faithful --json -h --help" ;;
-    debug) words="-m --mem --packet --maps --regs --journal --steps --words --listing --object --section --entry --entries --helper --fields --struct --with --no-linux --faithful --json --questions -h --help" ;;
+    debug) words="-m --mem --packet --maps --regs --journal --steps --strict --words --listing --object --section --entry --entries --helper --fields --struct --with --no-linux --faithful --json --questions -h --help" ;;
     origin) words="-m --mem --packet --maps --regs --journal --steps --branches --words --listing --object --section --entry --entries --helper --script --fields --struct --with --no-linux --faithful --lines --addresses --json --dot -h --help" ;;
     whynot) words="-m --mem --packet --maps --regs --journal --steps --words --listing --object --section --entry --entries --helper --script --fields --struct --with --no-linux --faithful --lines --addresses --alone --json -h --help" ;;
     diff) words="-m --mem --packet --maps --regs --journal --steps --words --listing --object --section --entry --entries --helper --fields --struct --with --no-linux --faithful --lines --addresses --alone --other-mem --other-packet --trace --writes --json -h --help" ;;
@@ -83,8 +83,8 @@ _bpfdb() {
     gdb) words="-m --mem --packet --maps --regs --journal --steps --words --listing --object --registers --section --entry --entries --helper --fields --struct --with --no-linux --faithful -h --help" ;;
     test) words="--only --show --cover --cover-info --anywhere --json -h --help" ;;
     batch) words="--maps --steps -h --help" ;;
-    shell) words="-m --mem --packet --maps --regs --journal --steps --words --listing --object --section --entry --entries --helper --fields --struct --with --no-linux --faithful -h --help" ;;
-    page) words="-m --mem --packet --maps --regs --steps --words --listing --object --section --entry --entries --helper --fields --struct --with --no-linux --faithful -o --output --from --count --title -h --help" ;;
+    shell) words="-m --mem --packet --maps --regs --journal --steps --strict --words --listing --object --section --entry --entries --helper --fields --struct --with --no-linux --faithful -h --help" ;;
+    page) words="-m --mem --packet --maps --regs --steps --strict --words --listing --object --section --entry --entries --helper --fields --struct --with --no-linux --faithful --json -o --output --from --count --title -h --help" ;;
     dap) words="--port --over -h --help" ;;
     help) words="run trace debug origin whynot diff asm disasm lines check load link gdb test batch" ;;
     *) return ;;
