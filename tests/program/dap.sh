@@ -40,6 +40,7 @@ if has python3 'bpfdb-dap'; then
     printf 'mov r0, 0\nloop: add r0, 1\nja loop\n' > endless.s
     printf 'mov r0, 0\nloop: add r0, 1\njlt r0, 450000, loop\nexit\n' > loop.s
     printf 'mov r0, 0\nloop: add r0, 1\nja loop\nexit\n' > words.s
+    printf 'stb [r10-1], 5\nldxh r0, [r10-2]\nexit\n' > stack.s
     "$program" asm words.s > words.bin
     printf 'mov r1, 5\ncall 64\nmov r1, 6\ncall 64\nmov r0, 0\nldmap r1, 0\nldmap r1, 1\nexit\n' > traces.s
     printf 'stepi 2\nquit\nstepi\n' > script

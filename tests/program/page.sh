@@ -48,13 +48,23 @@ if has python3 'pages of runs'; then
     made 2 "error: FILE is missing$usage_end" -o left/run.html
     made 2 "error: unexpected argument '--json' found$usage_end" -o left/run.html two.s --json
     # (what is no word of its own goes to trace and to debug, and what one of them doesn't take that one refuses)
-    for row in 'trace --frob missing two.s' 'debug --strict two.s' 'trace -x two.s' 'trace --frob=3 two.s' 'trace two.s --journal 1024' 'trace two.s wrong.s'; do
+    for row in 'trace --frob missing two.s' 'debug --calls two.s' 'trace -x two.s' 'trace --frob=3 two.s' 'trace two.s --journal 1024' 'trace two.s wrong.s'; do
         words=${row#* }
         # shellcheck disable=SC2086
         "$program" $row 2>&1 | grep -q '^error: unexpected argument' || complain "tests/program/page.sh: bpfdb takes $row"
         # shellcheck disable=SC2086
         made 2 "$(told $row)" -o left/run.html $words
     done
+    # With --strict a page ends where the run of bpfdb does.
+    printf 'stb [r10-1], 5\nldxh r0, [r10-2]\nexit\n' > stack.s
+    printf 'ldxb r0, [r10-1]\nexit\n' > first.s
+    made 0 '' -o strict.html --strict stack.s
+    count=$((count + 1))
+    grep -q '"steps":1,"first":1,"shown":1,"end":"read of 0x2000001fe at 1: not written since the call"' strict.html || complain 'bpfdb-page --strict: where the page ends'
+    made 0 '' -o strict.html --strict two.s
+    count=$((count + 1))
+    grep -q '"steps":2,"first":1,"shown":2,"end":"exited at 1: r0 0x1"' strict.html || complain 'bpfdb-page --strict: a run without such a read'
+    made 2 'bpfdb-page: the run has no steps: read of 0x2000001ff at 0: not written since the call\n' -o left/run.html --strict first.s
     made 2 'cannot read missing\n' -o left/run.html missing
     made 2 'cannot read missing\n' -o left/run.html -m missing two.s
     made 2 "$(told trace --listing wrong.s)" -o left/run.html wrong.s

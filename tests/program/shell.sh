@@ -86,6 +86,9 @@ if has python3 'bpfdb-shell'; then
         'bpfdb-shell: whynot PLACE: a slot, a label, LABEL+1, FILE:LINE or =VALUE\n' first.s
     plainly 'why it did not make a value, and when it did' 0 'c\nwhynot =1\nwhynot =7\n' \
         '3 forward; end; exited at 4: r0 0x1\nmade: -2 r0 = 0x1; 3: mov r0, 1 (first.s:4)\neach instruction that makes it ran\nrefused V7: no instruction makes the value\n' '' first.s
+    printf 'stb [r10-1], 5\nldxh r0, [r10-2]\nexit\n' > stack.s
+    plainly 'a strict session, whose moves another one makes again' 0 'c\nwhynot stack.s:3\nc\nset reg r1 7\n' \
+        '1 forward; strict; at 1: ldxh r0, [r10-2]\nread of 0x2000001fe at 1: not written since the call\nit can still be reached\n2 forward; end; exited at 2: r0 0x500\nok\nnot strict behind an edit\n' '' --strict stack.s
     plainly 'going back to the first move' 0 'si 5\nrc\nrs\n' '5 forward; done; at 1: ja L0\n5 back; start; at 0: add r0, 1\nrefused Q4: no kept step\n' '' endless.s
     plainly 'going back in the largest journal' 0 'c\nc\nc\nrc\n' \
         "$(for at in 1 2 3; do printf '1000000 forward; limit; at 0: add r0, 1\\n'; done)1458888 back; start; at 0: add r0, 1\n" \

@@ -107,6 +107,51 @@ refused 'refused C3: length is no multiple of 8' trace --strict ragged
 head -c 65537 /dev/zero > long
 refused 'refused O1: context too long' run --strict -m long --listing stop.s
 
+# A strict session: a forward command stops there, whatever else it would have stopped for, and the next one goes on.
+there='strict; at 3: ldxh r0, [r10-2]\nread of 0x2000001fe at 3: not written since the call\n'
+second='2 forward; end; exited at 4: r0 0x500\n'
+session 'debug --strict: it stops, and goes on' 'continue\ncontinue\n' "3 forward; $there$second" debug --strict --listing t.s
+session 'debug: it does not' 'continue\n' '5 forward; end; exited at 4: r0 0x500\n' debug --listing t.s
+session 'debug --strict: back and forward again' 'continue\ncontinue\nreverse-stepi 3\ncontinue\nreverse-continue\nstepi 9\nstepi\n' \
+    "3 forward; $there${second}3 back; done; at 2: stb [r10-1], 5\n1 forward; ${there}3 back; start; at 0: mov r1, 1\n3 forward; ${there}1 forward; done; at 4: exit\n" debug --strict --listing t.s
+session 'debug --strict: steps that lead there' 'stepi 2\nstepi\n' "2 forward; done; at 2: stb [r10-1], 5\n1 forward; $there" debug --strict --listing t.s
+session 'debug --strict: as many steps as there are' 'stepi 3\nnexti\n' "3 forward; ${there}1 forward; done; at 4: exit\n" debug --strict --listing t.s
+session 'debug --strict: a breakpoint before it, and one there' 'break 2\nbreak 3\ncontinue\ncontinue\n' \
+    "ok\nok\n2 forward; break; at 2: stb [r10-1], 5\n1 forward; $there" debug --strict --listing t.s
+session 'debug --strict: a watched byte' 'watch 0x2000001ff\ncontinue\n' "ok\n3 forward; $there" debug --strict --listing t.s
+session 'debug --strict: redo goes over it' 'continue\ncontinue\nreverse-stepi 5\nredo 5\n' \
+    "3 forward; $there${second}5 back; done; at 0: mov r1, 1\n5 redone; done; exited at 4: r0 0x500\n" debug --strict --listing t.s
+# It is one that `run --strict` with these --steps finds.
+session 'debug --strict: just within the limit' 'continue\n' "3 forward; $there" debug --strict --steps 4 --listing t.s
+session 'debug --strict: behind the limit' 'continue\ncontinue\n' '3 forward; limit; at 3: ldxh r0, [r10-2]\n2 forward; end; exited at 4: r0 0x500\n' debug --strict --steps 3 --listing t.s
+# Behind an edit there is none, which is said; undone it counts for nothing, made again it does.
+session 'debug --strict: behind an edit' 'stepi\nset reg r1 2\nset reg r2 3\ncontinue\n' \
+    '1 forward; done; at 1: jne r1, 2, L2\nok\nnot strict behind an edit\nok\n4 forward; end; exited at 4: r0 0x500\n' debug --strict --listing t.s
+session 'debug --strict: an edit that is undone' 'stepi\nset reg r1 2\nundo\ncontinue\n' \
+    "1 forward; done; at 1: jne r1, 2, L2\nok\nnot strict behind an edit\n1 back; done; at 1: jne r1, 2, L2\n2 forward; $there" debug --strict --listing t.s
+session 'debug --strict: an edit that is forgotten' 'stepi\nset reg r1 2\nundo\nstepi\nstepi\n' \
+    "1 forward; done; at 1: jne r1, 2, L2\nok\nnot strict behind an edit\n1 back; done; at 1: jne r1, 2, L2\n1 forward; done; at 2: stb [r10-1], 5\n1 forward; $there" debug --strict --listing t.s
+session 'debug --strict: an edit that is made again' 'stepi\nset reg r1 2\nundo\nredo 1\ncontinue\n' \
+    '1 forward; done; at 1: jne r1, 2, L2\nok\nnot strict behind an edit\n1 back; done; at 1: jne r1, 2, L2\n1 redone; done; at 1: jne r1, 2, L2\n4 forward; end; exited at 4: r0 0x500\n' \
+    debug --strict --listing t.s
+session 'debug --strict: an edit that is refused' 'set reg r10 1\ncontinue\n' "refused Q7: register not writable\n3 forward; $there" debug --strict --listing t.s
+session 'debug --strict: no such read' 'continue\nset reg r0 1\n' '2 forward; end; exited at 1: r0 0x2a\nok\nnot strict behind an edit\n' debug --strict --listing stop.s
+# No command stops before its first step: of a read by the first one of all the command that makes it tells.
+listing first.s 'ldxb r0, [r10-1];exit'
+session 'debug --strict: the first step of all' 'stepi\nundo\ncontinue\n' \
+    '1 forward; done; at 1: exit\nread of 0x2000001ff at 0: not written since the call\n1 back; done; at 0: ldxb r0, [r10-1]\n2 forward; end; exited at 1: r0 0x0\nread of 0x2000001ff at 0: not written since the call\n' \
+    debug --strict --listing first.s
+# In a function that is stepped over.
+listing called.s 'callf f;exit;f: ldxb r0, [r10-1];exit'
+session 'debug --strict: in a call' 'nexti\nfinish\n' '1 forward; strict; at 2: ldxb r0, [r10-1]\nread of 0x2000005ff at 2: not written since the call\n2 forward; done; at 1: exit\n' debug --strict --listing called.s
+# With questions, and as JSON.
+session 'debug --strict --questions' 'continue\norigin r1\ncontinue\n' "3 forward; $there-3 r1 = 0x1; 0: mov r1, 1\n$second" debug --strict --questions --listing t.s
+session 'debug --strict --json' 'continue\ncontinue\n' '{"line":1,"kind":"reply","text":"3 forward; strict; at 3: ldxh r0, [r10-2]\\u000aread of 0x2000001fe at 3: not written since the call\\u000a"}
+{"line":2,"kind":"reply","text":"2 forward; end; exited at 4: r0 0x500\\u000a"}\n' debug --strict --json --listing t.s
+row 'debug --strict: an empty script' 0 '' '' '' debug --strict --listing t.s
+refused 'refused C3: length is no multiple of 8' debug --strict ragged
+refused 'refused O1: context too long' debug --strict -m long --listing stop.s
+
 # The planted bug of examples/bugs, and the packet with which it doesn't show.
 if has_clang 'a strict run of examples/bugs/limits.c'; then
     clang -O2 -target bpf -c -o limits.o "$top/examples/bugs/limits.c" 2> found/err || complain "examples/bugs/limits.c: $(cat found/err)"

@@ -146,6 +146,8 @@ def main():
             run = subprocess.run([bpfdb, 'run', *words], capture_output=True, text=True)
             strict = subprocess.run([bpfdb, 'trace', '--strict', *words], capture_output=True, text=True)
             alone = subprocess.run([bpfdb, 'run', '--strict', *words], capture_output=True, text=True)
+            plainly, strictly = (subprocess.run([bpfdb, 'debug', *option, *words], input='continue\n', capture_output=True, text=True).stdout
+                                 for option in ([], ['--strict']))
             lines = plain.stdout.split('\n')[:-1]
             steps, line = expected(plain.stdout, 0) if plain.returncode != 2 else (0, None)
             if line is None:
@@ -156,7 +158,12 @@ def main():
                 wanted = ('\n'.join(lines[:steps] + [line]) + '\n', '', 1, '', line + '\n', 1)
                 kind = 'read in ' + lines[steps].split(' ')[2][:6]
             kinds[kind] = kinds.get(kind, 0) + 1
-            found = (strict.stdout, strict.stderr, strict.returncode, alone.stdout, alone.stderr, alone.returncode)
+            # a session stops there; of a read by the first step it tells behind that
+            went = plainly + (line + '\n' if line else '')
+            if line and steps:
+                went = f'{steps} forward; strict; at {lines[steps].split(" ", 1)[1].split("; ")[0]}\n{line}\n'
+            found = (strict.stdout, strict.stderr, strict.returncode, alone.stdout, alone.stderr, alone.returncode, strictly)
+            wanted += (went,)
             if found != wanted:
                 failed += 1
                 print(f'FAILED: seed {seed}: {" ".join(words)}\n{open("p.s").read()}{found}\nwanted\n{wanted}')

@@ -478,6 +478,18 @@ def limit():
 
 
 @only('bpfdb')
+def strict():
+    """A read of the stack where nothing was written, of a strict session; behind it the program goes on."""
+    editor, _ = started('stack.s', strict=True)
+    hold(editor.go('continue'), ('strict', 'entry', 2), 'the read')
+    hold(editor.body['description'], 'read of 0x2000001fe at 1: not written since the call', 'which is told')
+    hold(editor.go('continue')[0], 'exited', 'the end')
+    hold(editor.go('reverseContinue')[0], 'entry', 'and back')
+    hold(editor.go('next')[:2], ('strict', 'entry'), 'a step that leads there')
+    left(editor)
+
+
+@only('bpfdb')
 def script():
     """A script to begin with."""
     editor, stop = started('words.bin', script='script')
