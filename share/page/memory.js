@@ -72,8 +72,9 @@ class MemoryView {
     made.setAttribute("role", "row");
     for (let address = start; address < start + this.width; address++) {
       const at = region ? address - region.start : -1, has = at >= 0 && at < region.bytes.length;
-      const cell = element("span", this.classes(address, has ? region.writers[at] : 0, has && region.bytes[at]), has ? region.bytes[at].toString(16).padStart(2, "0") : "  ");
-      if (has || this.reads.has(address)) this.describe(cell, address, has ? region.writers[at] : 0);
+      const writer = has ? region.writers[at] : 0, isUnset = has && this.run.isUnset(region, at);
+      const cell = element("span", this.classes(address, writer, has && region.bytes[at], isUnset), has ? region.bytes[at].toString(16).padStart(2, "0") : "  ");
+      if (has || this.reads.has(address)) this.describe(cell, address, writer, isUnset);
       made.append(cell);
       text.append(element("span", has && region.bytes[at] ? "" : "zero", has ? character(region.bytes[at]) : " "));
     }
@@ -82,19 +83,19 @@ class MemoryView {
     return made;
   }
 
-  classes(address, writer, value) {
-    const marks = [["zero", !value], ["own", writer], ["wrote", this.wrote.has(address)], ["writes", this.writes.has(address)],
+  classes(address, writer, value, isUnset) {
+    const marks = [["zero", !value], ["own", writer], ["unset", isUnset], ["wrote", this.wrote.has(address)], ["writes", this.writes.has(address)],
       ["reads", this.reads.has(address)], ["cursor", this.cursor === address], ["selected", this.selected === address]];
     return marks.filter(([, holds]) => holds).map(([name]) => name).join(" ");
   }
 
   // What is said of a byte: its address, its place, and which step wrote it.
-  describe(cell, address, writer) {
+  describe(cell, address, writer, isUnset) {
     cell.id = `m${address}`;
     cell.dataset.address = address;
     cell.setAttribute("role", "gridcell");
     const place = this.names.place(this.run, BigInt(address));
-    const wrote = writer ? `written by step ${writer}: ${this.run.slots[writer - 1 - this.run.before]}: ${this.run.at.get(this.run.slots[writer - 1 - this.run.before]).text}` : "not written";
+    const wrote = writer ? `written by step ${writer}: ${this.run.slots[writer - 1 - this.run.before]}: ${this.run.at.get(this.run.slots[writer - 1 - this.run.before]).text}` : isUnset ? "not written since the call" : "not written";
     cell.title = `${hex(address)}${place ? ` (${place})` : ", no memory"}; ${wrote}`;
     cell.setAttribute("aria-label", `${cell.textContent}, ${cell.title}`);
   }

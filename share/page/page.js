@@ -34,7 +34,7 @@ class Page {
   // How the run ended, and at a bad access where its address lies.
   tellEnd() {
     const { run, names } = this, fault = /^fault (\w+)(?: (0x[0-9a-f]+))? at (\d+)/.exec(run.end);
-    const line = names.lineOf(run.goesOn ? -1 : run.slots[run.length]);
+    const line = tellsPlace(run.end) ? "" : names.lineOf(run.goesOn ? -1 : run.slots[run.length]);
     let text = run.end + (line ? ` (${line})` : "");
     if (fault && fault[1] === "access") text += `: ${whereabouts(run, BigInt(fault[2]))}`;
     if (run.told.shown < run.told.steps) text += `; shown: steps ${run.told.first} to ${run.told.first + run.told.shown - 1} of ${run.told.steps}`;
@@ -277,7 +277,7 @@ class Page {
     else pieces.push(element("span", "next", "next ", element("code", "", `${slot}: ${run.at.get(slot).text}`)));
     const told = next.filter((change) => change.register !== undefined && change.by === run.step + 1 || change.region && change.by || change.word).map((change) => changeText(change));
     if (told.length) pieces.push(element("code", "effect", `→ ${told.join(", ")}`));
-    if (place) pieces.push(element("span", "place", place));
+    if (place && !(run.hasEnded() && tellsPlace(run.end))) pieces.push(element("span", "place", place));
     $("now").replaceChildren(...pieces);
     $("now").classList.toggle("ended", run.hasEnded());
   }
@@ -329,6 +329,11 @@ class Page {
       return element("li", "", element("code", "", `${hex(value)} (${signed(value)})`), " ", button);
     }));
   }
+}
+
+// Whether bpfdb's line of how a run ended tells where that is in C.
+function tellsPlace(end) {
+  return end.includes("; in ");
 }
 
 // What a change writes, as bpfdb says it.

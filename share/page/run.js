@@ -113,6 +113,14 @@ class Run {
     return this.regions.find((region) => address >= region.start && address < region.end);
   }
 
+  // Whether nothing wrote a byte of the stack since the call of its function, or, of the first one, since the start. It isn't where that lies before the steps
+  // that are shown, as it isn't known then.
+  isUnset(region, at) {
+    if (region.start < STACK || region.start >= MAPS || region.writers[at]) return false;
+    const depth = (region.start - STACK) / FRAME_STRIDE;
+    return depth ? depth <= this.frames.length && this.frames[depth - 1].by > 0 : !this.before;
+  }
+
   // What an instruction reads of memory, as addresses and numbers of bytes.
   readsOf(instruction) {
     const access = instruction.access, r = this.registers;

@@ -151,7 +151,9 @@ def states(browser, trials, folder):
         total, end = len(trace) - 1, trace[-1]
         first, length = browser.value('[page.run.told.first, page.run.length]')
         trials.same(f'{name}: the number of steps', total, browser.value('page.run.told.steps'))
-        trials.holds(f'{name}: the end is said', browser.value('document.getElementById("end").textContent').startswith(end))
+        told = browser.value('document.getElementById("end").textContent')
+        trials.holds(f'{name}: the end is said', told.startswith(end), told)
+        trials.holds(f'{name}: its place in C is said once', '; in ' not in end or '(' not in told[len(end):].partition(':')[0], told)
         regions = browser.value('page.run.regions.filter((region) => region.bytes.length).map((region) => [region.start, region.bytes.length])')
         steps = moments(first - 1, first - 1 + length)
         after = written(trace[:-1], set(steps))
@@ -167,19 +169,21 @@ def states(browser, trials, folder):
             trials.same(f'{what}: the instruction', [slot, text or shown['current'][1]], shown['current'])
             if not place.startswith('at '):
                 trials.holds(f'{what}: the end', place in shown['now'], shown['now'])
-            check_cells(trials, what, shown, memory, after[step], first)
+            check_cells(trials, what, shown, memory, after[step], first, len(frames))
             writers = [after[step].get(f'r{at}', 0) for at in range(11)]
             trials.same(f'{what}: who wrote registers', [f'step {by}' if by >= first else 'opening' if first == 1 else 'before' for by in writers], shown['writers'])
 
 
-def check_cells(trials, what, shown, memory, places, first):
-    """The bytes that are in sight, and who is said to have written them."""
+def check_cells(trials, what, shown, memory, places, first, depth):
+    """The bytes that are in sight, who is said to have written them, and which of the stack are said to be written by nobody."""
     for address, text, title in shown['cells']:
         start = max((each for each in memory if each <= address), default=None)
         digits = memory[start][2 * (address - start):2 * (address - start) + 2] if start is not None else ''
         by = re.search(r'written by step (\d+)', title)
         trials.same(f'{what}: the byte {address:#x} and its writer', (digits, max(places.get(address, 0), first - 1) if places.get(address, 0) >= first else 0),
                     (text.strip(), int(by[1]) if by else 0))
+        unset = first == 1 and digits and 0 <= address - 0x200000000 < 1024 * (depth + 1) and not places.get(address, 0)
+        trials.same(f'{what}: whether the byte {address:#x} was written since the call', bool(unset), 'not written since the call' in title)
 
 
 def reached(words, at, command):
