@@ -35,7 +35,7 @@ first-span : (off : ℕ) (b : ℕ) (rest : List ℕ) → among 0x20 0x7E b ≡ t
 first-span off b rest seen =
     spans-first (b ∷ rest) off (omega arith)
     ∙ ap (λ (d : Decoded). (off, off + d.size, or_replacement d.char) ∷ spans_from (off + d.size) (pieces (drop d.size (b ∷ rest))))
-      (is-one b rest seen)
+    (is-one b rest seen)
 
 seen-from : (front rest : List ℕ) → list_all (among 0x20 0x7E) rest ≡ true
     → flat_map (shown_span false (front ++ rest)) (spans_from (length front) (pieces rest)) ≡ rest
@@ -47,8 +47,8 @@ seen-from front (b ∷ rest) all =
     let text : (front ++ b ∷ []) ++ rest ≡ front ++ b ∷ rest = append_assoc front (b ∷ []) rest in
     let count : length (front ++ b ∷ []) ≡ length front + 1 = length-append front (b ∷ []) in
     let behind : flat_map tell (spans_from (length front + 1) (pieces rest)) ≡ rest =
-        sym (ap₂ (λ t n. flat_map (shown_span false t) (spans_from n (pieces rest))) text count)
-        ∙ seen-from (front ++ b ∷ []) rest others in
+    sym (ap₂ (λ t n. flat_map (shown_span false t) (spans_from n (pieces rest))) text count)
+    ∙ seen-from (front ++ b ∷ []) rest others in
     ap (flat_map tell) (first-span (length front) b rest seen)
     ∙ ap₂ (λ s t. s ++ t) (first-seen front rest b seen) behind
 
