@@ -93,7 +93,7 @@ own_options() {
 
 # What bpfdb-shell and bpfdb-page have of these options, for awk: those of debug but for the form of replies, which it asks for itself; and, beside its own, those of run without which it makes its page.
 taken='function of_shell(long, jobs) { return long !~ /^(json|questions)$/ && jobs ~ /(^|, )(debug|each)(,|$)/ }
-function of_page(long, jobs) { return jobs ~ /(^|, )(run|each)(,|$)/ && long long != "json" }'
+function of_page(long, jobs) { return jobs ~ /(^|, )(run|each)(,|$)/ && long != "json" }'
 
 # of_jobs: '    JOB) WORDS' lines: for each subcommand, for bpfdb-shell, bpfdb-page and bpfdb-dap, the options that it has, as bash takes them.
 of_jobs() {

@@ -84,7 +84,7 @@ _bpfdb() {
     test) words="--only --show --cover --cover-info --anywhere --json -h --help" ;;
     batch) words="--maps --steps -h --help" ;;
     shell) words="-m --mem --packet --maps --regs --journal --steps --strict --words --listing --object --section --entry --entries --helper --fields --struct --with --no-linux --faithful -h --help" ;;
-    page) words="-m --mem --packet --maps --regs --steps --strict --words --listing --object --section --entry --entries --helper --fields --struct --with --no-linux --faithful --json -o --output --from --count --title -h --help" ;;
+    page) words="-m --mem --packet --maps --regs --steps --strict --words --listing --object --section --entry --entries --helper --fields --struct --with --no-linux --faithful -o --output --from --count --title -h --help" ;;
     dap) words="--port --over -h --help" ;;
     help) words="run trace debug origin whynot diff asm disasm lines check load link gdb test batch" ;;
     *) return ;;

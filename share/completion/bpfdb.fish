@@ -119,7 +119,6 @@ complete -c bpfdb -n "__fish_seen_subcommand_from test" -l cover -d "What no tes
 complete -c bpfdb -n "__fish_seen_subcommand_from test" -l cover-info -d "What ran is all of standard output"
 complete -c bpfdb -n "__fish_seen_subcommand_from test" -l anywhere -d "Files that tests name may lie outside of the folder of FILE"
 complete -c bpfdb -n "__fish_seen_subcommand_from run trace debug origin whynot diff disasm lines check load test" -l json -d "Each line of standard output is written as an object of JSON"
-complete -c bpfdb-page -l json -d "Each line of standard output is written as an object of JSON"
 complete -c bpfdb -n "__fish_seen_subcommand_from debug" -l questions -d "Lines of the script may ask"
 complete -c bpfdb -n "__fish_seen_subcommand_from origin" -l dot -d "The answer is written as a graph for graphviz"
 complete -c bpfdb -s h -l help -d "Writes help to standard output"
