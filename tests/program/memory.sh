@@ -130,6 +130,8 @@ for bytes_of_context in page whole; do
     wants "$plain$c13$o2$j2" 0 '' '' debug -m "$bytes_of_context" --maps 256x64 program
 done
 wants "$plain$a7$c13$o2$j2" 0 '' '' debug --listing program.s
+printf 'ldxb r0, [r10-1]\nexit\n' > read.s
+wants "$plain$a7$c13$o2$j2" 0 '' '' debug --strict --listing read.s
 wants "$plain$a7$c13$o2$j2" 0 'exited at 1: r0 0x2a\n-2 r0 = 0x2a; 0: mov r0, 42\n' '' origin --listing program.s
 wants "$plain$a7$c13$o2$j2" 0 'exited at 1: r0 0x2a\n-2 r0 = 0x2a; 0: mov r0, 42\nno other branch; at the opening\n' '' origin --branches --listing program.s
 wants "$plain$c13$o2$j2" 0 'exited at 1: r0 0x2a\nleft 0x200000000:1 = 0x0; not written since the call\n' '' origin -m context --maps 8x2 --journal 1024 program 0x200000000
