@@ -178,7 +178,9 @@ class Adapter(BreakpointRequests, WayRequests, StateRequests, CommandRequests):
 
     def gdb_for(self, loaded, over):
         """gdb and its version, where it is asked for, or is there and has names to tell; and what is told of it."""
-        if over == 'bpfdb' or not over and not loaded.subject.is_object:
+        if loaded.is_strict and over == 'gdb':
+            raise Failed('over gdb: no session is strict there; over bpfdb it is')
+        if over == 'bpfdb' or not over and (loaded.is_strict or not loaded.subject.is_object):
             return None, None, 'bpfdb alone'
         if loaded.has_no_names():
             raise Failed('over gdb: an object or a listing is wanted, which has names')

@@ -71,12 +71,14 @@ def option_of(name, arguments):
 
 
 class Loaded:
-    """A program that is ready to start: its command line, its places, its maps, and the most steps of a way forwards (None if there is no limit)."""
+    """A program that is ready to start: its command line, its places, its maps, whether its session is strict, and the most steps of a way forwards (None
+    if there is no limit)."""
 
     def __init__(self, program, wanted):
         line = wanted.line(program)
         self.limit = int(wanted.limit) if re.fullmatch('[0-9]{1,10}', wanted.limit or '') else None
         self.for_gdb = [*line.of('gdb'), '--', wanted.file]
+        self.is_strict = line.has('--strict')
         self.subject = Subject(line)
         self.source = source_of(self.subject, self.subject.told.lines)
         names, self.maps = self.subject.told.names(), self.subject.told.shapes()

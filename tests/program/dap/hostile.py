@@ -67,6 +67,7 @@ def out_of_order():
     hold(editor.refused('launch', program='overrun.o', journal=5, over='bpfdb'), 'refused J1: journal size out of range', 'a small journal')
     hold(editor.refused('launch', program='overrun.o', maps='x', over='bpfdb'), 'refused M5: malformed map list', 'no maps')
     hold(editor.refused('launch', program='overrun.o', over='lldb'), 'over: gdb or bpfdb is wanted', 'another debugger')
+    hold(editor.refused('launch', program='overrun.o', strict=True, over='gdb'), 'over gdb: no session is strict there; over bpfdb it is', 'strict over gdb')
     for words, why in (({'contex': 'context.bin'}, 'contex: is context meant?'), ({'stopAtEntry': False}, 'stopAtEntry: is stopOnEntry meant?'),
                        ({'': 1}, ''), ({'frob=--steps': 1}, 'frob=--steps'), ({'frob': False}, 'frob'), ({'frob': None}, 'frob'), ({'Over': 'gdb', 'type': 'bpfdb'}, 'Over: is over meant?')):
         hold(editor.refused('launch', program='overrun.o', **words)[:len('launch takes no ' + why)], 'launch takes no ' + why, f'a word that is none: {why}')

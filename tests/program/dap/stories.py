@@ -487,6 +487,10 @@ def strict():
     hold(editor.go('reverseContinue')[0], 'entry', 'and back')
     hold(editor.go('next')[:2], ('strict', 'entry'), 'a step that leads there')
     left(editor)
+    editor = Client()
+    editor.open('overrun.o', context='context.bin', strict=True)
+    hold('bpfdb-dap: overrun.o over bpfdb alone\n' in editor.printed, True, 'an object, too, where nothing says over what')
+    left(editor)
 
 
 @only('bpfdb')
