@@ -160,6 +160,16 @@ tells 1 "at 1: jlt r0, 3, L0\nleft r1 = 0x0$start-2 1: jlt r0, 3, L0; r0 = 0x2; 
 tells 0 "at 1: jlt r0, 3, L0\nleft r1 = 0x0$start-2 1: jlt r0, 3, L0; r0 = 0x2; jumped to 0\n-4 1: jlt r0, 3, L0; r0 = 0x1; jumped to 0\nno other branch$start" \
     origin --branches --lines 2 --steps 5 --listing until.s r1
 
+# What a jump compared, as `trace --branches` tells it: r10 on either side, and a register of a function that was called.
+listing ends.s 'mov r4, r10;jeq r4, r10, out;mov r0, 1;out: exit'
+ends='1: jeq r4, r10, L3; r4 = 0x200000200; r10 = 0x200000200; jumped'
+tells 0 "2 $ends\nexited at 3: r0 0x0\n" trace --branches --listing ends.s
+tells 0 "exited at 3: r0 0x0\nleft r0 = 0x0${start}kept: -2 $ends to 3\nno other branch$start" origin --branches --listing ends.s
+listing ends.s 'callf f;exit;f: mov r6, 1;jgt r10, r6, on;exit;on: mov r0, 2;exit'
+ends='3: jgt r10, r6, L5; r10 = 0x200000600; r6 = 0x1; jumped'
+tells 0 "3 $ends\nexited at 1: r0 0x2\n" trace --branches --listing ends.s
+tells 0 "exited at 1: r0 0x2\n-3 r0 = 0x2; 5: mov r0, 2\n-4 $ends to 5\nno other branch$start" origin --branches --listing ends.s
+
 # What is asked about is refused as without it.
 refused 'refused V1: neither r0 to r9 nor ADDRESS:COUNT' origin --branches --listing plain.s r10
 

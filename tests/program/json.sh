@@ -82,6 +82,11 @@ tells 0 '{"kind":"exited","slot":3,"r0":"0x1"}
 {"kind":"move","moves":3,"slot":0,"insn":"mov r0, 1","parts":[{"part":"r0","value":"0x1"}]}
 {"kind":"kept","moves":2,"slot":1,"insn":"jeq r2, 0, L3","way":"jumped","to":3,"parts":[{"part":"r2","value":"0x0"}]}
 {"kind":"text","text":"no other branch; at the opening"}\n' origin --json --branches --listing kept.s
+listing ends.s 'mov r4, r10;jeq r4, r10, on;mov r0, 2;on: exit'
+tells 0 '{"kind":"exited","slot":3,"r0":"0x0"}
+{"kind":"left","since":"opening","parts":[{"part":"r0","value":"0x0"}]}
+{"kind":"kept","moves":2,"slot":1,"insn":"jeq r4, r10, L3","way":"jumped","to":3,"parts":[{"part":"r4","value":"0x200000200"},{"part":"r10","value":"0x200000200"}]}
+{"kind":"text","text":"no other branch; at the opening"}\n' origin --json --branches --listing ends.s
 # Bytes of the first frame, and of one that a call entered, that nothing wrote.
 listing unset.s 'ldxw r0, [r10-4];exit'
 tells 0 '{"kind":"exited","slot":1,"r0":"0x0"}

@@ -28,7 +28,7 @@ listing both.s 'mov r1, 2;mov r2, 3;jgt r1, r2, far;mov r0, 0;exit;far: exit'
 tells 0 'exited at 4: r0 0x0\n-3 2: jgt r1, r2, L5; r1 = 0x2; r2 = 0x3; went on\nat 2: jgt r1, r2, L5\n-1 r2 = 0x3; 1: mov r2, 3\n-2 r1 = 0x2; 0: mov r1, 2\n' \
     whynot --listing both.s 5
 listing frame.s 'jgt r10, 5, on;mov r0, 1;exit;on: exit'
-tells 0 'exited at 3: r0 0x0\n-2 0: jgt r10, 5, L3; jumped to 3\n' whynot --listing frame.s 1
+tells 0 'exited at 3: r0 0x0\n-2 0: jgt r10, 5, L3; r10 = 0x200000200; jumped to 3\n' whynot --listing frame.s 1
 
 # Where the values came from, with addresses or without.
 bytes context 2a
@@ -43,7 +43,7 @@ tells 0 'exited at 1: r0 0x0\n-3 4: jeq r0, 0, L6; r0 = 0x0; jumped to 6\nat 4: 
 tells 0 'at 6: exit\nit can still be reached\n' whynot --steps 2 --listing calls.s 1
 tells 0 'at 6: exit\n-1 4: jeq r0, 0, L6; r0 = 0x0; jumped to 6\n' whynot --alone --steps 2 --listing calls.s 3
 listing saved.s 'callf f;exit;f: jeq r6, 0, out;mov r0, 1;out: exit'
-tells 0 'exited at 1: r0 0x0\n-3 2: jeq r6, 0, L4; r6 at depth 1 = 0x0; jumped to 4\nat 2: jeq r6, 0, L4\nleft r6 = 0x0; at the opening\n' whynot --listing saved.s 3
+tells 0 'exited at 1: r0 0x0\n-3 2: jeq r6, 0, L4; r6 = 0x0; jumped to 4\nat 2: jeq r6, 0, L4\nleft r6 = 0x0; at the opening\n' whynot --listing saved.s 3
 listing deep.s 'f: callf f;mov r0, 1;exit'
 tells 0 'fault depth at 0\nit was out of reach from the opening\n' whynot --listing deep.s 1
 listing back.s 'f: jeq r0, 0, deeper;exit;deeper: callf f;mov r0, 1;exit'

@@ -7,9 +7,11 @@ use Rattle.counted_io.specs.Writing.{hexadecimal}
 use Rattle.bpf_isa.specs.Programs.{insn_at}
 use Rattle.bpf_isa.specs.declared.instruction.Insn.{Insn}
 use Rattle.bpf_isa.specs.declared.instruction.Insn.TheVariants as insn
+use Rattle.bpf_isa.specs.declared.instruction.Source.{Source}
+use Rattle.bpf_isa.specs.declared.instruction.Source.TheVariants.{Immediate, Register}
 use Rattle.bpf_steps.specs.Platform.{context_base, frame_base}
 use Rattle.bpf_steps.specs.Regions.{run_at}
-use Rattle.bpf_steps.specs.State.{State}
+use Rattle.bpf_steps.specs.State.{State, register}
 use Rattle.bpf_machine.specs.declared.moves.Move.{Move}
 use Rattle.bpf_machine.specs.declared.moves.Move.TheVariants as move
 use Rattle.bpfdb_script.specs.SlotTexts.{SlotTexts, text_of_slot}
@@ -50,6 +52,22 @@ part_value y (part.Bytes a n) = bytes_value y a n
 
 unfoldable pub part_text : State → Part → List ℕ
 part_text y p = part_name p ++ part_value y p
+
+-- What a conditional jump compares: a register, whole, as the instruction names it, r10 too, and a second one, where that isn't a number.
+unfoldable pub compared_text : State → ℕ → List ℕ
+compared_text x r = codes "; r" ++ decimal r ++ codes " = " ++ hexadecimal (register x r)
+
+abbrev pub source_text : State → Source → List ℕ
+source_text x (Immediate imm) = []
+source_text x (Register r) = compared_text x r
+
+abbrev pub operands_by : State → Insn → List ℕ
+operands_by x (insn.JumpIf condition width dst source offset) = compared_text x dst ++ source_text x source
+operands_by x _ = []
+
+abbrev pub operands_text : State → Move → List ℕ
+operands_text x move.Step = option_map_or (operands_by x) (insn_at x.program x.pc) []
+operands_text x (move.Edit e) = []
 
 -- What a move wrote, each part with its value.
 unfoldable pub written_text : State → Part → List ℕ

@@ -3,6 +3,7 @@
 #![tactic(auto)]
 
 mod answer;
+mod compared;
 mod fault;
 pub mod laws;
 mod left;
@@ -20,8 +21,9 @@ mod what;
 mod writes;
 
 pub use answer::put_answer;
+pub use compared::put_operands;
 pub use fault::WhatFault;
-pub use line::{put_move, put_part, put_part_name, put_slot, put_value};
+pub use line::{put_move, put_part_name, put_slot, put_value};
 pub use look::{Looked, go_on, look_back};
 pub use origin::put_origin;
 pub use past::Past;

@@ -11,7 +11,7 @@ use Rattle.bpf_isa.specs.declared.instruction.Source.TheVariants.{Immediate, Reg
 use Rattle.bpf_steps.specs.Regions.{run_at}
 use Rattle.bpf_steps.specs.State.{State, register}
 use Rattle.bpf_origin.specs.Places.{value}
-use Rattle.bpf_origin.specs.Texts.{part_name}
+use Rattle.bpf_origin.specs.Texts.{compared_text, part_name}
 use Rattle.bpf_origin.specs.declared.place.Part.{Part}
 use Rattle.bpf_origin.specs.declared.place.Part.TheVariants as part
 use Rattle.bpf_origin.specs.declared.place.Place.TheVariants as place
@@ -60,9 +60,13 @@ abbrev pub parts_in : Form → State → List Part → List ℕ
 parts_in form y [] = []
 parts_in form y (p ∷ ps) = part_in form y p ++ parts_behind form y ps
 
--- A register that a conditional jump compares, whole, and a second one, where it isn't a number.
-unfoldable pub compared_in : Form → State → ℕ → List ℕ
-compared_in form x r = part_lead form ++ codes "r" ++ decimal r ++ value_in form (register x r) ++ part_tail form
+-- A register that a conditional jump compares, as all lines of branches tell it, and a second one, where it isn't a number.
+unfoldable pub compared_object : State → ℕ → List ℕ
+compared_object x r = codes "{\"part\":\"r" ++ decimal r ++ codes "\",\"value\":\"" ++ hexadecimal (register x r) ++ codes "\"}"
+
+abbrev pub compared_in : Form → State → ℕ → List ℕ
+compared_in Text x r = compared_text x r
+compared_in Json x r = compared_object x r
 
 abbrev pub source_in : Form → State → Source → List ℕ
 source_in form x (Immediate imm) = []

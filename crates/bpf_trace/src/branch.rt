@@ -3,7 +3,8 @@ ghost use Rattle.std.specs.Prelude.{◌≡◌, ◌≤◌, ◌+◌, ◌==◌, ◌
 ghost use Rattle.bpf_entries.specs.Status.{has_ended};
 ghost use Rattle.bpf_steps.specs.Next.{next};
 ghost use Rattle.bpf_trace.specs.Branches.{is_branch as is_branch_of, way_text};
-ghost use Rattle.bpf_trace.specs.Forms.{compared_in, operands_in, source_in};
+ghost use Rattle.bpf_origin.specs.Texts.{compared_text};
+ghost use Rattle.bpf_trace.specs.Forms.{compared_in, compared_object, operands_in, source_in};
 ghost use Rattle.bpf_trace.specs.Objects.{step_lead, step_tail, way_member as way_member_of};
 ghost use Rattle.bpf_trace.specs.Rows.{branch_text};
 ghost use Rattle.bpf_cover.specs.Texts.{texts_of};
@@ -13,7 +14,7 @@ use crate::form::Form;
 use crate::head::{Head, put_head, put_long, put_object_head};
 use crate::line::Line;
 use crate::line_end::put_ended;
-use crate::parts::{add_comma, add_lead, add_tail, add_value};
+use crate::parts::add_comma;
 use crate::step::Row;
 use crate::taken::step_on;
 use bpf_cover::Texts;
@@ -137,17 +138,42 @@ fn add_operands(line: &mut Line, form: Form, cpu: &Cpu, insn: &Insn)
 }
 
 /// Adds a register that is compared.
-#[tactic(auto, unfolding(crate::specs::Forms::compared_in))]
 fn add_compared(line: &mut Line, form: Form, cpu: &Cpu, register: Reg)
     requires { length line.old ≤ 390 }
     ensures text { line.new ≡ line.old ++ compared_in form cpu.now register }
     ensures short { length line.new ≤ length line.old + 61 }
 {
-    add_lead(line, form);
-    line.add(b"r");
+    match form {
+        Form::Text => add_compared_text(line, cpu, register),
+        Form::Json => add_compared_object(line, cpu, register),
+    }
+}
+
+/// Adds it to a line of text.
+#[tactic(auto, unfolding(bpf_origin::specs::Texts::compared_text))]
+fn add_compared_text(line: &mut Line, cpu: &Cpu, register: Reg)
+    requires { length line.old ≤ 390 }
+    ensures text { line.new ≡ line.old ++ compared_text cpu.now register }
+    ensures short { length line.new ≤ length line.old + 61 }
+{
+    line.add(b"; r");
     line.add_decimal(u64::from(register.number()));
-    add_value(line, form, cpu.reg(register));
-    add_tail(line, form);
+    line.add(b" = ");
+    line.add_hexadecimal(cpu.reg(register));
+}
+
+/// Adds it as an object.
+#[tactic(auto, unfolding(crate::specs::Forms::compared_object))]
+fn add_compared_object(line: &mut Line, cpu: &Cpu, register: Reg)
+    requires { length line.old ≤ 390 }
+    ensures text { line.new ≡ line.old ++ compared_object cpu.now register }
+    ensures short { length line.new ≤ length line.old + 61 }
+{
+    line.add(b"{\"part\":\"r");
+    line.add_decimal(u64::from(register.number()));
+    line.add(b"\",\"value\":\"");
+    line.add_hexadecimal(cpu.reg(register));
+    line.add(b"\"}");
 }
 
 /// Adds the second operand, if it is a register.

@@ -14,7 +14,7 @@ use Rattle.bpf_journal.specs.Histories.{Record, is_step}
 use Rattle.bpf_origin.specs.Answers.{Answer, with_line}
 use Rattle.bpf_origin.specs.Asked.{answer_about}
 use Rattle.bpf_origin.specs.Reads.{conditions}
-use Rattle.bpf_origin.specs.Texts.{move_text, part_name, part_text, slot_text, value_text}
+use Rattle.bpf_origin.specs.Texts.{move_text, operands_text, part_name, slot_text, value_text}
 use Rattle.bpf_origin.specs.declared.place.Part.{Part}
 use Rattle.bpf_origin.specs.declared.question.Question.{Question}
 use Rattle.bpf_origin.specs.declared.question.Extent.TheVariants.{Whole}
@@ -61,12 +61,9 @@ went_text x move.Step y =
 went_text x (move.Edit e) y = edited_text y.pc
 
 -- The line of a move, so many moves back: which it was, the values that it compared, where it went, and what is told of its slot.
-unfoldable pub compared_text : State → Part → List ℕ
-compared_text x p = codes "; " ++ part_text x p
-
 abbrev pub lost_line : SlotTexts → ℕ → State → Move → State → List ℕ
 lost_line places k x m y =
-    codes "-" ++ decimal k ++ codes " " ++ move_text x m ++ flat_map (compared_text x) (conditions x m) ++ went_text x m y
+    codes "-" ++ decimal k ++ codes " " ++ move_text x m ++ operands_text x m ++ went_text x m y
     ++ slot_text places x m ++ codes "\n"
 
 -- Where those values came from, in the state before the move: where the machine stood, and the answer to that. Nothing where it compared none.

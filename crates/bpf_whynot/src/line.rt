@@ -1,5 +1,5 @@
 //! The line of the move after which a slot was out of reach.
-ghost use Rattle.std.specs.Prelude.{◌≡◌, ◌≤◌, ◌<◌, ◌+◌, ◌++◌, [], flat_map, length};
+ghost use Rattle.std.specs.Prelude.{◌≡◌, ◌≤◌, ◌<◌, ◌+◌, ◌++◌, [], length};
 ghost use Rattle.counted_io.specs.Writing.{WritesAfter};
 ghost use Rattle.bpf_journal.specs.Histories.{is_step as is_step_of};
 ghost use Rattle.bpf_steps.specs.State.{State};
@@ -12,7 +12,7 @@ ghost use Rattle.bpf_whynot.specs.Standings.{standing};
 use crate::standing::Standing;
 use bpf_isa::{Insn, Reg, Source};
 use bpf_machine::Cpu;
-use bpf_origin::{Part, Parts, put_move, put_part, put_slot, register_part};
+use bpf_origin::{Parts, put_move, put_operands, put_slot, register_part};
 use bpfdb_script::SlotTexts;
 use counted_io::{Counted, Piece, WriteFault, put, put_all, put_decimal};
 use std::io::Write;
@@ -75,38 +75,6 @@ fn add_source(cpu: &Cpu, source: Source, parts: &mut Parts)
         Source::Immediate(_) => {}
         Source::Register(register) => add_register(cpu, register, parts),
     }
-}
-
-/// Writes a value that a move compared.
-#[tactic(auto, unfolding(crate::specs::Answers::compared_text))]
-fn put_compared<W: Write>(
-    writer: &mut Counted<W>,
-    so_far: Result<(), WriteFault>,
-    cpu: &Cpu,
-    part: Part,
-) -> Result<(), WriteFault>
-    ensures { WritesAfter W.contents writer.old so_far writer.new result
-        (spec.compared_text cpu.now part) }
-{
-    let begun = put(writer, so_far, b"; ");
-    put_part(writer, begun, cpu, part)
-}
-
-/// Writes the values that a move compared.
-fn put_values<W: Write>(
-    writer: &mut Counted<W>,
-    so_far: Result<(), WriteFault>,
-    cpu: &Cpu,
-    parts: &[Part],
-) -> Result<(), WriteFault>
-    ensures { WritesAfter W.contents writer.old so_far writer.new result
-        (flat_map (spec.compared_text cpu.now) parts.now) }
-{
-    let mut told = so_far;
-    for part in parts {
-        told = put_compared(writer, told, cpu, *part);
-    }
-    told
 }
 
 /// Writes where a step went.
@@ -185,7 +153,7 @@ pub fn put_line<W: Write>(
     let counted = put_decimal(writer, begun, moves);
     let parted = put(writer, counted, b" ");
     let named = put_move(writer, parted, cpu, is_step);
-    let valued = put_values(writer, named, cpu, compared(cpu, is_step).as_slice());
+    let valued = put_operands(writer, named, cpu, is_step);
     let went = put_went(writer, valued, cpu, is_step, after);
     let told = put_slot(writer, went, places, cpu, is_step);
     put(writer, told, b"\n")

@@ -7,8 +7,7 @@ returns g c = λ m y step stood first front known.
     let counted = c.put_decimal-counted.ensures first _ begun in
     let parted = c.put-parted.ensures first _ counted in
     let named = c.put_move-named.ensures m step first _ parted in
-    let values = rw (c.as_slice.ensures.value, c.compared.ensures m step) at c.put_values-valued.ensures in
-    let valued = values first _ named in
+    let valued = c.put_operands-valued.ensures m step first _ named in
     let went = c.put_went-went.ensures m y step stood first _ valued in
     let told = c.put_slot-told.ensures m step first _ went in
     simp append_assoc (simp append_assoc at (c.put.ensures first _ told))

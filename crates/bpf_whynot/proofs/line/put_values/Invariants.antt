@@ -1,7 +1,0 @@
-use Rattle.std.proofs.Common.{drop, flat_map}
-use Rattle.bpfdb_script.proofs.Telling.{Telling}
-use Rattle.bpf_whynot.specs.Answers.{compared_text}
-use Rattle.bpf_whynot.proofs.line.put_values.Given as goal
-
-abbrev pub invariant-loop-part : goal.invariant-loop-part
-invariant-loop-part g l = Telling g.W.Write.contents l.fn.writer l.fn.so_far l.writer l.told (flat_map (compared_text l.cpu) (drop l.part-index l.parts)) (flat_map (compared_text l.cpu) l.parts)
