@@ -19,3 +19,4 @@ pub mod Enumerators
 pub mod NamedValues
 pub mod Values
 pub mod OwnSlots
+pub mod DebugInfos

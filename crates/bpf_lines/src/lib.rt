@@ -2,6 +2,7 @@
 //! places, and the names of what lies in its maps, from its symbols and BTF.
 #![tactic(auto)]
 
+mod debug_info;
 mod enumerators;
 mod functions;
 mod globals;
@@ -26,6 +27,7 @@ mod spot;
 mod table_row;
 mod values;
 
+pub use debug_info::{DebugInfo, put_no_place};
 pub use enumerators::Enumerator;
 pub use line_info::LineEntry;
 pub use listing::listing_slots;

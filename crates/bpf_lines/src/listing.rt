@@ -9,7 +9,7 @@ use bpf_text::{AsmFault, line_table};
 use std::alloc::{AllocError, Global};
 
 /// What is asked of the slots of a table by a text.
-fn listed_slots(alloc: Global, table: &[u8], what: &[u8]) -> Result<Vec<u8>, AllocError>
+pub(crate) fn listed_slots(alloc: Global, table: &[u8], what: &[u8]) -> Result<Vec<u8>, AllocError>
     ensures { IfOk result (λ slots. slots.items ≡ listed_slots table.now what.now) }
 {
     if asks_value(what) {
