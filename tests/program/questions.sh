@@ -46,7 +46,7 @@ for journal in 1024 2000 65536; do
             "$program" debug --questions --listing --journal "$journal" loop.s < script | sed "1,$(wc -l < lines)d" > found/out
             same "debug --questions --journal $journal, $script, origin $what" wanted/out found/out
         done
-        for what in 6 2,6 =300 7; do
+        for what in 6 2,6 =300 7 L nosuch loop.s:5; do
             { cat lines && echo "whynot $what"; } > script
             "$program" whynot --listing --journal "$journal" --script lines -- loop.s "$what" < /dev/null 2>&1 | sed '/^refused/!{1d}' > wanted/out
             "$program" debug --questions --listing --journal "$journal" loop.s < script | sed "1,$(wc -l < lines)d" > found/out
@@ -54,6 +54,19 @@ for journal in 1024 2000 65536; do
         done
     done
 done
+
+# Of an object also a function, a line of C, and a value by its name.
+has clang 'questions about places of an object' && {
+    cp "$parts/gdb/verdict.c" .
+    clang -g -O2 -target bpf -c verdict.c
+    printf '\7\2' > kind
+    for what in verdict verdict.c:7 verdict.c:9 verdict.c:8 other.c:7 =1 =2 =XDP_DROP XDP_DROP XDP_PASS XDP_NONE 8 '3,5'; do
+        printf 'continue\n' > lines
+        "$program" whynot -m kind --script lines -- verdict.o "$what" < /dev/null 2>&1 | sed '/^refused/!{1d}' > wanted/out
+        printf 'continue\nwhynot %s\n' "$what" | "$program" debug --questions -m kind verdict.o | sed 1d > found/out
+        same "debug --questions of an object: whynot $what" wanted/out found/out
+    done
+}
 
 # A session prints behind questions what it prints without them; as JSON the texts are the same, with the numbers of their lines.
 has python3 'rows of debug as JSON' && {

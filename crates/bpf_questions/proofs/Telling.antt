@@ -3,6 +3,7 @@ use Rattle.std.proofs.Common.{◌≡◌, ◌<◌, ◌-◌, ℕ, Bool, true, fals
 use Rattle.std.proofs.lemmas.Bool.{lt-ltb}
 use Rattle.bpf_entries.specs.Keeping.{Kept}
 use Rattle.bpf_journal.specs.Tracks.{Track}
+use Rattle.bpf_lines.specs.DebugInfos.{AsksSlots}
 use Rattle.bpf_remote.specs.Origins.{ComesBack, named_by}
 use Rattle.bpf_session.specs.Sessions.{HasPast, SessionValue}
 use Rattle.bpf_whynot.specs.Aims.{AimsAt}
@@ -16,7 +17,7 @@ use Rattle.bpfdb_script.specs.Commands.{Answer}
 use Rattle.bpfdb_script.specs.Limits.{longest_line}
 use Rattle.bpfdb_script.specs.Refusals.{refusal_text}
 use Rattle.bpfdb_script.specs.declared.refusal.Refusal.TheVariants.{LineTooLong}
-use Rattle.bpf_questions.specs.Conversations.{AnswersInquiry, AnswersWhynot, Hears, HearsAs, ObeysLine, Said, Stand, query_of, says}
+use Rattle.bpf_questions.specs.Conversations.{AnswersInquiry, AnswersSlots, AnswersWhynot, Hears, HearsAs, ObeysLine, Said, Stand, query_of, says}
 use Rattle.counted_io.specs.Counted.{Tally}
 use Rattle.bpf_questions.specs.Failures.{Counts}
 use Rattle.bpf_questions.specs.Hearing.{TellsLine, said_of}
@@ -67,13 +68,13 @@ module _ {K : Type 0} (holds : K → List Kept → Type 0) (refusals room : K �
   hears-inquiry (Err fault) old new topic words P asks is answers = tt
 
   -- why a slot was not come to
-  pub answers-whynot : {E : Type 0} (r : Result (Heard × Past) E) (old : Stand holds refusals room) (new : SessionValue K) (asked text : List ℕ) (aim : Aim) (left : ℕ)
+  pub answers-slots : {E : Type 0} (r : Result (Heard × Past) E) (old : Stand holds refusals room) (new : SessionValue K) (what asked text : List ℕ) (aim : Aim) (left : ℕ)
       → (aims : AimsAt holds old.0.moment.keeper old.0.moment.state asked aim) → ComesBack holds refusals room old.0 new left
       → ((t : Track) → HasPast holds old.0 t → text ≡ (why_not (told_by aim.reach) (query_of v old.1.moves aims.0 t old.0.moment.state) t.history old.0.moment.state).text)
       → IfOk r (λ heard. (said_of heard.0 ≡ says kind.Answer (named_by v.names text)) × (heard.1 ≡ record old.1 { moves = old.1.moves - left }))
-      → IfOk r (λ heard. AnswersWhynot holds refusals room v old (new, heard.1) (goals_in old.0.moment.state.program asked) (said_of heard.0))
-  answers-whynot (Ok heard) old new asked text aim left aims back texts (is, moves) =
-      subst (λ (goals : Result Goals GoalFault). AnswersWhynot holds refusals room v old (new, heard.1) goals (said_of heard.0)) (sym aims.1) (
+      → IfOk r (λ heard. AnswersSlots holds refusals room v old (new, heard.1) what (goals_in old.0.moment.state.program asked) (said_of heard.0))
+  answers-slots (Ok heard) old new what asked text aim left aims back texts (is, moves) =
+      subst (λ (goals : Result Goals GoalFault). AnswersSlots holds refusals room v old (new, heard.1) what goals (said_of heard.0)) (sym aims.1) (
         told_by aim.reach,
         (λ t past. (aims.2 t.history past.history).tells),
         record {
@@ -83,7 +84,15 @@ module _ {K : Type 0} (holds : K → List Kept → Type 0) (refusals room : K �
           tells = λ t past. is ∙ ap (λ (x : List ℕ). says kind.Answer (named_by v.names x)) (texts t past);
         },
       )
-  answers-whynot (Err fault) old new asked text aim left aims back texts is = tt
+  answers-slots (Err fault) old new what asked text aim left aims back texts is = tt
+
+  -- of the slots that a text asks about
+  pub answers-whynot : {E : Type 0} (r : Result (Heard × Past) E) (old : Stand holds refusals room) (new : SessionValue K) (text slots : List ℕ)
+      → AsksSlots v.info text slots
+      → IfOk r (λ heard. AnswersSlots holds refusals room v old (new, heard.1) text (goals_in old.0.moment.state.program slots) (said_of heard.0))
+      → IfOk r (λ heard. AnswersWhynot holds refusals room v old (new, heard.1) text (said_of heard.0))
+  answers-whynot (Ok heard) old new text slots asks answers = (slots, asks, answers)
+  answers-whynot (Err fault) old new text slots asks answers = tt
 
   -- what wasn't written
   pub tells-unwritten : {W : Type 0} (contents : W → Option (List ℕ)) (why : ConversationFault) (old : Stand holds refusals room) (new : SessionValue K)

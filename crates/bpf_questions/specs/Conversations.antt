@@ -2,6 +2,7 @@
 use Rattle.std.specs.Prelude.{◌≡◌, ◌==◌, ℕ, ◌+◌, ◌-◌, Bool, true, false, List, [], ◌∷◌, ◌++◌, ◌⊎◌, length, Option, Some, None, Result, Ok, Err}
 use Rattle.bpf_entries.specs.Keeping.{Kept}
 use Rattle.bpf_journal.specs.Tracks.{Track}
+use Rattle.bpf_lines.specs.DebugInfos.{AsksSlots}
 use Rattle.bpf_steps.specs.State.{State}
 use Rattle.bpf_origin.specs.Asked.{answer_about, parts_asked, what_in}
 use Rattle.bpf_origin.specs.declared.fault.WhatFault.{WhatFault}
@@ -9,7 +10,6 @@ use Rattle.bpf_origin.specs.declared.question.Question.{Question}
 use Rattle.bpf_origin.specs.declared.what.What.{What}
 use Rattle.bpf_remote.specs.Moves.{counted}
 use Rattle.bpf_remote.specs.Origins.{ComesBack, named_by, what_refusal}
-use Rattle.bpf_remote.specs.Whynots.{aim_refusal}
 use Rattle.bpf_session.specs.Meaning.{does}
 use Rattle.bpf_session.specs.Output.{is_quit}
 use Rattle.bpf_session.specs.Runs.{Exchange, Leaves, Wrote}
@@ -19,7 +19,6 @@ use Rattle.bpf_whynot.specs.Answers.{Query, why_not}
 use Rattle.bpf_whynot.specs.Asked.{Goals, goals_in}
 use Rattle.bpf_whynot.specs.Makings.{goals_left, made_last}
 use Rattle.bpf_whynot.specs.Reach.{TellsReach}
-use Rattle.bpf_whynot.specs.declared.fault.AimFault.TheVariants.{Goal}
 use Rattle.bpf_whynot.specs.declared.fault.GoalFault.{GoalFault}
 use Rattle.bpfdb_script.specs.Commands.{Answer, command_of}
 use Rattle.bpfdb_script.specs.Refusals.{refusal_text}
@@ -27,6 +26,7 @@ use Rattle.bpfdb_script.specs.declared.command.Command.{Command}
 use Rattle.bpfdb_script.specs.declared.refusal.Refusal.{Refusal}
 use Rattle.counted_io.specs.Lines.{lines}
 use Rattle.bpf_questions.specs.Inquiries.{asked_in, what_by}
+use Rattle.bpf_questions.specs.Refusals.{goal_refusal}
 use Rattle.bpf_questions.specs.Messages.{message_text}
 use Rattle.bpf_questions.specs.Strict.{ahead, answer_text, behind, bounded, past_after, there}
 use Rattle.bpf_questions.specs.declared.fault.ConversationFault.{ConversationFault}
@@ -124,15 +124,20 @@ module _ {K : Type 0} (holds : K → List Kept → Type 0) (refusals room : K �
   AnswersOrigin v old new (Err fault) said = Refuses old new (what_refusal fault) said
   AnswersOrigin v old new (Ok what) said = Answers old new (λ t. origin_text v old.1.moves what t old.0.moment.state) said
 
-  abbrev pub AnswersWhynot : View → Stand → Stand → Result Goals GoalFault → Said → Type 0
-  AnswersWhynot v old new (Err fault) said = Refuses old new (aim_refusal (Goal fault)) said
-  AnswersWhynot v old new (Ok goals) said = (can : ℕ → List ℕ → Bool)
+  -- About the slots that a text names, or why it names none.
+  abbrev pub AnswersSlots : View → Stand → Stand → List ℕ → Result Goals GoalFault → Said → Type 0
+  AnswersSlots v old new text (Err fault) said = Refuses old new (goal_refusal fault text) said
+  AnswersSlots v old new text (Ok goals) said = (can : ℕ → List ℕ → Bool)
       × ((t : Track) → HasPast holds old.0 t → TellsReach old.0.moment.state.program (goals_left goals t.history) can)
       × Answers old new (λ t. whynot_text v old.1.moves can goals t old.0.moment.state) said
 
+  abbrev pub AnswersWhynot : View → Stand → Stand → List ℕ → Said → Type 0
+  AnswersWhynot v old new text said = (slots : List ℕ) × AsksSlots v.info text slots
+      × AnswersSlots v old new text (goals_in old.0.moment.state.program slots) said
+
   abbrev pub AnswersAbout : View → Stand → Stand → Topic → List ℕ → Said → Type 0
   AnswersAbout v old new topic.Origin text said = AnswersOrigin v old new (what_asked old.0.moment.state text) said
-  AnswersAbout v old new topic.Whynot text said = AnswersWhynot v old new (goals_in old.0.moment.state.program text) said
+  AnswersAbout v old new topic.Whynot text said = AnswersWhynot v old new text said
 
   abbrev pub AnswersInquiry : View → Stand → Stand → Topic → Result (List ℕ) Refusal → Said → Type 0
   AnswersInquiry v old new topic (Err refusal) said = Refuses old new (refusal_text refusal) said

@@ -1,4 +1,5 @@
 pub mod Inquiries
+pub mod Refusals
 pub mod Messages
 pub mod Strict
 pub mod Conversations

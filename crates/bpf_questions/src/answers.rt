@@ -7,6 +7,8 @@ ghost use Rattle.bpf_session.specs.Sessions.{HasPast};
 ghost use Rattle.bpf_whynot.specs.Aims.{AimsAt, IsNoAim};
 ghost use Rattle.bpf_whynot.specs.Answers.{why_not};
 ghost use Rattle.bpf_whynot.specs.Asked.{goals_in};
+ghost use Rattle.bpf_lines.specs.DebugInfos.{AreWhole, no_place_line};
+ghost use Rattle.bpf_questions.specs.Refusals.{goal_refusal, lacks_place};
 ghost use Rattle.bpf_whynot.specs.Tables.{told_by};
 ghost use Rattle.bpfdb_script.specs.Lines.{tokens};
 ghost use Rattle.bpf_questions.specs.Conversations as spec;
@@ -20,11 +22,11 @@ use crate::obeying::{Heard, refused};
 use crate::stop::Past;
 use crate::view::View;
 use bpf_journal::Keeper;
-use bpf_lines::{Names, put_named};
+use bpf_lines::{Names, is_place, put_named, put_no_place};
 use bpf_machine::Cpu;
 use bpf_origin::{Question, Wanted, What, WhatFault, look_back, parts_asked};
 use bpf_session::Session;
-use bpf_whynot::{Aim, AimFault, Search, look_why};
+use bpf_whynot::{Aim, AimFault, GoalFault, Search, look_why};
 use counted_io::{Counted, Piece, WriteFault, put_all};
 use std::alloc::{AllocError, Global};
 
@@ -219,7 +221,65 @@ fn answer_origin<K: Keeper>(
     }
 }
 
-/// Answers why the program did not come to the slots that a text names.
+/// Whether a text names a place that has no slot.
+fn lacks_place(fault: GoalFault, text: &[u8]) -> bool
+    ensures { result ≡ lacks_place fault text.now }
+{
+    match fault {
+        GoalFault::NoSlot => is_place(text),
+        _ => false,
+    }
+}
+
+/// That no slot has the place of a name.
+fn refused_place(alloc: Global, name: &[u8]) -> Result<Heard, AllocError>
+    ensures { IfOk result (λ heard. said_of heard ≡ spec.says the_kind.Refused (no_place_line name.now)) }
+{
+    let mut writer = Counted::new(Vec::new(alloc));
+    match put_no_place(&mut writer, Ok(()), name) {
+        Ok(()) => Ok(Heard::Says(Message {
+            kind: Kind::Refused,
+            text: writer.into_inner(),
+        })),
+        Err(WriteFault) => Err(AllocError),
+    }
+}
+
+/// That the slots that a text asks about are refused.
+fn refused_slots(alloc: Global, fault: GoalFault, text: &[u8]) -> Result<Heard, AllocError>
+    ensures { IfOk result (λ heard. said_of heard ≡ spec.says the_kind.Refused (goal_refusal fault text.now)) }
+{
+    if lacks_place(fault, text) {
+        refused_place(alloc, text)
+    } else {
+        refused_question(alloc, fault.number(), fault.text())
+    }
+}
+
+/// Answers why the program did not come to the slots that a text names, which asked about them as `text`.
+fn answer_slots<K: Keeper>(
+    alloc: Global,
+    view: &View<'_>,
+    wanted: &mut Wanted,
+    session: &mut Session<K>,
+    past: Past,
+    text: &[u8],
+    slots: &[u8],
+) -> Result<(Heard, Past), AllocError>
+    ensures { IfOk result (λ heard. spec.AnswersSlots K.holds K.refused K.room view.now (session.old, past)
+        (session.new, heard.1) text.now (goals_in session.old.moment.state.program slots.now) (said_of heard.0)) }
+{
+    match aim_at(alloc, session, slots) {
+        Ok(aim) => {
+            let found = whynot_found(alloc, view, wanted, session, past.moves, &aim)?;
+            said(alloc, view, found, past)
+        }
+        Err(AimFault::Goal(fault)) => Ok((refused_slots(alloc, fault, text)?, past)),
+        Err(AimFault::OutOfMemory) => Err(AllocError),
+    }
+}
+
+/// Answers why the program did not come to the slots that a text asks about.
 fn answer_whynot<K: Keeper>(
     alloc: Global,
     view: &View<'_>,
@@ -228,20 +288,14 @@ fn answer_whynot<K: Keeper>(
     past: Past,
     text: &[u8],
 ) -> Result<(Heard, Past), AllocError>
+    requires { AreWhole view.now.info }
     ensures { IfOk result (λ heard. spec.AnswersWhynot K.holds K.refused K.room view.now (session.old, past)
-        (session.new, heard.1) (goals_in session.old.moment.state.program text.now) (said_of heard.0)) }
+        (session.new, heard.1) text.now (said_of heard.0)) }
 {
-    match aim_at(alloc, session, text) {
-        Ok(aim) => {
-            let found = whynot_found(alloc, view, wanted, session, past.moves, &aim)?;
-            said(alloc, view, found, past)
-        }
-        Err(AimFault::Goal(fault)) => Ok((
-            refused_question(alloc, fault.number(), fault.text())?,
-            past,
-        )),
-        Err(AimFault::OutOfMemory) => Err(AllocError),
-    }
+    let Ok(slots) = view.info.slots(alloc, text) else {
+        return Err(AllocError);
+    };
+    answer_slots(alloc, view, wanted, session, past, text, slots.as_slice())
 }
 
 /// Answers a question to a session, before whose state this lies. Says what lies before it then.
@@ -253,6 +307,7 @@ pub(crate) fn answer<K: Keeper>(
     past: Past,
     inquiry: Inquiry<'_>,
 ) -> Result<(Heard, Past), AllocError>
+    requires { AreWhole view.now.info }
     ensures { IfOk result (λ heard. spec.AnswersInquiry K.holds K.refused K.room view.now (session.old, past)
         (session.new, heard.1) inquiry.entry.topic (what_by (tokens inquiry.entry.words.now)) (said_of heard.0)) }
 {

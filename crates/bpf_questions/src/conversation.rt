@@ -1,5 +1,6 @@
 //! Scripts that are answered line by line.
 ghost use Rattle.std.specs.Prelude.{◌≡◌, ◌+◌, ℕ, IfErr, IfOk, List, OnOk, Some};
+ghost use Rattle.bpf_lines.specs.DebugInfos.{AreWhole};
 ghost use Rattle.bpf_remote.specs.Moves.{counted};
 ghost use Rattle.bpfdb_script.specs.ReadLines.{Holds};
 ghost use Rattle.bpf_questions.specs.Conversations.{AnswersAll, BreaksOff, Hears};
@@ -39,6 +40,7 @@ fn hear<K: Keeper>(
     past: Past,
     line: &LineBuffer,
 ) -> Result<(Heard, Past), AllocError>
+    requires { AreWhole view.now.info }
     ensures { IfOk result (λ heard. (text : List ℕ) → Holds line.now text →
         Hears K.holds K.refused K.room view.now (session.old, past) (session.new, heard.1) text (said_of heard.0)) }
 {
@@ -65,6 +67,7 @@ fn tell_line<K: Keeper, W: Write>(
     line: &LineBuffer,
     writer: &mut Counted<W>,
 ) -> Result<Option<Past>, ConversationFault>
+    requires { AreWhole view.now.info }
     ensures tells { (text : List ℕ) → Holds line.now text →
         TellsLine K.holds K.refused K.room W.contents view.now (session.old, progress.past) session.new
         (counted (progress.lines + 1)) text (writer.old, writer.new) result }
@@ -102,6 +105,7 @@ pub fn converse<K: Keeper, R: Read, W: Write>(
     reader: &mut Counted<R>,
     writer: &mut Counted<W>,
 ) -> Result<(), ConversationFault>
+    requires info { AreWhole view.now.info }
     ensures value { OnOk result ((script told : List ℕ) →
         R.remaining reader.old.inner ≡ Some script → W.contents writer.old.inner ≡ Some told →
         AnswersAll K.holds K.refused K.room view.now session.old session.new (record {

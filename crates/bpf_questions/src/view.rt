@@ -2,7 +2,7 @@
 
 use crate::message::Form;
 use crate::stop::Stop;
-use bpf_lines::Names;
+use bpf_lines::{DebugInfo, Names};
 use bpfdb_script::SlotTexts;
 
 /// What a session is asked with.
@@ -16,6 +16,8 @@ pub struct View<'a> {
     pub lines: u64,
     /// The names of the places in maps that an answer tells, where they are known.
     pub names: Option<&'a Names<'a>>,
+    /// What names the places that `whynot` is asked about.
+    pub info: DebugInfo<'a>,
     /// Where each slot stands in C, where that is known: it ends the lines of moves.
     pub places: SlotTexts<'a>,
     /// Whether the session is strict: behind no edit its forward commands stop at `stop`.

@@ -21,6 +21,7 @@ use Rattle.bpfdb_faults.specs.declared.fault.JobFault.TheVariants.{Unreadable, U
 use Rattle.bpfdb_faults.specs.declared.kind.KindFault.{KindFault}
 use Rattle.bpfdb_faults.specs.declared.kind.KindFault.TheVariants as kind
 use Rattle.bpfdb_faults.specs.declared.refusal.JobRefusal.{JobRefusal}
+use Rattle.bpf_lines.specs.DebugInfos.{no_place_line}
 use Rattle.bpfdb_faults.specs.declared.refusal.JobRefusal.TheVariants.{Kind, Maps, Listing, Load, Opening, Open, OtherRun, OtherObject, OtherMap, TraceLine, Journal, What, Object, Functions, Tests, NoTest, ManyTests, Script, Goal, NoPlace}
 
 -- The line of a refusal: a letter and a number, its line if it has one, and a text.
@@ -106,10 +107,6 @@ object_text fault name =
 -- A name that no test has.
 abbrev pub no_test_line : List ℕ → List ℕ
 no_test_line name = codes "refused T7: no test of this name" ++ name_text name ++ codes "\n"
-
--- A place that a program doesn't have.
-abbrev pub no_place_line : List ℕ → List ℕ
-no_place_line name = codes "refused V5: no such place" ++ name_text name ++ codes "\n"
 
 -- The line of a refusal that a session looks at.
 abbrev pub session_line : JobRefusal → List ℕ

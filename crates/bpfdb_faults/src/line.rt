@@ -7,6 +7,7 @@ ghost use Rattle.bpfdb_faults.specs.Faults.{answer_text, file_line, helpers_text
 
 use crate::fault::JobFault;
 use crate::refusal::JobRefusal;
+use bpf_lines::put_no_place;
 use bpf_link::{LinkFault, Source, helper_name};
 use bpf_suite::{Refusal, put_numbered, slot_of};
 use bpfdb_script::put_shown;
@@ -78,12 +79,7 @@ fn put_refusal<E: Write>(
             let (number, text) = (fault.number(), fault.text());
             put_refused(errors, so_far, b"refused V", number, None, text)
         }
-        JobRefusal::NoPlace(name) => put_no_such(
-            errors,
-            so_far,
-            b"refused V5: no such place",
-            name,
-        ),
+        JobRefusal::NoPlace(name) => put_no_place(errors, so_far, name.as_bytes()),
         JobRefusal::Object(fault, name) => put_object(errors, so_far, fault, name, b"\n"),
         JobRefusal::Functions(fault, before, name) => {
             put_functions(errors, so_far, fault, *before, name)

@@ -19,7 +19,8 @@ use Rattle.bpf_load.specs.declared.loading.LinkedObject.{LinkedObject}
 use Rattle.bpfdb_jobs.specs.Jobs.{AreAsked, AsksGoals, IsKnown, Prints, asked_of, named_print, section_of}
 use Rattle.bpfdb_jobs.specs.Openings.{HasArrived}
 use Rattle.bpfdb_jobs.specs.Origins.{AreNamesOf, RefusesNames}
-use Rattle.bpfdb_jobs.specs.Refusals.{RefusesAs, RefusesWhynot, lacks_place}
+use Rattle.bpf_questions.specs.Refusals.{lacks_place}
+use Rattle.bpfdb_jobs.specs.Refusals.{RefusesAs, RefusesWhynot}
 use Rattle.bpfdb_jobs.specs.Whynots.{IsRefusalOf, RefusesGoals}
 use Rattle.bpfdb_jobs.specs.declared.job.Job.{Job}
 use Rattle.bpfdb_jobs.specs.declared.known.Known.{Known}

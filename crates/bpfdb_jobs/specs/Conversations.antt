@@ -24,6 +24,7 @@ use Rattle.bpfdb_faults.specs.declared.fault.JobFault.TheVariants as fault
 use Rattle.bpfdb_faults.specs.declared.refusal.JobRefusal.{JobRefusal}
 use Rattle.bpfdb_jobs.specs.Connections.{Begins, KnowsNames, ring_refusals}
 use Rattle.bpfdb_jobs.specs.Jobs.{AreTold, HasOwn, HasRoom, initial_of, unwritten_in}
+use Rattle.bpfdb_jobs.specs.Namings.{NamesPlaces}
 use Rattle.bpfdb_jobs.specs.Refusals.{Refuses}
 use Rattle.bpfdb_jobs.specs.Scripts.{Exchanges}
 use Rattle.bpfdb_jobs.specs.Streams.{Outputs}
@@ -55,6 +56,7 @@ pub record IsView (ask : ConversationAsk) (job : Job) (loaded : Loaded) (v : Vie
   pub form : v.form ≡ form_of ask.is_json
   pub lines : v.lines ≡ 1000
   pub names : KnowsNames job loaded.object (option_map (λ n. n.now) v.names)
+  pub info : NamesPlaces job loaded.object v.info
   pub places : AreTold job loaded.object v.places
   pub strict : v.is_strict ≡ ask.is_strict
   pub stop : Stops ask.is_strict job loaded v.places v.stop

@@ -5,6 +5,7 @@ pub mod Done
 pub mod Endings
 pub mod Hints
 pub mod Jobs
+pub mod Namings
 pub mod Programs
 pub mod Looks
 pub mod MapLines

@@ -1,6 +1,7 @@
 -- Why a job is refused, in this order: its program, and the lines of that; its context, its journal; its script, what it asks about; or its tests.
 use Rattle.std.specs.Prelude.{◌≡◌, ◌≤◌, ◌⊎◌, List, [], ℕ, Option, Some, None, Ok, Err, Bool, true, false, codes, is_some, length}
 use Rattle.std.specs.Borrow.{Bor}
+use Rattle.bpf_questions.specs.Refusals.{lacks_place}
 use Rattle.bpf_text.specs.Listing.{IsFaultOf}
 use Rattle.bpf_link.specs.Names.{fault_names}
 use Rattle.bpf_lines.specs.Objects.{IsProgramLinesFault}
@@ -76,11 +77,6 @@ RefusesOrigin origin job (What fault) = (loaded : Loaded) × (at : Arrival) × O
 RefusesOrigin origin job (Object fault name) = (loaded : Loaded) × (at : Arrival) × (what : Option Asked) × OpensSession job loaded
     × (arrival_of job loaded ≡ Ok at) × Asks origin.what at.point.state what × RefusesNames loaded.object (section_of job) fault name.now
 RefusesOrigin origin job refusal = RefusesArrival job refusal
-
--- (A place that has no slot is refused by its name.)
-abbrev pub lacks_place : GoalFault → List ℕ → Bool
-lacks_place NoSlot what = is_place what
-lacks_place fault what = false
 
 abbrev pub RefusesGoal : WhynotAsk → Job → GoalFault → Bool → Type 0
 RefusesGoal why job fault lacks = (loaded : Loaded) × (known : Known) × (at : Arrival) × OpensSession job loaded × IsKnown job loaded.object known

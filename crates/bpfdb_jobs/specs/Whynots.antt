@@ -13,7 +13,7 @@ use Rattle.bpf_whynot.specs.declared.fault.GoalFault.TheVariants.{NoSlot}
 use Rattle.bpfdb_faults.specs.declared.refusal.JobRefusal.{JobRefusal}
 use Rattle.bpfdb_faults.specs.declared.refusal.JobRefusal.TheVariants.{Goal, Journal, Listing, NoPlace}
 use Rattle.bpfdb_jobs.specs.Jobs.{AreAsked, AsksGoals, asked_of, is_listing}
-use Rattle.bpfdb_jobs.specs.Refusals.{lacks_place}
+use Rattle.bpf_questions.specs.Refusals.{lacks_place}
 use Rattle.bpfdb_jobs.specs.declared.job.Job.{Job}
 use Rattle.bpfdb_jobs.specs.declared.known.Known.{Known}
 use Rattle.bpfdb_options.specs.declared.ask.WhynotAsk.{WhynotAsk}

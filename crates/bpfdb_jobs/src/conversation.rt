@@ -9,6 +9,7 @@ ghost use Rattle.bpfdb_limits.specs.Limits.{IsLimit};
 use crate::gdb::known_names;
 use crate::job::Job;
 use crate::known::Known;
+use crate::naming::naming_of;
 use crate::opening::{session_over, wanted_of};
 use crate::streams::Streams;
 use crate::strict::{Strict, stop_line, stop_of, strict_machine};
@@ -64,11 +65,16 @@ pub fn conversation_job<R: Read, W: Write, E: Write>(
     };
     let source = object.as_ref();
     let names = known_names(alloc, job, source);
+    let naming = match naming_of(alloc, job, source) {
+        Ok(naming) => naming,
+        Err(refusal) => return give_up(&mut streams.errors, &JobFault::Refused(refusal)),
+    };
     let view = View {
         asks: ask.asks,
         form: form_of(ask.is_json),
         lines: DEFAULT_LINES,
         names: names.as_ref(),
+        info: naming.info(job),
         places: known.places,
         is_strict: ask.is_strict,
         stop: stop_of(unwritten, line.as_slice()),

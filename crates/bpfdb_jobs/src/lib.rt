@@ -20,6 +20,7 @@ mod listing;
 mod load;
 mod look;
 mod maps;
+mod naming;
 mod object;
 mod object_lines;
 mod opening;

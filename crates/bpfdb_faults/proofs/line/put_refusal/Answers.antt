@@ -7,10 +7,11 @@ pub returns-in-Functions : goal.returns-in-Functions
 returns-in-Functions g c = rw c.in-Functions.is c.put_functions.ensures
 
 pub returns-in-NoTest : goal.returns-in-NoTest
-returns-in-NoTest g c = rw c.in-NoTest.is c.put_no_such-in-NoTest.ensures
+returns-in-NoTest g c = rw c.in-NoTest.is c.put_no_such.ensures
 
 pub returns-in-NoPlace : goal.returns-in-NoPlace
-returns-in-NoPlace g c = rw c.in-NoPlace.is c.put_no_such.ensures
+returns-in-NoPlace g c = λ first front known.
+    rw c.in-NoPlace.is (rw c.as_bytes.ensures.value at (c.put_no_place.ensures first front known))
 
 pub returns-in-Tests : goal.returns-in-Tests
 returns-in-Tests g c = λ first front known.

@@ -67,6 +67,14 @@ returns-in-Err-wanted_of-clause-does g c =
     (rw (session-refused c.args.job.now c.in-Err-wanted_of.refusal refused) at c.give_up-in-Err-wanted_of.ensures.told)
     c.give_up-in-Err-wanted_of.ensures.value
 
+pub returns-in-Err-naming_of-clause-does : goal.returns-in-Err-naming_of-clause-does
+returns-in-Err-naming_of-clause-does g c =
+    let o = c.in-Ok-session_over.ensures.ok c.args.loaded.program c.in-Ok.ensures.ok.0 in
+    let refused = no-places c.args.job.now c.in-Err-naming_of.refusal o.room.short o.room.sized c.in-Err-naming_of.ensures.err in
+    Refused c.in-Err-naming_of.refusal refused refl refl
+    (rw (session-refused c.args.job.now c.in-Err-naming_of.refusal refused) at c.give_up-in-Err-naming_of.ensures.told)
+    c.give_up-in-Err-naming_of.ensures.value
+
 pub returns-clause-does : goal.returns-clause-does
 returns-clause-does g c =
     let opens = c.in-Ok.ensures.ok in
@@ -84,6 +92,7 @@ returns-clause-does g c =
       form = c.form_of.result;
       lines = 1000;
       names = c.as_ref.result;
+      info = c.info.result;
       places = places;
       is_strict = strict;
       stop = c.stop_of.result;
@@ -93,6 +102,7 @@ returns-clause-does g c =
       form = c.form_of.ensures;
       lines = refl;
       names = rw (c.as_ref-source.ensures.value, sym c.as_ref.ensures.value) at c.known_names-names.ensures;
+      info = c.info.ensures.named loaded.object (rw c.as_ref-source.ensures.value at c.in-Ok-naming_of.ensures.ok);
       places = c.requires.known.places;
       strict = refl;
       stop = record {
