@@ -111,11 +111,11 @@ class OwnNames:
         return [f'{address:#x}:{size}']
 
     def origin(self, words):
-        """The lines of `origin`, without the first, which says where the machine is."""
+        """The lines of `origin`."""
         return unless_refused(self.machine.program.origin(self.asked(words))[1])
 
     def whynot(self, slots):
-        """The lines of `whynot`, without the first, which says where the machine is."""
+        """The lines of `whynot`."""
         return unless_refused(self.machine.program.asked('whynot', [slots])[1])
 
     def known(self):
@@ -154,7 +154,7 @@ class Gdb:
         os.close(asked[0])
         os.close(answered[1])
         self.to, self.of = os.fdopen(asked[1], 'w', encoding='utf-8'), os.fdopen(answered[0], encoding='utf-8', errors='replace')
-        self.moves, self.lines = 0, []
+        self.moves = 0
 
     def call(self, name, *words):
         """What a function of in_gdb.py answers; an error of gdb's in its own words."""

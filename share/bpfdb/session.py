@@ -10,10 +10,6 @@ from bpfdb.texts import in_memory, path_of
 
 # The bytes that a journal may have. (docs/JOURNAL.md)
 LARGEST_JOURNAL = 16777216
-# Commands of bpfdb that change nothing, and questions.
-SHOWS = ('info', 'x', 'disas', 'last-write', 'origin', 'whynot')
-# What a session is asked about of `whynot`: slots, or the value that they make.
-ASKED = re.compile(r'[0-9]+(,[0-9]+)*|=[0-9a-fx]+(,[0-9]*){0,2}')
 # mov r0, 42; exit: the program where none is named.
 BUILT_IN = bytes.fromhex('b70000002a000000' '9500000000000000')
 # The mnemonics of instructions that take two slots.
@@ -35,8 +31,8 @@ class Program:
     """bpfdb, to which lines are sent and whose replies are read, each a line of JSON."""
 
     def __init__(self, subject):
-        # how many moves lie before the state and the most that did, and the lines that led there
-        self.subject, self.moves, self.most, self.lines = subject, 0, 0, []
+        # how many moves lie before the state and the most that did
+        self.subject, self.moves, self.most = subject, 0, 0
         # (a file, since nothing reads it before the end; and a group of its own: an interrupt doesn't end it)
         self.errors = in_memory()
         words, kept = ['debug', '--questions', '--json'], subject.kept
@@ -71,7 +67,7 @@ class Program:
         return json.loads(text)['text'].split('\n')[:-1]
 
     def count(self, line, reply):
-        """Counts the moves of a line by its reply, and keeps the line if it was obeyed and does more than to show something."""
+        """Counts the moves of a line by its reply."""
         words, move = line.split(), MOVE.match(reply[0]) if reply else None
         # (behind an edit of a strict session there is a line more)
         if words[:1] == ['set'] and reply[:1] == ['ok']:
@@ -79,9 +75,6 @@ class Program:
         elif move:
             self.moves += -int(move[1]) if move[2] == 'back' else int(move[1])
         self.most = max(self.most, self.moves)
-        if reply and not reply[0].startswith('refused ') and words[0] not in SHOWS:
-            # (another session than a strict one doesn't stop there by itself)
-            self.lines.append(f'stepi {move[1]}' if move and move[3] == 'strict' else line)
 
     def dropped(self):
         """Says how many moves the journal dropped, and how many the largest would keep of such moves; empty if it dropped none."""
@@ -102,18 +95,8 @@ class Program:
         return self.asked('origin', what)
 
     def asked(self, of, what):
-        """What the session answers, and the words for it. A place of C or of a listing is known to a subcommand alone: it is asked of the session of
-        these lines, over a journal of the same size."""
-        subject = self.subject
-        if of == 'origin' or all(ASKED.fullmatch(word) for word in what):
-            return [of, *what], self.ask(' '.join([of, *what]))
-        if subject.path is None:
-            raise Hint('the program that is built in has no file')
-        journal = [] if subject.words.has('--journal') else ['--journal', self.ask('info history')[0].split()[-2]]
-        line = [*subject.line(of, *journal, '--script', '/dev/stdin'), *what]
-        done = subprocess.run(line, input=''.join(line + '\n' for line in self.lines), capture_output=True, text=True,
-                              pass_fds=[file.fileno() for file in subject.kept], encoding='utf-8', errors='surrogateescape')
-        return ['bpfdb', *line[1:]], done.stdout.splitlines()[1:] if done.stdout else done.stderr.splitlines()
+        """What the session answers, and the words for it."""
+        return [of, *what], self.ask(' '.join([of, *what]))
 
     def end(self):
         """The exit status and what went to standard error, after the end of its input. (It has no prompt there: what comes is a line, or
