@@ -25,6 +25,7 @@ step_shapes =
     ∷ shape (codes "move") (codes "-") (count (codes "moves") (codes " ") ∷ []) Moves
     ∷ shape (codes "kept") (codes "kept: -") (count (codes "moves") (codes " ") ∷ []) Moves
     ∷ shape (codes "made") (codes "made: -") (count (codes "moves") (codes " ") ∷ []) Moves
+    ∷ shape (codes "overwritten") (codes "overwritten: -") (count (codes "moves") (codes " ") ∷ []) Moves
     ∷ shape (codes "left") (codes "left ") [] Moves
     ∷ []
 

@@ -101,7 +101,7 @@ const VALUE: [Shape; 2] = [
 ];
 
 /// What `trace`, `origin`, `whynot` and `diff` print.
-const RUN: [Shape; 25] = [
+const RUN: [Shape; 26] = [
     Shape {
         kind: b"step",
         begin: b"",
@@ -137,6 +137,12 @@ const RUN: [Shape; 25] = [
     Shape {
         kind: b"made",
         begin: b"made: -",
+        fields: &[Field::Count(b"moves", b" ")],
+        rest: Rest::Moves,
+    },
+    Shape {
+        kind: b"overwritten",
+        begin: b"overwritten: -",
         fields: &[Field::Count(b"moves", b" ")],
         rest: Rest::Moves,
     },
