@@ -19,7 +19,7 @@ use Rattle.bpfdb_script.specs.Texts.{place}
 use Rattle.bpf_origin.specs.declared.question.Told.{Told}
 use Rattle.bpf_origin.specs.declared.question.Extent.TheVariants.{Whole}
 use Rattle.bpf_origin.proofs.Backs.{back_on, keeps_on}
-use Rattle.bpf_whynot.specs.Answers.{Query, because, edited_text, is_none, left_after, left_by, lost_line, never_text, only, reached_text, still_text, stood_at, went_text, not_come}
+use Rattle.bpf_whynot.specs.Answers.{Query, because, edited_text, is_none, left_after, left_by, lost_line, never_text, only, reached_text, reaches, still_text, stood_at, went_text, not_come}
 use Rattle.bpf_whynot.specs.Reach.{can_from}
 use Rattle.bpf_whynot.specs.Standings.{standing}
 use Rattle.bpf_whynot.specs.Turns.{IsLeft, IsNeverLeft}
@@ -63,10 +63,10 @@ left_is s k r h x y e at =
     ∙ ap (λ (z : State). with_line (lost_line s.question.places k z r.move y) (because s r h)) (sym at)
 
 pub still_is : (can : ℕ → List ℕ → Bool) (s : Query) (h : List Record) (y : State) → can_from can y ≡ true → not_come can s h y ≡ only still_text
-still_is can s h y e = ap (λ (b : Bool). if b then only still_text else left_after can s 0 h y) e
+still_is can s h y e = ap (λ (b : Bool). if b then only still_text else left_after (reaches can) s 0 h y) e
 
-pub lost_is : (can : ℕ → List ℕ → Bool) (s : Query) (h : List Record) (y : State) → can_from can y ≡ false → not_come can s h y ≡ left_after can s 0 h y
-lost_is can s h y e = ap (λ (b : Bool). if b then only still_text else left_after can s 0 h y) e
+pub lost_is : (can : ℕ → List ℕ → Bool) (s : Query) (h : List Record) (y : State) → can_from can y ≡ false → not_come can s h y ≡ left_after (reaches can) s 0 h y
+lost_is can s h y e = ap (λ (b : Bool). if b then only still_text else left_after (reaches can) s 0 h y) e
 
 module _ {P W : Type 0} (state : P → State) (follows : P → Track → Type 0) (size refusals : P → ℕ) (contents : W → Option (List ℕ)) where
   -- a text that is the whole answer, and nothing was taken back for it
@@ -98,26 +98,38 @@ module _ {P W : Type 0} (state : P → State) (follows : P → Track → Type 0)
     keeper = rest.keeper;
   }
 
+  -- the same answer, said otherwise
+  pub told_same : (answers others : Track → Answer) (p new : P) (was now : Tally W) (before : Result (Unit {0}) WriteFault) (told : Told)
+      → TellsOrigin (past_by state follows size refusals) others p new (WritesAfter contents was before now) told
+      → ((t : Track) → follows p t → answers t ≡ others t) → TellsOrigin (past_by state follows size refusals) answers p new (WritesAfter contents was before now) told
+  told_same answers others p new was now before told rest all = record {
+    text = λ t stands. subst (λ (a : Answer). WritesAfter contents was before now told.written a.text) (sym (all t stands)) (rest.text t stands);
+    extent = λ t stands. rest.extent t stands ∙ sym (ap (λ (a : Answer). a.extent) (all t stands));
+    back = rest.back;
+    within = rest.within;
+    keeper = rest.keeper;
+  }
+
   -- the moves up to the one that was found, and then those that its answer took back
-  pub told_left : (can : ℕ → List ℕ → Bool) (s : Query) (p mid new : P) (was now : Tally W) (before : Result (Unit {0}) WriteFault) (kept m : ℕ) (left : Left) (told : Told)
-      → can_from can (state p) ≡ false → ((t : Track) → follows p t → kept ≡ length t.history) → kept < 2 ^ 64
-      → ((t : Track) → follows p t → IsLeft state follows can t (state p) mid left) → IsSameKeeper size refusals p mid
+  pub told_left : (test : ℕ → State → Bool) (s : Query) (p mid new : P) (was now : Tally W) (before : Result (Unit {0}) WriteFault) (kept m : ℕ) (left : Left) (told : Told)
+      → ((t : Track) → follows p t → kept ≡ length t.history) → kept < 2 ^ 64
+      → ((t : Track) → follows p t → IsLeft state follows test t (state p) mid left) → IsSameKeeper size refusals p mid
       → ((r : Record) (y : State) → state mid ≡ r.before → left.is_step ≡ is_step r.move → left.after ≡ standing y
       → TellsOrigin (past_by state follows size refusals) (λ (u : Track). left_by s left.moves r u.history y) mid new (WritesAfter contents was before now) told)
       → IsSameKeeper size refusals mid new
       → (left.moves + told.moves < 2 ^ 64 → m ≡ left.moves + told.moves)
-      → TellsOrigin (past_by state follows size refusals) (λ (t : Track). not_come can s t.history (state p)) p new (WritesAfter contents was before now)
+      → TellsOrigin (past_by state follows size refusals) (λ (t : Track). left_after test s 0 t.history (state p)) p new (WritesAfter contents was before now)
       (record { written = told.written; extent = told.extent; moves = m })
-  told_left can s p mid new was now before kept m left told lost counts fits lefts keeper tells same sum = record {
+  told_left test s p mid new was now before kept m left told counts fits lefts keeper tells same sum = record {
     text = λ t stands.
         let l = lefts t stands in
         let rest = tells l.record_left l.next l.stands.at l.step l.after in
-        subst (λ (a : Answer). WritesAfter contents was before now told.written a.text) (sym (lost_is can s t.history (state p) lost ∙ l.is s))
+        subst (λ (a : Answer). WritesAfter contents was before now told.written a.text) (sym (l.is s))
         (rest.text (record { history = l.older; ahead = l.ahead }) l.stands.on);
     extent = λ t stands.
         let l = lefts t stands in
         let rest = tells l.record_left l.next l.stands.at l.step l.after in
-        rest.extent (record { history = l.older; ahead = l.ahead }) l.stands.on ∙ sym (ap (λ (a : Answer). a.extent) (lost_is can s t.history (state p) lost ∙ l.is s));
+        rest.extent (record { history = l.older; ahead = l.ahead }) l.stands.on ∙ sym (ap (λ (a : Answer). a.extent) (l.is s));
     back = λ t stands.
         let l = lefts t stands in
         let rest = tells l.record_left l.next l.stands.at l.step l.after in
@@ -137,7 +149,7 @@ module _ {P W : Type 0} (state : P → State) (follows : P → Track → Type 0)
     keeper = keeps_on size refusals p mid new keeper same;
   }
     where
-      short : (t : Track) → follows p t → (l : IsLeft state follows can t (state p) mid left)
+      short : (t : Track) → follows p t → (l : IsLeft state follows test t (state p) mid left)
           → TellsOrigin (past_by state follows size refusals) (λ (u : Track). left_by s left.moves l.record_left u.history l.next) mid new (WritesAfter contents was before now) told
           → left.moves + told.moves < 2 ^ 64
       short t stands l rest =
@@ -146,16 +158,16 @@ module _ {P W : Type 0} (state : P → State) (follows : P → Track → Type 0)
           let all = counts t stands in
           omega (arith, few, count, all, fits)
 
-  pub told_never : (can : ℕ → List ℕ → Bool) (s : Query) (p new : P) (was now : Tally W) (before last : Result (Unit {0}) WriteFault) (kept : ℕ) (told : Told)
-      → can_from can (state p) ≡ false → ((t : Track) → follows p t → kept ≡ length t.history)
-      → ((t : Track) → follows p t → IsNeverLeft state follows can t (state p) new) → IsSameKeeper size refusals p new
+  pub told_never : (test : ℕ → State → Bool) (s : Query) (p new : P) (was now : Tally W) (before last : Result (Unit {0}) WriteFault) (kept : ℕ) (told : Told)
+      → ((t : Track) → follows p t → kept ≡ length t.history)
+      → ((t : Track) → follows p t → IsNeverLeft state follows test t (state p) new) → IsSameKeeper size refusals p new
       → WritesAfter contents was before now last (never_text s.question.opening) → told ≡ record { written = last; extent = Whole; moves = kept }
-      → TellsOrigin (past_by state follows size refusals) (λ (t : Track). not_come can s t.history (state p)) p new (WritesAfter contents was before now) told
-  told_never can s p new was now before last kept told lost counts nevers keeper writes is = record {
+      → TellsOrigin (past_by state follows size refusals) (λ (t : Track). left_after test s 0 t.history (state p)) p new (WritesAfter contents was before now) told
+  told_never test s p new was now before last kept told counts nevers keeper writes is = record {
     text = λ t stands.
-        subst (λ (r : Result (Unit {0}) WriteFault). WritesAfter contents was before now r (not_come can s t.history (state p)).text) (sym (ap (λ (o : Told). o.written) is))
-        (subst (λ (a : Answer). WritesAfter contents was before now last a.text) (sym (lost_is can s t.history (state p) lost ∙ (nevers t stands).is s)) writes);
-    extent = λ t stands. ap (λ (o : Told). o.extent) is ∙ sym (ap (λ (a : Answer). a.extent) (lost_is can s t.history (state p) lost ∙ (nevers t stands).is s));
+        subst (λ (r : Result (Unit {0}) WriteFault). WritesAfter contents was before now r (left_after test s 0 t.history (state p)).text) (sym (ap (λ (o : Told). o.written) is))
+        (subst (λ (a : Answer). WritesAfter contents was before now last a.text) (sym ((nevers t stands).is s)) writes);
+    extent = λ t stands. ap (λ (o : Told). o.extent) is ∙ sym (ap (λ (a : Answer). a.extent) ((nevers t stands).is s));
     back = λ t stands.
         subst (λ (n : ℕ). StandsThere state follows new (gone_from n t (state p))) (sym (ap (λ (o : Told). o.moves) is ∙ counts t stands)) (nevers t stands).stands;
     within = λ t stands. let moves = ap (λ (o : Told). o.moves) is in let all = counts t stands in omega (arith, moves, all);

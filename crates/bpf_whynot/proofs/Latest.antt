@@ -3,7 +3,7 @@ use Rattle.std.proofs.Common.{◌≡◌, ◌<◌, ◌≤◌, ◌⊎◌, inl, inr
 use Rattle.bpf_journal.specs.Histories.{Record}
 use Rattle.bpf_journal.specs.Lookups.{state_before}
 use Rattle.bpf_steps.specs.State.{State}
-use Rattle.bpf_whynot.specs.Answers.{Query, left_after, left_by, never_text, only}
+use Rattle.bpf_whynot.specs.Answers.{Query, left_after, left_by, never_text, only, reaches}
 use Rattle.bpf_whynot.specs.Laws.{AnswersAreOfTheLatest, IsOfMove, IsOfNone}
 use Rattle.bpf_whynot.specs.Reach.{can_from}
 use Rattle.bpf_whynot.proofs.Going.{lost_is}
@@ -19,11 +19,11 @@ module _ (can : ℕ → List ℕ → Bool) (s : Query) where
     pub before : state_before (suc moves) h y ≡ of.before
     pub could : can_from can of.before ≡ true
     pub since : (j : ℕ) → j < suc moves → can_from can (state_before j h y) ≡ false
-    pub told : left_after can s k h y ≡ left_by s (k + suc moves) of older (state_before moves h y)
+    pub told : left_after (reaches can) s k h y ≡ left_by s (k + suc moves) of older (state_before moves h y)
 
   record OfNone (k : ℕ) (h : List Record) (y : State) : Type 0 where
     pub none : (j : ℕ) → can_from can (state_before j h y) ≡ false
-    pub told : left_after can s k h y ≡ only (never_text s.question.opening)
+    pub told : left_after (reaches can) s k h y ≡ only (never_text s.question.opening)
 
   none_older : (y : State) → can_from can y ≡ false → (j : ℕ) → can_from can (state_before j [] y) ≡ false
   none_older y gone zero = gone
@@ -38,7 +38,7 @@ module _ (can : ℕ → List ℕ → Bool) (s : Query) where
     before = refl;
     could = there;
     since = first;
-    told = left_there can s k r h y there;
+    told = left_there (reaches can) s k r h y there;
   }
     where
       first : (j : ℕ) → j < 1 → can_from can (state_before j (r ∷ h) y) ≡ false
@@ -54,7 +54,7 @@ module _ (can : ℕ → List ℕ → Bool) (s : Query) where
     before = m.before;
     could = m.could;
     since = since;
-    told = left_earlier can s k r h y missed ∙ m.told ∙ ap (λ (n : ℕ). left_by s n m.of m.older (state_before m.moves h r.before)) sum;
+    told = left_earlier (reaches can) s k r h y missed ∙ m.told ∙ ap (λ (n : ℕ). left_by s n m.of m.older (state_before m.moves h r.before)) sum;
   }
     where
       since : (j : ℕ) → j < suc (suc m.moves) → can_from can (state_before j (r ∷ h) y) ≡ false
@@ -65,7 +65,7 @@ module _ (can : ℕ → List ℕ → Bool) (s : Query) where
       sum = omega arith
 
   none_here : (k : ℕ) (r : Record) (h : List Record) (y : State) → can_from can y ≡ false → can_from can r.before ≡ false → OfNone (k + 1) h r.before → OfNone k (r ∷ h) y
-  none_here k r h y gone missed n = record { none = none; told = left_earlier can s k r h y missed ∙ n.told }
+  none_here k r h y gone missed n = record { none = none; told = left_earlier (reaches can) s k r h y missed ∙ n.told }
     where
       none : (j : ℕ) → can_from can (state_before j (r ∷ h) y) ≡ false
       none zero = gone
@@ -82,7 +82,7 @@ module _ (can : ℕ → List ℕ → Bool) (s : Query) where
   by_test k r h y false is gone more = older k r h y gone is (more is)
 
   latest_after : (k : ℕ) (h : List Record) (y : State) → can_from can y ≡ false → OfMove k h y ⊎ OfNone k h y
-  latest_after k [] y gone = inr (record { none = none_older y gone; told = left_never can s k y })
+  latest_after k [] y gone = inr (record { none = none_older y gone; told = left_never (reaches can) s k y })
   latest_after k (r ∷ h) y gone = by_test k r h y (can_from can r.before) refl gone (λ missed. latest_after (k + 1) h r.before missed)
 
   whole : (h : List Record) (y : State) → can_from can y ≡ false → OfMove 0 h y ⊎ OfNone 0 h y → IsOfMove can s h y ⊎ IsOfNone can s h y

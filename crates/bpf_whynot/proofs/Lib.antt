@@ -8,6 +8,7 @@ pub mod Walks
 pub mod Goaling
 pub mod Making
 pub mod Unmaking
+pub mod Overwriting
 pub mod Passing
 pub mod Going
 pub mod Latest

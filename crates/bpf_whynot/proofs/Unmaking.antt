@@ -100,13 +100,13 @@ both_none None b e = sym e
 both_none (Some m) b e = absurd cc
 
 pub no_move : (goals : List ℕ) (n d p : ℕ) → is_goal goals p ≡ false → made_by_move goals n d (Some p) ≡ None
-no_move goals n d p e = ap (λ (b : Bool). if b then Some (record { moves = n + 1; slot = p; depth = d }) else None) e
+no_move goals n d p e = ap (λ (b : Bool). if b then Some (record { moves = n + 1; slot = p; depth = d; branch = None }) else None) e
 
-pub one_move : (goals : List ℕ) (n d p : ℕ) → is_goal goals p ≡ true → made_by_move goals n d (Some p) ≡ Some (record { moves = n + 1; slot = p; depth = d })
-one_move goals n d p e = ap (λ (b : Bool). if b then Some (record { moves = n + 1; slot = p; depth = d }) else None) e
+pub one_move : (goals : List ℕ) (n d p : ℕ) → is_goal goals p ≡ true → made_by_move goals n d (Some p) ≡ Some (record { moves = n + 1; slot = p; depth = d; branch = None })
+one_move goals n d p e = ap (λ (b : Bool). if b then Some (record { moves = n + 1; slot = p; depth = d; branch = None }) else None) e
 
 none_by : (goals : List ℕ) (n d p : ℕ) (b : Bool) → is_goal goals p ≡ b → made_by_move goals n d (Some p) ≡ None → without (Some p) goals ≡ goals
-none_by goals n d p true is e = let t : Some (record { moves = n + 1; slot = p; depth = d }) ≡ None = sym (one_move goals n d p is) ∙ e in absurd cc
+none_by goals n d p true is e = let t : Some (record { moves = n + 1; slot = p; depth = d; branch = None }) ≡ None = sym (one_move goals n d p is) ∙ e in absurd cc
 none_by goals n d p false is e = nothing_goes p goals is
 
 none_made : (goals : List ℕ) (n d : ℕ) (s : Option ℕ) → made_by_move goals n d s ≡ None → without s goals ≡ goals

@@ -84,14 +84,21 @@ abbrev pub left_by : Query → ℕ → Record → List Record → State → Answ
 left_by s k r h y =
     if stood_at s r then only (reached_text k) else with_line (lost_line s.question.places k r.before r.move y) (because s r h)
 
--- After k moves, from none of whose states a goal can be come to.
-unfoldable pub left_after : (ℕ → List ℕ → Bool) → Query → ℕ → List Record → State → Answer
-left_after can s k [] y = only (never_text s.question.opening)
-left_after can s k (r ∷ h) y = if can_from can r.before then left_by s (k + 1) r h y else left_after can s (k + 1) h r.before
+-- After k moves, none of which is looked for: the latest is told of which a test holds, by how many moves it lies back and the state before it.
+unfoldable pub left_after : (ℕ → State → Bool) → Query → ℕ → List Record → State → Answer
+left_after test s k [] y = only (never_text s.question.opening)
+left_after test s k (r ∷ h) y = if test (k + 1) r.before then left_by s (k + 1) r h y else left_after test s (k + 1) h r.before
+
+-- One from whose state a goal can be come to; one that lies so many back.
+abbrev pub reaches : (ℕ → List ℕ → Bool) → ℕ → State → Bool
+reaches can k x = can_from can x
+
+abbrev pub lies_at : ℕ → ℕ → State → Bool
+lies_at n k x = k == n
 
 -- The answer about goals in a state with its history, by a test that tells from where one can be come to.
 abbrev pub not_come : (ℕ → List ℕ → Bool) → Query → List Record → State → Answer
-not_come can s h y = if can_from can y then only still_text else left_after can s 0 h y
+not_come can s h y = if can_from can y then only still_text else left_after (reaches can) s 0 h y
 
 -- The line of the newest kept move that made the value, as `origin` has it: how many moves back it lies, what it made, and its instruction. (No
 -- function stands deeper than `frame_count`.)
@@ -124,12 +131,20 @@ abbrev pub has_none : List ℕ → Bool
 has_none [] = true
 has_none (p ∷ goals) = false
 
-abbrev pub others_not_come : (ℕ → List ℕ → Bool) → Query → List Record → State → Answer
-others_not_come can s h y = if has_none s.goals then only all_made_text else not_come can s h y
+-- If there are none, the branch is told after which it was overwritten, if one is known.
+abbrev pub over_text : List ℕ
+over_text = codes "overwritten: "
+
+abbrev pub over_at : Query → Option ℕ → List Record → State → Answer
+over_at s None h y = only all_made_text
+over_at s (Some n) h y = with_line over_text (left_after (lies_at n) s 0 h y)
+
+abbrev pub others_not_come : (ℕ → List ℕ → Bool) → Query → Made → List Record → State → Answer
+others_not_come can s m h y = if has_none s.goals then over_at s m.branch h y else not_come can s h y
 
 abbrev pub not_come_but : (ℕ → List ℕ → Bool) → Query → Option Made → List Record → State → Answer
 not_come_but can s None h y = not_come can s h y
-not_come_but can s (Some m) h y = with_line (made_line s.question.places y.program m) (others_not_come can s h y)
+not_come_but can s (Some m) h y = with_line (made_line s.question.places y.program m) (others_not_come can s m h y)
 
 -- The whole answer.
 abbrev pub why_not : (ℕ → List ℕ → Bool) → Query → List Record → State → Answer

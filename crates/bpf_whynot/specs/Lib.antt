@@ -2,8 +2,9 @@ pub mod Reach
 pub mod Tables
 pub mod Constants
 pub mod Asked
-pub mod Makings
 pub mod Answers
+pub mod Overwrites
+pub mod Makings
 pub mod Laws
 pub mod Flows
 pub mod Walks

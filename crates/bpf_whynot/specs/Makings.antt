@@ -7,6 +7,7 @@ use Rattle.bpf_entries.specs.declared.entry.Entry.TheVariants as entry
 use Rattle.bpf_journal.specs.Histories.{Record, kept_of}
 use Rattle.bpf_steps.specs.State.{State, depth}
 use Rattle.bpf_whynot.specs.Asked.{Goals}
+use Rattle.bpf_whynot.specs.Overwrites.{with_branch}
 use Rattle.bpf_whynot.specs.Reach.{is_goal}
 use Rattle.bpf_whynot.specs.declared.made.Made.{Made}
 
@@ -31,10 +32,10 @@ abbrev pub unmade : List ℕ → List Kept → List ℕ
 unmade goals [] = goals
 unmade goals (k ∷ ks) = unmade (without (made_at k.0) goals) ks
 
--- The newest kept move that made it at one, where so many moves lie before it, and functions of this depth of calls run behind it.
+-- The newest kept move that made it at one, where so many moves lie before it, and functions of this depth of calls run behind it; no branch is known yet.
 abbrev pub made_by_move : List ℕ → ℕ → ℕ → Option ℕ → Option Made
 made_by_move goals n d None = None
-made_by_move goals n d (Some p) = if is_goal goals p then Some (record { moves = n + 1; slot = p; depth = d }) else None
+made_by_move goals n d (Some p) = if is_goal goals p then Some (record { moves = n + 1; slot = p; depth = d; branch = None }) else None
 
 abbrev pub or_older : Option Made → Option Made → Option Made
 or_older None older = older
@@ -49,4 +50,5 @@ abbrev pub goals_left : Goals → List Record → List ℕ
 goals_left goals h = if goals.by_value then unmade goals.slots (map kept_of h) else goals.slots
 
 abbrev pub made_last : Goals → List Record → State → Option Made
-made_last goals h y = if goals.by_value then newest_made goals.slots 0 (depth y) (map kept_of h) else None
+made_last goals h y =
+    if goals.by_value then with_branch y.program (depth y) (map kept_of h) (newest_made goals.slots 0 (depth y) (map kept_of h)) else None

@@ -1,16 +1,21 @@
 //! The slots that are asked about, and from where they can be come to.
-ghost use Rattle.std.specs.Prelude.{◌≡◌, ℕ, [], Err, IfErr, IfOk, List};
+ghost use Rattle.std.specs.Prelude.{◌≡◌, ◌<◌, ℕ, [], Err, IfErr, IfOk, List};
+ghost use Rattle.bpf_entries.specs.Keeping.{Kept};
+ghost use Rattle.bpf_steps.specs.Platform.{frame_count};
 ghost use Rattle.bpf_isa.specs.Programs.{Checked};
 ghost use Rattle.bpf_journal.specs.Histories.{HasHistory, Record, StandsFor};
 ghost use Rattle.bpf_whynot.specs.Aims.{AimsAt, AreLeft, IsNoAim};
 ghost use Rattle.bpf_whynot.specs.Asked.{goals_in};
-ghost use Rattle.bpf_whynot.specs.Makings.{goals_left, made_last};
+ghost use Rattle.bpf_whynot.specs.Makings.{HoldsMoves, goals_left, made_last};
+ghost use Rattle.bpf_whynot.specs.Overwrites.{with_branch};
 ghost use Rattle.bpf_whynot.specs.Tables.{AreGoals};
 
 use crate::fault::{AimFault, GoalFault};
 use crate::goals::{flag_asked, no_goals};
 use crate::made::{Made, leave_unmade};
+use crate::over::branch_over;
 use crate::reach::Reach;
+use bpf_isa::Program;
 use bpf_journal::Keeper;
 use bpf_machine::Cpu;
 use std::alloc::Global;
@@ -90,8 +95,33 @@ fn made_last<K: Keeper>(cpu: &Cpu, keeper: &K, by_value: bool, flags: &mut [bool
 {
     if by_value {
         cpu.invariant();
-        leave_unmade(keeper, cpu.depth() as u32, flags)
+        let depth = cpu.depth() as u32;
+        let newest = leave_unmade(keeper, depth, flags);
+        with_branch(keeper, cpu.program(), depth, newest)
     } else {
         None
+    }
+}
+
+/// The newest move that made it, with the branch after which the value was overwritten.
+fn with_branch<K: Keeper>(
+    keeper: &K,
+    program: &Program,
+    depth: u32,
+    newest: Option<Made>,
+) -> Option<Made>
+    requires some { HoldsMoves K.holds keeper.now }
+    requires shallow { depth < frame_count }
+    ensures { (es : List Kept) → K.holds keeper.now es →
+        result ≡ with_branch program.now depth es newest }
+{
+    match newest {
+        Some(made) => Some(Made {
+            moves: made.moves,
+            slot: made.slot,
+            depth: made.depth,
+            branch: branch_over(keeper, program, depth, made),
+        }),
+        None => None,
     }
 }

@@ -22,6 +22,7 @@ mod made;
 mod made_line;
 mod maker;
 mod may_write;
+mod over;
 mod reach;
 mod search;
 mod sources;

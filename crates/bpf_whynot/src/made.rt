@@ -19,6 +19,8 @@ pub struct Made {
     pub slot: usize,
     /// The depth of calls of its function.
     pub depth: usize,
+    /// The branch after which the value was overwritten, by how many moves it lies back.
+    pub branch: Option<u64>,
 }
 
 /// Leaves of the flagged slots those at which no kept move made the value, and answers the newest
@@ -74,6 +76,7 @@ fn take_notice(
             moves: moves + 1,
             slot,
             depth: depth as usize,
+            branch: None,
         },
     )
 }

@@ -113,7 +113,7 @@ fn put_made_values<W: Write>(
 }
 
 /// Where it makes that.
-fn made_parts(depth: usize, insn: &Insn) -> Parts
+pub(crate) fn made_parts(depth: usize, insn: &Insn) -> Parts
     ensures { result.items ≡ spec.made_parts depth insn.now }
 {
     if depth <= FRAMES {

@@ -25,7 +25,7 @@ use bpfdb_script::put_place;
 use counted_io::{Counted, Piece, WriteFault, put, put_all};
 use std::io::Write;
 
-/// The latest move from whose state a goal can be come to.
+/// The move that is looked for.
 #[derive(Clone, Copy)]
 pub struct Left {
     /// How many moves it lies back.
@@ -58,12 +58,66 @@ pub fn put_whynot<P: Past, W: Write>(
     let places = search.question.places;
     let told = put_made(writer, so_far, places, history.machine().program(), made);
     if has_none(search.goals) {
-        return only(
-            put(writer, told, b"each instruction that makes it ran\n"),
-            0,
-        );
+        return put_over(history, search, wanted, made.branch, writer, told);
     }
     put_not_come(history, search, wanted, writer, told)
+}
+
+/// Writes after which branch the value was overwritten, where each instruction made it.
+fn put_over<P: Past, W: Write>(
+    history: &mut P,
+    search: &Search<'_>,
+    wanted: &mut Wanted,
+    branch: Option<u64>,
+    writer: &mut Counted<W>,
+    so_far: Result<(), WriteFault>,
+) -> Told
+    ensures { (program : Checked) (goals : List ℕ) → AreGoals program goals search.now.goals.now →
+        TellsOrigin (past_by P.state P.follows P.room P.refused) (λ (t : Track). spec.over_at
+        (query search.now goals) branch t.history (P.state history.old))
+        history.old history.new (WritesAfter W.contents writer.old so_far writer.new) result }
+{
+    match branch {
+        Some(moves) => {
+            let begun = put(writer, so_far, b"overwritten: ");
+            put_back(history, search, wanted, moves, writer, begun)
+        }
+        None => only(
+            put(writer, so_far, b"each instruction that makes it ran\n"),
+            0,
+        ),
+    }
+}
+
+/// Writes the line of the move that lies so many back, and what it compared.
+fn put_back<P: Past, W: Write>(
+    history: &mut P,
+    search: &Search<'_>,
+    wanted: &mut Wanted,
+    moves: u64,
+    writer: &mut Counted<W>,
+    so_far: Result<(), WriteFault>,
+) -> Told
+    ensures { (program : Checked) (goals : List ℕ) → AreGoals program goals search.now.goals.now →
+        TellsOrigin (past_by P.state P.follows P.room P.refused) (λ (t : Track). spec.left_after
+        (spec.lies_at moves) (query search.now goals) 0 t.history (P.state history.old))
+        history.old history.new (WritesAfter W.contents writer.old so_far writer.new) result }
+{
+    let kept = history.moves();
+    match go_to(history, moves) {
+        Some(left) => {
+            let told = put_left(history, search, wanted, left, writer, so_far);
+            Told {
+                written: told.written,
+                extent: told.extent,
+                moves: left.moves.saturating_add(told.moves),
+            }
+        }
+        None => only(
+            put_never(writer, so_far, search.question.opening),
+            kept as u64,
+        ),
+    }
 }
 
 /// Whether no goal is flagged.
@@ -126,7 +180,8 @@ fn only(written: Result<(), WriteFault>, moves: u64) -> Told
 /// Takes moves back up to the latest one from whose state a goal can be come to, and that one.
 fn go_back<P: Past>(history: &mut P, reach: &Reach) -> Option<Left>
     ensures goes { (t : Track) → P.follows history.old t →
-        GoesTo P.state P.follows (told_by reach.now) t (P.state history.old) history.new result }
+        GoesTo P.state P.follows (spec.reaches (told_by reach.now)) t (P.state history.old)
+        history.new result }
     ensures keeper { IsSameKeeper P.room P.refused history.old history.new }
 {
     for k in 0..history.moves() {
@@ -137,6 +192,29 @@ fn go_back<P: Past>(history: &mut P, reach: &Reach) -> Option<Left>
         if reach.can_from(history.machine()) {
             return Some(Left {
                 moves: k as u64 + 1,
+                after,
+                is_step: taken.is_step,
+            });
+        }
+    }
+    None
+}
+
+/// Takes so many moves back.
+fn go_to<P: Past>(history: &mut P, moves: u64) -> Option<Left>
+    ensures goes { (t : Track) → P.follows history.old t →
+        GoesTo P.state P.follows (spec.lies_at moves) t (P.state history.old) history.new result }
+    ensures keeper { IsSameKeeper P.room P.refused history.old history.new }
+{
+    for k in 0..history.moves() {
+        let after = Standing::of(history.machine());
+        let Some(taken) = history.take_back() else {
+            return None;
+        };
+        let number = k as u64 + 1;
+        if number == moves {
+            return Some(Left {
+                moves: number,
                 after,
                 is_step: taken.is_step,
             });

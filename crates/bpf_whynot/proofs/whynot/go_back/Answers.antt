@@ -1,5 +1,6 @@
 use Rattle.std.proofs.Common.{◌∙◌, refl, sym, ap, arith}
 use Rattle.bpf_origin.proofs.Backs.{keeps_on}
+use Rattle.bpf_whynot.specs.Answers.{reaches}
 use Rattle.bpf_whynot.specs.Reach.{can_from}
 use Rattle.bpf_whynot.specs.Tables.{told_by}
 use Rattle.bpf_whynot.specs.Standings.{standing}
@@ -7,7 +8,7 @@ use Rattle.bpf_whynot.proofs.Passing.{found, never, passed_more, passed_none, pa
 use Rattle.bpf_whynot.proofs.whynot.go_back.Goals as goal
 
 pub loop-k-init : goal.loop-k-init
-loop-k-init g c = (record { room = refl; refused = refl }, λ t stands. passed_none g.P.Past.state g.P.Past.follows (told_by c.args.reach.now) t (g.P.Past.state c.args.history.now) c.args.history.now stands refl)
+loop-k-init g c = (record { room = refl; refused = refl }, λ t stands. passed_none g.P.Past.state g.P.Past.follows (reaches (told_by c.args.reach.now)) t (g.P.Past.state c.args.history.now) c.args.history.now stands refl)
 
 pub loop-k-preserved : goal.loop-k-preserved
 loop-k-preserved g c = (
@@ -15,7 +16,7 @@ loop-k-preserved g c = (
   λ t stands.
       let n = c.moves-k-end.ensures t stands in
       let here = c.loop-k-test.true in
-      passed_more g.P.Past.state g.P.Past.follows (told_by c.args.reach.now) t (g.P.Past.state c.args.history.now) c.take_back.result c.loop-k.history c.take_back.new.self c.loop-k.k
+      passed_more g.P.Past.state g.P.Past.follows (reaches (told_by c.args.reach.now)) t (g.P.Past.state c.args.history.now) c.take_back.result c.loop-k.history c.take_back.new.self c.loop-k.k
       (c.loop-k.invariant.1 t stands) (omega (arith, n, here)) c.take_back.ensures.back
       (ap (can_from (told_by c.args.reach.now)) (sym c.machine-in-loop-k.ensures) ∙ sym c.can_from.ensures ∙ c.if-can_from.false),
 )
@@ -24,7 +25,7 @@ pub returns-then-can_from-clause-goes : goal.returns-then-can_from-clause-goes
 returns-then-can_from-clause-goes g c = λ t stands.
     let n = c.moves-k-end.ensures t stands in
     let here = c.loop-k-test.true in
-    found g.P.Past.state g.P.Past.follows (told_by c.args.reach.now) t (g.P.Past.state c.args.history.now) c.take_back.result c.in-Some.taken c.loop-k.history c.take_back.new.self
+    found g.P.Past.state g.P.Past.follows (reaches (told_by c.args.reach.now)) t (g.P.Past.state c.args.history.now) c.take_back.result c.in-Some.taken c.loop-k.history c.take_back.new.self
     c.loop-k.k c.of-after.result (c.loop-k.invariant.1 t stands) (omega (arith, n, here)) c.in-Some.is (c.of-after.ensures ∙ ap standing c.machine.ensures) c.take_back.ensures.back
     (ap (can_from (told_by c.args.reach.now)) (sym c.machine-in-loop-k.ensures) ∙ sym c.can_from.ensures ∙ c.if-can_from.true)
 
@@ -32,11 +33,11 @@ pub returns-in_default-clause-goes : goal.returns-in_default-clause-goes
 returns-in_default-clause-goes g c = λ t stands.
     let n = c.moves-k-end.ensures t stands in
     let here = c.loop-k-test.true in
-    passed_stop g.P.Past.state g.P.Past.follows (told_by c.args.reach.now) t (g.P.Past.state c.args.history.now) c.take_back.result c.loop-k.history c.take_back.new.self c.loop-k.k
+    passed_stop g.P.Past.state g.P.Past.follows (reaches (told_by c.args.reach.now)) t (g.P.Past.state c.args.history.now) c.take_back.result c.loop-k.history c.take_back.new.self c.loop-k.k
     (c.loop-k.invariant.1 t stands) (omega (arith, n, here)) c.in_default.is c.take_back.ensures.back
 
 pub returns-clause-goes : goal.returns-clause-goes
 returns-clause-goes g c = λ t stands.
     let n = c.moves-k-end.ensures t stands in
     let here = c.loop-k-test.false in
-    never g.P.Past.state g.P.Past.follows (told_by c.args.reach.now) t (g.P.Past.state c.args.history.now) c.loop-k.history c.loop-k.k (c.loop-k.invariant.1 t stands) (omega (arith, n, here))
+    never g.P.Past.state g.P.Past.follows (reaches (told_by c.args.reach.now)) t (g.P.Past.state c.args.history.now) c.loop-k.history c.loop-k.k (c.loop-k.invariant.1 t stands) (omega (arith, n, here))

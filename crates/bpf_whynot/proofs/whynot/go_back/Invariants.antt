@@ -1,5 +1,6 @@
 use Rattle.bpf_journal.specs.Tracks.{Track}
 use Rattle.bpf_origin.specs.Pasts.{IsSameKeeper}
+use Rattle.bpf_whynot.specs.Answers.{reaches}
 use Rattle.bpf_whynot.specs.Tables.{told_by}
 use Rattle.bpf_whynot.proofs.Passing.{Passed}
 use Rattle.bpf_whynot.proofs.whynot.go_back.Given as goal
@@ -8,4 +9,4 @@ abbrev pub invariant-loop-k : goal.invariant-loop-k
 invariant-loop-k g l =
     IsSameKeeper g.P.Past.room g.P.Past.refused l.fn.history l.history
     × ((t : Track) → g.P.Past.follows l.fn.history t →
-    Passed g.P.Past.state g.P.Past.follows (told_by l.reach) t (g.P.Past.state l.fn.history) l.k l.history)
+    Passed g.P.Past.state g.P.Past.follows (reaches (told_by l.reach)) t (g.P.Past.state l.fn.history) l.k l.history)
