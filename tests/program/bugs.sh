@@ -88,10 +88,11 @@ six_bugs() {
     right precedence TC_ACT_SHOT '-5 49: jge r3, r1, L60; r3 = 0x5dc; r1 = 0x50; jumped to 60; in precedence (precedence.c:46)'
     right stations XDP_PASS '-6 49: jeq r0, 0, L53; r0 = 0x0; jumped to 53; in admit (stations.c:62)'
     right offers XDP_DROP '-5 34: jne r4, 8, L51; r4 = 0xa888; jumped to 51; in offers (offers.c:50)'
-    # (each instruction that makes the value ran, and another one came in its place: origin --branches tells why, with these moves)
-    all_ran='each instruction that makes it ran'
-    right tunnel XDP_DROP 'made: -7 r0 = 0x1; 41: mov r0, 1; in tunnel (tunnel.c:37)' "$all_ran"
-    right router TC_ACT_OK 'made: -75 r6 at depth 1 = 0x0; 27: mov r6, 0; in guard (router.c:35)' "$all_ran"
+    # (each instruction that makes the value ran, and another one came in its place)
+    right tunnel XDP_DROP 'made: -7 r0 = 0x1; 41: mov r0, 1; in tunnel (tunnel.c:37)' \
+        'overwritten: -6 42: jeq r1, 2314, L44; r1 = 0x33c6; went on'
+    right router TC_ACT_OK 'made: -75 r6 at depth 1 = 0x0; 27: mov r6, 0; in guard (router.c:35)' \
+        'overwritten: -8 56: jne r1, 33022, L63; r1 = 0x0; jumped to 63; in guard (router.c:30)'
 }
 
 if has_clang_14 'the bugs of examples/bugs' && has python3 'the bugs of examples/bugs'; then

@@ -103,6 +103,9 @@ tells 0 '{"kind":"exited","slot":4,"r0":"0x1"}
 tells 0 '{"kind":"exited","slot":4,"r0":"0x1"}\n{"kind":"reached","moves":2}\n' whynot --json --listing first.s none
 tells 0 '{"kind":"exited","slot":4,"r0":"0x1"}\n{"kind":"made","moves":2,"slot":3,"insn":"mov r0, 1","parts":[{"part":"r0","value":"0x1"}]}
 {"kind":"text","text":"each instruction that makes it ran"}\n' whynot --json --listing first.s =1
+listing over.s 'mov r0, 1;jeq r1, 0, on;on: mov r0, 3;exit'
+tells 0 '{"kind":"exited","slot":3,"r0":"0x3"}\n{"kind":"made","moves":4,"slot":0,"insn":"mov r0, 1","parts":[{"part":"r0","value":"0x1"}]}
+{"kind":"overwritten","moves":3,"slot":1,"insn":"jeq r1, 0, L2","way":"went on","parts":[{"part":"r1","value":"0x0"}]}\n' whynot --json --alone --listing over.s =1
 tells 0 '{"kind":"at","slot":3,"insn":"mov r0, 1"}\n{"kind":"text","text":"it can still be reached"}\n' whynot --json --listing --steps 1 first.s 3,4
 tells 0 '{"kind":"ran","count":1,"slot":0,"insn":"jeq r1, 0, L3"}
 {"kind":"ran","count":0,"slot":1,"insn":"ldxb r0, [r1+0]"}

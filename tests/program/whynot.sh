@@ -150,7 +150,8 @@ why='at 1: jeq r1, 0, L4\nleft r1 = 0x0; at the opening\n'
 tells 0 "exited at 5: r0 0x2\nmade: -4 r0 = 0x1; 0: mov r0, 1\n$past$why" whynot --listing again.s =1
 tells 0 "exited at 5: r0 0x2\nmade: -4 r0 = 0x1; 0: mov r0, 1\n$past" whynot --alone --listing again.s =1
 tells 0 "exited at 5: r0 0x2\n$past" whynot --alone --listing again.s =1,1
-tells 0 "exited at 5: r0 0x2\nmade: -4 r0 = 0x1; 0: mov r0, 1\n$all_ran" whynot --listing again.s =1,0,2
+tells 0 "exited at 5: r0 0x2\nmade: -4 r0 = 0x1; 0: mov r0, 1\noverwritten: $past$why" whynot --listing again.s =1,0,2
+tells 0 "exited at 5: r0 0x2\nmade: -4 r0 = 0x1; 0: mov r0, 1\noverwritten: $past" whynot --alone --listing again.s =1,0,2
 tells 0 'at 1: jeq r1, 0, L4\nmade: -1 r0 = 0x1; 0: mov r0, 1\nit can still be reached\n' whynot --steps 1 --listing again.s =1
 tells 0 'at 0: mov r0, 1\nit can still be reached\n' whynot --script /dev/null --listing again.s =1
 tells 0 "exited at 5: r0 0x2\n$past$why" whynot --listing again.s 0,2
@@ -159,6 +160,27 @@ listing twice.s 'mov r0, 1;mov r0, 2;mov r0, 1;exit'
 tells 0 "exited at 3: r0 0x1\nmade: -2 r0 = 0x1; 2: mov r0, 1\n$all_ran" whynot --listing twice.s =1
 listing rounds.s 'loop: mov r3, 5;add r0, 1;jlt r0, 3, loop;exit;mov r3, 5;exit'
 tells 0 "exited at 3: r0 0x3\nmade: -4 r3 = 0x5; 0: mov r3, 5\nit was out of reach from the opening\n" whynot --listing rounds.s =5
+
+# Each made it, and it was overwritten: the last branch of that call before the first move that wrote there. None lies between; it is what the program has now;
+# two branches, and two writes; a branch of a function that was called; what such a one wrote, and what is written behind the return: not that; bytes of the frame.
+listing over.s 'mov r0, 1;jeq r1, 0, on;mov r0, 3;on: exit'
+bytes one 2a
+tells 0 "exited at 3: r0 0x1\nmade: -3 r0 = 0x1; 0: mov r0, 1\n$all_ran" whynot --listing over.s =1
+tells 0 'exited at 3: r0 0x3\nmade: -4 r0 = 0x1; 0: mov r0, 1\noverwritten: -3 1: jeq r1, 0, L3; r1 = 0x100000000; went on\nat 1: jeq r1, 0, L3\nleft r1 = 0x100000000; at the opening\n' \
+    whynot -m one --listing over.s =1
+listing over.s 'mov r0, 1;jeq r1, 0, a;a: mov r3, 1;jeq r2, 0, b;b: mov r0, 2;jeq r3, 0, c;c: mov r0, 4;exit'
+tells 0 'exited at 7: r0 0x4\nmade: -8 r0 = 0x1; 0: mov r0, 1\noverwritten: -5 3: jeq r2, 0, L4; r2 = 0x0; went on\n' whynot --alone --listing over.s =1,0,1
+tells 0 'exited at 7: r0 0x4\nmade: -4 r0 = 0x2; 4: mov r0, 2\noverwritten: -3 5: jeq r3, 0, L6; r3 = 0x1; went on\n' whynot --alone --listing over.s =2
+listing over.s 'jeq r1, 0, on;on: mov r0, 1;mov r0, 2;exit'
+tells 0 "exited at 3: r0 0x2\nmade: -3 r0 = 0x1; 1: mov r0, 1\n$all_ran" whynot --listing over.s =1
+listing over.s 'mov r0, 1;jeq r1, 0, on;on: callf f;mov r0, 2;exit;f: jeq r2, 0, out;out: exit'
+tells 0 'exited at 4: r0 0x2\nmade: -7 r0 = 0x1; 0: mov r0, 1\noverwritten: -6 1: jeq r1, 0, L2; r1 = 0x0; went on\n' whynot --alone --listing over.s =1
+listing over.s 'mov r0, 1;jeq r1, 0, on;on: callf f;exit;f: mov r0, 2;exit'
+tells 0 "exited at 3: r0 0x2\nmade: -6 r0 = 0x1; 0: mov r0, 1\n$all_ran" whynot --listing over.s =1
+listing over.s 'callf f;jeq r1, 0, on;on: mov r6, 3;callf g;exit;f: mov r6, 1;exit;g: jeq r1, 0, in;in: mov r6, 4;exit'
+tells 0 "exited at 4: r0 0x0\nmade: -9 r6 at depth 1 = 0x1; 5: mov r6, 1\n$all_ran" whynot --listing over.s =1
+listing over.s 'stw [r10-8], 1;jeq r1, 0, on;on: stw [r10-4], 2;jeq r2, 0, in;in: stb [r10-8], 3;exit'
+tells 0 'exited at 5: r0 0x0\nmade: -6 0x2000001f8:4 = 0x1; 0: stw [r10-8], 1\noverwritten: -3 3: jeq r2, 0, L4; r2 = 0x0; went on\n' whynot --alone --listing over.s =1
 
 # What is made: of 32 bits and of 64, bytes of the frame, a register at its depth. Not by a store that faults, and not by hand. What was taken back isn't
 # kept, nor what the journal has dropped.

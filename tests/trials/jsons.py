@@ -116,6 +116,8 @@ def of_run(line):
         return {"kind": "kept", "moves": int(m[1]), **moved(m[2])}
     if m := re.fullmatch(r"made: -(\d+) (.*)", line):
         return {"kind": "made", "moves": int(m[1]), **moved(m[2])}
+    if m := re.fullmatch(r"overwritten: -(\d+) (.*)", line):
+        return {"kind": "overwritten", "moves": int(m[1]), **moved(m[2])}
     if m := re.fullmatch(r"left (.*)", line):
         return {"kind": "left", **moved(m[1])}
     if m := re.fullmatch(r"(\d+) (.*)", line):

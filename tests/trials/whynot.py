@@ -164,23 +164,45 @@ class Machine:
         return 'it was out of reach from the opening', None
 
     def made(self, goals):
-        """The line of the newest move that made a value at one of these slots, and the slots at which none did."""
-        line, left = '', set(goals)
+        """The line of the newest move that made a value at one of these slots, how many moves it lies back, and the slots at which none did."""
+        line, newest, left = '', 0, set(goals)
         for back, (before, is_step, _) in enumerate(reversed(self.moves), 1):
             if is_step and before[0] in goals:
                 line = line or f'made: -{back} r0 = {self.program.insns[before[0]][1]:#x}; {self.program.text(before[0])}\n'
+                newest = newest or back
                 left.discard(before[0])
-        return line, left
+        return line, newest, left
+
+    def overwritten(self, newest):
+        """The same as an answer, where each slot made it: going forwards from that move in its call, the last branch before r0 is written again."""
+        states = [before for before, _, _ in self.moves] + [self.state]
+        maker = len(self.moves) - newest
+        branch = None
+        for at in range(maker + 1, len(self.moves)):
+            (slot, returns, r0, _), is_step = self.moves[at][0], self.moves[at][1]
+            if len(returns) < len(states[maker][1]):
+                break
+            if is_step and len(returns) == len(states[maker][1]):
+                kind = self.program.insns[slot][0]
+                if kind in ('mov', 'wide', 'add'):
+                    if branch is None:
+                        break
+                    at = branch
+                    slot, r0, to, back = states[at][0], states[at][2], states[at + 1][0], len(self.moves) - at
+                    went = 'went on' if to == slot + 1 else f'jumped to {to}'
+                    return f'overwritten: -{back} {self.program.text(slot)}; r0 = {r0:#x}; {went}', back
+                if kind in CONDITIONS:
+                    branch = at
+        return 'each instruction that makes it ran', None
 
     def questions(self, starts, some):
-        """What is asked: slots, some of them together, and each value that an instruction makes; the goals of each, and what is told before the answer."""
+        """What is asked: slots, some of them together, and each value that an instruction makes; what is told before the answer, and the goals of each."""
         for goals in [[s] for s in starts] + [some]:
-            yield ','.join(map(str, goals)), set(goals), ''
+            yield ','.join(map(str, goals)), '', 0, set(goals)
         for value in range(4):
             makers = [s for s in starts if self.program.insns[s][0] in ('mov', 'wide') and self.program.insns[s][1] == value]
             if makers:
-                line, left = self.made(makers)
-                yield f'={value}', left, line
+                yield f'={value}', *self.made(makers)
 
 
 def some_program(random):
@@ -274,8 +296,8 @@ def main():
             machine, how, is_run = some_machine(chance, words, path, 0.5)
             program = machine.program
             starts = [s for s in range(len(program.insns)) if program.is_start(s)]
-            for what, goals, line in machine.questions(starts, sorted(chance.sample(starts, min(2, len(starts))))):
-                text, back = machine.answer(goals) if goals else ('each instruction that makes it ran', None)
+            for what, line, newest, goals in machine.questions(starts, sorted(chance.sample(starts, min(2, len(starts))))):
+                text, back = machine.answer(goals) if goals else machine.overwritten(newest)
                 kinds[text.split(' ')[0] if text[0] != '-' else text.split('; ')[-1].split(' ')[0]] = 1
                 wanted = machine.place() + '\n' + line + text + '\n'
                 asked += 1
