@@ -296,13 +296,13 @@ gdb_app = with_rule (with_rule (with_file_kinds (with_rule (with_rule (with_rule
 
 -- `origin` runs the program as `debug` does, over that journal, too.
 abbrev pub origin_app : App
-origin_app = with_rule (with_rule (with_rule (with_rule (with_rule (with_rule (with_rule (with_file_kinds (with_rule (with_rule (with_rule (with_rule (with_rule (with_rule (with_rule (new_app (codes "origin"))
-    mem_rule) packet_rule) maps_rule) regs_rule) gdb_journal_rule) steps_rule) script_rule)) lines_rule) addresses_rule) branches_rule) json_rule) dot_rule) what_rule) file_rule
+origin_app = with_rule (with_rule (with_rule (with_rule (with_rule (with_rule (with_rule (with_file_kinds (with_rule (with_rule (with_rule (with_rule (with_rule (with_rule (with_rule (with_rule (new_app (codes "origin"))
+    mem_rule) packet_rule) maps_rule) regs_rule) gdb_journal_rule) steps_rule) strict_rule) script_rule)) lines_rule) addresses_rule) branches_rule) json_rule) dot_rule) what_rule) file_rule
 
 -- `whynot` does so, too.
 abbrev pub whynot_app : App
-whynot_app = with_rule (with_rule (with_rule (with_rule (with_rule (with_rule (with_file_kinds (with_rule (with_rule (with_rule (with_rule (with_rule (with_rule (with_rule (new_app (codes "whynot"))
-    mem_rule) packet_rule) maps_rule) regs_rule) gdb_journal_rule) steps_rule) script_rule)) lines_rule) addresses_rule) alone_rule) json_rule) goal_rule) file_rule
+whynot_app = with_rule (with_rule (with_rule (with_rule (with_rule (with_rule (with_file_kinds (with_rule (with_rule (with_rule (with_rule (with_rule (with_rule (with_rule (with_rule (new_app (codes "whynot"))
+    mem_rule) packet_rule) maps_rule) regs_rule) gdb_journal_rule) steps_rule) strict_rule) script_rule)) lines_rule) addresses_rule) alone_rule) json_rule) goal_rule) file_rule
 
 -- `diff` runs two programs, or one on two contexts or along a trace, as `run` does.
 abbrev pub diff_app : App

@@ -106,11 +106,13 @@ pub record AsksOrigin (rows : List Row) (a : OriginAsk) : Type 0 where
   pub what : option_map (λ s. s.now) a.what ≡ first_of (codes "what") rows
   pub scope : Scopes rows a.scope
   pub branches : a.tells_branches ≡ is_given (first_of (codes "branches") rows)
+  pub strict : a.is_strict ≡ is_given (first_of (codes "strict") rows)
 
 pub record AsksWhynot (rows : List Row) (a : WhynotAsk) : Type 0 where
   pub what : option_map (λ s. s.now) a.what ≡ first_of (codes "what") rows
   pub scope : Scopes rows a.scope
   pub alone : a.alone ≡ is_given (first_of (codes "alone") rows)
+  pub strict : a.is_strict ≡ is_given (first_of (codes "strict") rows)
 
 abbrev pub side_in : List Row → OtherSide
 side_in rows = if is_some (first_of (codes "trace") rows) then side.Trace
@@ -274,8 +276,8 @@ abbrev pub packets_fit : List Row → Bool
 packets_fit rows = is_of (codes "packet") (codes "mem") rows && is_of (codes "other-packet") (codes "other-mem") rows
 
 -- Options go together: FILE is one thing, an object has maps of its own, `diff` is told of one other side, steps that are counted are those of a run
--- that isn't strict, a packet is of a context, programs in turn have numbers, and so have maps, and a part of a test and a tracefile are written as
--- they are, and so is a graph.
+-- that isn't strict, and so is where a script leads, a packet is of a context, programs in turn have numbers, and so have maps, and a part of a test and
+-- a tracefile are written as they are, and so is a graph.
 abbrev pub may_be_object : List Row → Bool
 may_be_object rows = not (is_given (first_of (codes "words") rows))
     && (not (is_given (first_of (codes "listing") rows)) && not (is_some (first_of (codes "maps") rows)))
@@ -296,6 +298,12 @@ calls_fit rows = not (is_given (first_of (codes "calls") rows) && tells_otherwis
 
 abbrev pub counts_strictly : List Row → Bool
 counts_strictly rows = is_given (first_of (codes "strict") rows) && is_given (first_of (codes "profile") rows)
+
+abbrev pub obeys_strictly : List Row → Bool
+obeys_strictly rows = is_given (first_of (codes "strict") rows) && is_some (first_of (codes "script") rows)
+
+abbrev pub is_strictly_fit : List Row → Bool
+is_strictly_fit rows = not (counts_strictly rows) && not (obeys_strictly rows)
 
 abbrev pub shows_json : List Row → Bool
 shows_json rows = is_some (first_of (codes "show") rows) && is_given (first_of (codes "json") rows)
@@ -333,7 +341,7 @@ told_fits name rows = not (shows_json rows) && (not (is_json_tracefile rows) && 
 
 abbrev pub go_together : Text → List Row → Bool
 go_together name rows = entries_fit rows && (are_counts (texts_in (codes "entries") rows)
-    && (packets_fit rows && (calls_fit rows && (not (counts_strictly rows) && told_fits name rows))))
+    && (packets_fit rows && (calls_fit rows && (is_strictly_fit rows && told_fits name rows))))
 
 -- A plan says what a subcommand's matches say, with numbers in their ranges and options that go together.
 pub record IsPlanOf (name : Text) (rows : List Row) (plan : Plan) : Type 0 where

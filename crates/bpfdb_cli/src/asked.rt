@@ -103,6 +103,7 @@ fn origin_in<'a>(found: &ArgMatches<'a>, scope: Scope) -> OriginAsk<'a>
         what: text_of(found, "what"),
         scope,
         tells_branches: is_given(found, "branches"),
+        is_strict: is_given(found, "strict"),
     }
 }
 
@@ -115,6 +116,7 @@ fn whynot_in<'a>(found: &ArgMatches<'a>, scope: Scope) -> WhynotAsk<'a>
         what: text_of(found, "what"),
         scope,
         alone: is_given(found, "alone"),
+        is_strict: is_given(found, "strict"),
     }
 }
 

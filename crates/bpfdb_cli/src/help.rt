@@ -128,7 +128,10 @@ Reads FILE and the context, and runs the program to its end or to the limit of
 steps; with --script it obeys commands instead, edits and steps back among them,
 and asks where they lead. WHAT is r0 to r9, or ADDRESS:COUNT for 1 to 256 bytes
 of memory (ADDRESS alone is one byte). Without WHAT it is r0, or at a fault the
-registers of the address that isn't there.
+registers of the address that isn't there. With --strict the run ends before an
+instruction that reads a byte of the stack which nothing wrote since the call of
+its function: the line of `bpfdb run --strict` comes first then, and without
+WHAT it is what that instruction reads.
 
 Writes to standard output where the program stands, then a line for each move
 that the value depends on, the newest first: how many moves back, what was
@@ -155,7 +158,10 @@ Reads FILE and the context, and runs the program to its end or to the limit of
 steps; with --script it obeys commands instead, edits and steps back among them,
 and asks where they lead. WHAT is a slot, or slots with commas between: then it
 is asked about any of them. =VALUE are the instructions that make the value as a
-constant: =2, or of an object an enumerator, =XDP_DROP.
+constant: =2, or of an object an enumerator, =XDP_DROP. With --strict the run
+ends before an instruction that reads a byte of the stack which nothing wrote
+since the call of its function, and the line of `bpfdb run --strict` comes
+first.
 
 Writes to standard output where the program stands, then the latest kept move
 from whose state the program's jumps, calls and returns lead to the slot,

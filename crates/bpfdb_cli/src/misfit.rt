@@ -4,7 +4,7 @@ ghost use Rattle.std.specs.List.{list_all};
 ghost use Rattle.input_texts.specs.Counts.{are_counts};
 ghost use Rattle.input_texts.specs.Turns.{has_place};
 ghost use Rattle.clap.specs.Words.{found_of, rows_of};
-ghost use Rattle.bpfdb_cli.specs.Plans.{asks_of_fields, asks_of_link, asks_of_program, calls_fit, counts_strictly, entries_fit, go_together, graph_fits, has_offset, is_json_graph, is_json_tracefile, is_of, joins_nothing, joins_otherwise, kinds_fit, may_be_object, names_one, names_other, names_side, object_fits, packets_fit, run_fits, shows_json, texts_in, told_fits, writes_fit};
+ghost use Rattle.bpfdb_cli.specs.Plans.{asks_of_fields, asks_of_link, asks_of_program, calls_fit, counts_strictly, entries_fit, go_together, graph_fits, has_offset, is_json_graph, is_json_tracefile, is_of, is_strictly_fit, joins_nothing, joins_otherwise, kinds_fit, may_be_object, names_one, names_other, names_side, obeys_strictly, object_fits, packets_fit, run_fits, shows_json, texts_in, told_fits, writes_fit};
 
 use crate::values::{has_text, is_given};
 use clap::ArgMatches;
@@ -35,6 +35,8 @@ const PACKET_ALONE: &str =
     "'--packet <N>' needs '--mem <PATH>', and '--other-packet <N>' needs '--other-mem <PATH>'";
 
 const STRICT_AND_PROFILE: &str = "the argument '--strict' cannot be used with '--profile'";
+
+const STRICT_AND_SCRIPT: &str = "the argument '--strict' cannot be used with '--script <PATH>'";
 
 const CALLS_AND_BRANCHES: &str = "the argument '--calls' cannot be used with '--branches'";
 
@@ -111,15 +113,17 @@ fn misfit_of_calls(found: &ArgMatches<'_>) -> Option<&'static str>
     }
 }
 
-/// Why the steps of a strict run aren't counted, if they aren't, or what is written isn't written so.
+/// What a strict run doesn't do, if that is asked, or why what is written isn't written so.
 fn misfit_of_strict(name: &str, found: &ArgMatches<'_>) -> Option<&'static str>
-    ensures none { IfNone result ((not (counts_strictly (rows_of (found_of found.now)))
+    ensures none { IfNone result ((is_strictly_fit (rows_of (found_of found.now))
         && told_fits name.now (rows_of (found_of found.now))) ≡ true) }
-    ensures some { OnSome result ((not (counts_strictly (rows_of (found_of found.now)))
+    ensures some { OnSome result ((is_strictly_fit (rows_of (found_of found.now))
         && told_fits name.now (rows_of (found_of found.now))) ≡ false) }
 {
     if counts_strictly(found) {
         Some(STRICT_AND_PROFILE)
+    } else if obeys_strictly(found) {
+        Some(STRICT_AND_SCRIPT)
     } else {
         misfit_of_text(name, found)
     }
@@ -286,6 +290,13 @@ fn counts_strictly(found: &ArgMatches<'_>) -> bool
     ensures { result ≡ counts_strictly (rows_of (found_of found.now)) }
 {
     is_given(found, "strict") && is_given(found, "profile")
+}
+
+/// Whether a script is to be obeyed strictly, and then asked where it leads.
+fn obeys_strictly(found: &ArgMatches<'_>) -> bool
+    ensures { result ≡ obeys_strictly (rows_of (found_of found.now)) }
+{
+    is_given(found, "strict") && has_text(found, "script")
 }
 
 /// Why what is asked of runs and said of FILE doesn't go together, if it doesn't.

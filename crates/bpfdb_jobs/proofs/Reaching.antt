@@ -1,8 +1,6 @@
 -- What a job of `whynot` prints where it asks, and why it is refused.
 use Rattle.std.proofs.Common.{◌≡◌, ◌==◌, ◌∙◌, ℕ, Bool, List, Ok, Err, ap, subst, sym, length}
 use Rattle.bpf_journal.specs.Histories.{Record}
-use Rattle.bpf_journal.specs.Timelines.{Moment}
-use Rattle.bpf_ring.specs.declared.keeper.RingKeeper.{RingKeeper}
 use Rattle.bpf_steps.specs.State.{State}
 use Rattle.bpf_whynot.specs.Answers.{Query, why_not}
 use Rattle.bpf_whynot.specs.Asked.{Goals, goals_in}
@@ -16,7 +14,9 @@ use Rattle.bpf_lines.specs.declared.place_names.Names.{Names}
 use Rattle.bpf_isa.specs.Programs.{Checked}
 use Rattle.bpf_whynot.specs.declared.fault.GoalFault.TheVariants.{NoSlot}
 use Rattle.bpf_load.specs.declared.loading.LinkedObject.{LinkedObject}
-use Rattle.bpfdb_jobs.specs.Jobs.{AreAsked, AsksGoals, IsKnown, Prints, asked_of, named_print, section_of}
+use Rattle.bpfdb_jobs.specs.Jobs.{AreAsked, AsksGoals, Prints, asked_of, named_print, section_of, stop_for}
+use Rattle.bpf_trace.specs.declared.strict_run.Unwritten.{Unwritten}
+use Rattle.bpfdb_jobs.specs.declared.origin.Reached.{Reached}
 use Rattle.bpfdb_jobs.specs.Openings.{HasArrived}
 use Rattle.bpfdb_jobs.specs.Origins.{AreNamesOf, RefusesNames}
 use Rattle.bpf_questions.specs.Refusals.{lacks_place}
@@ -64,17 +64,18 @@ goal-refuses ask job known program slots fault (OtherMap number) asked none r = 
 goal-refuses ask job known program slots fault (OtherObject why name) asked none r = absurd r
 
 -- a machine where it is asked
-module _ (why : WhynotAsk) (job : Job) (object : Option LinkedObject) (known : Known) (is_known : IsKnown job object known) (moment : Moment RingKeeper) (n : ℕ)
-    (a : HasArrived job object moment n) where
-  -- what is known of the object that was loaded
-  known-here : IsKnown job a.loaded.object known
-  known-here = subst (λ (o : Option LinkedObject). IsKnown job o known) (sym a.of) is_known
+module _ (why : WhynotAsk) (job : Job) (known : Known) (reached : Reached) (a : HasArrived why.is_strict known job reached) where
+  abbrev y : State
+  y = reached.arrived.timeline.state
+
+  abbrev h : List Record
+  h = a.at.point.history
 
   -- the answer about it is printed
-  pub whynot-prints : (s : Query) (goals : Goals) (can : ℕ → List ℕ → Bool) → s ≡ search why known goals a.at.point.history n moment.state
-      → AsksGoals why job known moment.state.program (Ok goals) → TellsReach moment.state.program (goals_left goals a.at.point.history) can
-      → (names : Option Names) → AreNamesOf object (section_of job) job.target.packet names
-      → Prints (Whynot why) job (named_print names s.question.places moment.state (why_not can s a.at.point.history moment.state))
+  pub whynot-prints : (s : Query) (goals : Goals) (can : ℕ → List ℕ → Bool) → s ≡ search why known goals h reached.arrived.moves y
+      → AsksGoals why job known y.program (Ok goals) → TellsReach y.program (goals_left goals h) can
+      → (names : Option Names) → AreNamesOf reached.object (section_of job) job.target.packet names
+      → Prints (Whynot why) job (named_print names reached.read s.question.places y (why_not can s h y))
   whynot-prints s goals can asks named tells names found = (
     a.loaded,
     known,
@@ -83,39 +84,40 @@ module _ (why : WhynotAsk) (job : Job) (object : Option LinkedObject) (known : K
     can,
     names,
     a.opens,
-    known-here,
+    a.is_known,
     a.arrives,
     subst (λ (x : State). AsksGoals why job known x.program (Ok goals)) a.state named,
-    subst (λ (x : State). TellsReach x.program (goals_left goals a.at.point.history) can) a.state tells,
+    subst (λ (x : State). TellsReach x.program (goals_left goals h) can) a.state tells,
     subst (λ (o : Option LinkedObject). AreNamesOf o (section_of job) job.target.packet names) (sym a.of) found,
-    ap (λ (z : Query). named_print names z.question.places moment.state (why_not can z a.at.point.history moment.state)) (asks ∙ ap (λ (k : ℕ). search why known goals a.at.point.history k moment.state) a.counted)
-        ∙ ap (λ (x : State). named_print names known.places x (why_not can (search why known goals a.at.point.history a.at.moves x) a.at.point.history x)) a.state,
+    ap (λ (z : Query). named_print names reached.read z.question.places y (why_not can z h y)) (asks ∙ ap (λ (k : ℕ). search why known goals h k y) a.counted)
+        ∙ ap (λ (r : Option Unwritten). named_print names r known.places y (why_not can (search why known goals h a.at.moves y) h y)) a.stop
+        ∙ ap (λ (x : State). named_print names (stop_for why.is_strict known job a.loaded) known.places x (why_not can (search why known goals h a.at.moves x) h x)) a.state,
   )
 
   -- nothing is known of the names in maps
-  pub names-lack : (goals : Goals) → AsksGoals why job known moment.state.program (Ok goals) → (fault : LinkFault) (name : Bor (List ℕ))
-      → RefusesNames object (section_of job) fault name.now → RefusesAs (Whynot why) job (Object fault name)
+  pub names-lack : (goals : Goals) → AsksGoals why job known y.program (Ok goals) → (fault : LinkFault) (name : Bor (List ℕ))
+      → RefusesNames reached.object (section_of job) fault name.now → RefusesAs (Whynot why) job (Object fault name)
   names-lack goals named fault name lacks = (
     a.loaded,
     known,
     a.at,
     goals,
     a.opens,
-    known-here,
+    a.is_known,
     a.arrives,
     subst (λ (x : State). AsksGoals why job known x.program (Ok goals)) a.state named,
     subst (λ (o : Option LinkedObject). RefusesNames o (section_of job) fault name.now) (sym a.of) lacks,
   )
 
   -- and so is what it refuses
-  at-goals : (goals : Result Goals GoalFault) → AsksGoals why job known moment.state.program goals → AsksGoals why job known a.at.point.state.program goals
+  at-goals : (goals : Result Goals GoalFault) → AsksGoals why job known y.program goals → AsksGoals why job known a.at.point.state.program goals
   at-goals goals named = subst (λ (x : State). AsksGoals why job known x.program goals) a.state named
 
-  pub whynot-refuses : (refusal : JobRefusal) → RefusesGoals why job known moment.state.program refusal → RefusesAs (Whynot why) job refusal
+  pub whynot-refuses : (refusal : JobRefusal) → RefusesGoals why job known y.program refusal → RefusesAs (Whynot why) job refusal
   whynot-refuses (Journal fault) r = subst (λ f. RefusesWhynot why job (Journal f)) (sym r) (a.opens.opens.short, a.opens.sized)
   whynot-refuses (Listing fault) r = r
-  whynot-refuses (Goal fault) r = (a.loaded, known, a.at, a.opens, known-here, a.arrives, at-goals (Err fault) r.0, r.1)
-  whynot-refuses (NoPlace name) r = (r.0, (a.loaded, known, a.at, a.opens, known-here, a.arrives, at-goals (Err NoSlot) r.1, r.2))
+  whynot-refuses (Goal fault) r = (a.loaded, known, a.at, a.opens, a.is_known, a.arrives, at-goals (Err fault) r.0, r.1)
+  whynot-refuses (NoPlace name) r = (r.0, (a.loaded, known, a.at, a.opens, a.is_known, a.arrives, at-goals (Err NoSlot) r.1, r.2))
   whynot-refuses (Maps fault) r = absurd r
   whynot-refuses (Load fault) r = absurd r
   whynot-refuses (Opening fault) r = absurd r

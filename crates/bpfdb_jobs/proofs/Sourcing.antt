@@ -55,7 +55,7 @@ module _ (names : Option Names) (texts : SlotTexts) (scope : Scope) (options : O
     (q : Question) (asks : q ≡ record { addresses = scope.addresses; lines = scope.lines; opening = length (behind options v.steps x).point.history == moves; places = texts })
     (asked : List Part) (is : asked ≡ asked_at moment.state.status v.parts moment.state) where
   abbrev told : Question → List Part → State → List ℕ
-  told z parts y = named_by names (found_text z.places y (answer_about z parts (behind options v.steps x).point.history y))
+  told z parts y = named_by names (found_text [] z.places y (answer_about z parts (behind options v.steps x).point.history y))
 
   asks-as : q ≡ question_by texts scope (behind options v.steps x)
   asks-as = asks
@@ -71,7 +71,7 @@ module _ (names : Option Names) (texts : SlotTexts) (scope : Scope) (options : O
   nothing-told none = told-none asked (told q asked moment.state) none ∙ whole
 
   pub something-told : (length asked == 0) ≡ false
-      → named_by names (asked_text q asked (behind options v.steps x).point.history moment.state []) ≡ source names texts scope options x v
+      → named_by names (asked_text [] q asked (behind options v.steps x).point.history moment.state []) ≡ source names texts scope options x v
   something-told some =
       ap (λ (text : List ℕ). named_by names (standing q.places moment.state ++ codes "\n" ++ text)) (append-nil _)
       ∙ told-some asked (told q asked moment.state) some ∙ whole

@@ -41,10 +41,6 @@ told_stop stop = option_map (λ s. (s.steps, s.text.now)) stop
 abbrev pub stop_by : SlotTexts → Option Unwritten → Option (ℕ × List ℕ)
 stop_by places unwritten = option_map (λ read. (read.steps, unwritten_line places read)) unwritten
 
-abbrev pub stop_line : SlotTexts → Option Unwritten → List ℕ
-stop_line places None = []
-stop_line places (Some read) = unwritten_line places read
-
 pub record Stops (strict : Bool) (job : Job) (loaded : Loaded) (places : SlotTexts) (stop : Option Stop) : Type 0 where
   pub own : OwnCode
   pub is_own : HasOwn job loaded.object (option_map (λ texts. map (λ text. text.items) texts.now) places) own

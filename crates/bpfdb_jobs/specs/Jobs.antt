@@ -42,7 +42,6 @@ use Rattle.bpf_opening.specs.declared.fault.OpeningFault.{OpeningFault}
 use Rattle.bpf_opening.specs.declared.opening.Opening.{Opening}
 use Rattle.bpf_steps.specs.State.{State}
 use Rattle.bpf_origin.specs.Answers.{Answer}
-use Rattle.bpf_origin.specs.Asked.{parts_asked}
 use Rattle.bpf_origin.specs.declared.what.What.{What}
 use Rattle.bpf_session.specs.Plain.{ending_of, plain_end}
 use Rattle.bpf_session.specs.Points.{opening}
@@ -72,7 +71,7 @@ use Rattle.bpfdb_script.specs.declared.refusal.Refusal.{Refusal}
 use Rattle.bpfdb_script.specs.SlotTexts.{SlotTexts}
 use Rattle.bpfdb_jobs.specs.MapLines.{linked_told}
 use Rattle.bpfdb_jobs.specs.Programs.{AreSameMaps, check_line, program_text}
-use Rattle.bpfdb_jobs.specs.Origins.{Arrival, AreNamesOf, Asks, IsTail, answer_by, arrival, followed_by, found_text, named_by, question_by, status_of_extent}
+use Rattle.bpfdb_jobs.specs.Origins.{Arrival, AreNamesOf, Asks, IsTail, answer_by, arrival, followed_by, found_text, named_by, parts_for, question_by, status_of_extent, stop_line, strictly, within}
 use Rattle.bpfdb_jobs.specs.Differences.{differences}
 use Rattle.bpfdb_jobs.specs.Results.{result_text}
 use Rattle.bpfdb_jobs.specs.Sources.{both_marked, sources}
@@ -215,13 +214,17 @@ abbrev pub trace_or_stopped : Option Unwritten → TraceAsk → Job → Known �
 trace_or_stopped None trace job known x end = trace_print trace job known x end
 trace_or_stopped (Some read) trace job known x end = record { out = Some (trace_until read (shown_of trace known) x); err = None; status = 1 }
 
--- `origin`: where the machine stands, and where the values came from that are asked about. Where that is, by the job; or why its script is
--- refused.
-abbrev pub arrival_of : Job → Loaded → Result Arrival Refusal
-arrival_of job loaded = arrival job.other job.options (initial_of job loaded)
+-- `origin`: where the machine stands, and where the values came from that are asked about. Where that is, by the job, with `--strict` before the read
+-- that stops its run; or why its script is refused.
+abbrev pub stop_for : Bool → Known → Job → Loaded → Option Unwritten
+stop_for strict known job loaded = unwritten_in (strictly job.other strict) known.own job (initial_of job loaded)
 
-abbrev pub named_print : Option Names → SlotTexts → State → Answer → Print
-named_print names places end answer = record (printed (named_by names (found_text places end answer))) { status = status_of_extent answer.extent }
+abbrev pub arrival_of : Bool → Known → Job → Loaded → Result Arrival Refusal
+arrival_of strict known job loaded = arrival job.other (within (stop_for strict known job loaded) job.options) (initial_of job loaded)
+
+abbrev pub named_print : Option Names → Option Unwritten → SlotTexts → State → Answer → Print
+named_print names stop places end answer =
+    record (printed (named_by names (found_text (stop_line places stop) places end answer))) { status = status_of_extent answer.extent }
 
 -- `whynot`: where the machine stands, and why it did not come to the slots that are asked about.
 abbrev pub asked_of : WhynotAsk → List ℕ
@@ -258,8 +261,8 @@ query_of why known goals at = record {
   alone = why.alone;
 }
 
-abbrev pub whynot_print : Option Names → Query → (ℕ → List ℕ → Bool) → Arrival → Print
-whynot_print names q can at = named_print names q.question.places at.point.state (why_not can q at.point.history at.point.state)
+abbrev pub whynot_print : Option Names → Option Unwritten → Query → (ℕ → List ℕ → Bool) → Arrival → Print
+whynot_print names stop q can at = named_print names stop q.question.places at.point.state (why_not can q at.point.history at.point.state)
 
 -- `lines`: the table of a listing; or of the program to which an object is linked, alone or joined with others, in their order.
 abbrev pub AreLinesFor : Job → LinkedObject → List ObjectLines → Type 0
@@ -469,13 +472,15 @@ Prints (Trace trace) job a = (loaded : Loaded) × (known : Known) × Opens job l
 Prints Debug job a = ⊥
 Prints (Conversation talk) job a = ⊥
 Prints (Origin origin) job a = (loaded : Loaded) × (known : Known) × (at : Arrival) × (what : Option What) × (tail : Answer) × (names : Option Names)
-    × OpensSession job loaded × IsKnown job loaded.object known × (arrival_of job loaded ≡ Ok at) × Asks origin.what at.point.state what
-    × IsTail origin.tells_branches (question_by known.places origin.scope at) (parts_asked at.point.state what) at.point tail
-    × AreNamesOf loaded.object (section_of job) job.target.packet names × (a ≡ named_print names known.places at.point.state (followed_by (answer_by known.places origin.scope what at) tail))
+    × OpensSession job loaded × IsKnown job loaded.object known × (arrival_of origin.is_strict known job loaded ≡ Ok at) × Asks origin.what at.point.state what
+    × IsTail origin.tells_branches (question_by known.places origin.scope at) (parts_for what (stop_for origin.is_strict known job loaded) at.point.state) at.point tail
+    × AreNamesOf loaded.object (section_of job) job.target.packet names
+    × (a ≡ named_print names (stop_for origin.is_strict known job loaded) known.places at.point.state
+    (followed_by (answer_by known.places origin.scope (parts_for what (stop_for origin.is_strict known job loaded) at.point.state) at) tail))
 Prints (Whynot why) job a = (loaded : Loaded) × (known : Known) × (at : Arrival) × (goals : Goals) × (can : ℕ → List ℕ → Bool) × (names : Option Names)
-    × OpensSession job loaded × IsKnown job loaded.object known × (arrival_of job loaded ≡ Ok at) × AsksGoals why job known at.point.state.program (Ok goals)
+    × OpensSession job loaded × IsKnown job loaded.object known × (arrival_of why.is_strict known job loaded ≡ Ok at) × AsksGoals why job known at.point.state.program (Ok goals)
     × TellsReach at.point.state.program (goals_left goals at.point.history) can × AreNamesOf loaded.object (section_of job) job.target.packet names
-    × (a ≡ whynot_print names (query_of why known goals at) can at)
+    × (a ≡ whynot_print names (stop_for why.is_strict known job loaded) (query_of why known goals at) can at)
 Prints (Diff diff) job a = DiffPrints (is_trace diff.other) diff job a
 Prints (Gdb registers) job a = ⊥
 Prints (Test tests) job a = ⊥

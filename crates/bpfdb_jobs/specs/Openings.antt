@@ -7,7 +7,7 @@ use Rattle.bpf_journal.specs.Timelines.{Moment}
 use Rattle.bpf_journal.specs.Tracks.{RingHolds, ring_room}
 use Rattle.bpf_ring.specs.declared.keeper.RingKeeper.{RingKeeper}
 use Rattle.bpf_origin.specs.Answers.{Answer}
-use Rattle.bpf_origin.specs.Asked.{answer_about, parts_asked}
+use Rattle.bpf_origin.specs.Asked.{answer_about}
 use Rattle.bpf_origin.specs.declared.place.Part.{Part}
 use Rattle.bpf_origin.specs.declared.question.Extent.TheVariants.{Whole}
 use Rattle.bpf_origin.specs.declared.question.Question.{Question}
@@ -22,7 +22,7 @@ use Rattle.bpfdb_jobs.specs.Connections.{Begins}
 use Rattle.bpf_diff.specs.Values.{Pair, pair_of}
 use Rattle.bpf_diff.specs.declared.texts.BothTexts.{BothTexts}
 use Rattle.bpf_entries.specs.Keeping.{IsSize}
-use Rattle.bpfdb_jobs.specs.Jobs.{AreNamesFor, AreTold, HasRoom, IsKnown, IsOtherRun, Opens, OpensSession, arrival_of, begun_for, comparison_of, initial_of}
+use Rattle.bpfdb_jobs.specs.Jobs.{AreNamesFor, AreTold, HasRoom, IsKnown, IsOtherRun, Opens, OpensSession, arrival_of, begun_for, comparison_of, initial_of, stop_for}
 use Rattle.bpfdb_jobs.specs.Programs.{AreSameMaps}
 use Rattle.bpfdb_jobs.specs.Sources.{behind, sources}
 use Rattle.bpfdb_jobs.specs.declared.runs.ComparedRuns.{ComparedRuns}
@@ -31,7 +31,9 @@ use Rattle.bpfdb_options.specs.Asks.{is_trace}
 use Rattle.bpfdb_options.specs.declared.ask.DiffAsk.{DiffAsk}
 use Rattle.bpfdb_options.specs.declared.ask.OriginAsk.{OriginAsk}
 use Rattle.bpfdb_options.specs.declared.options.Options.{Options}
-use Rattle.bpfdb_jobs.specs.Origins.{Arrival, Asks, IsTail, followed_by, found_text, named_by, question_by}
+use Rattle.bpfdb_jobs.specs.Origins.{Arrival, Asks, IsTail, followed_by, found_text, named_by, parts_for, question_by, stop_line}
+use Rattle.bpf_trace.specs.declared.strict_run.Unwritten.{Unwritten}
+use Rattle.bpfdb_jobs.specs.declared.origin.Reached.{Reached}
 use Rattle.bpfdb_jobs.specs.declared.job.Job.{Job}
 use Rattle.bpfdb_jobs.specs.declared.known.Known.{Known}
 
@@ -99,43 +101,44 @@ pub record IsStart (job : Job) (program : Checked) (moment : Moment RingKeeper) 
   pub empty : RingHolds moment.keeper []
   pub room : ring_room moment.keeper ≡ job.options.journal
 
--- It stands where `origin` asks of the job, behind so many moves.
-pub record HasArrived (job : Job) (object : Option LinkedObject) (moment : Moment RingKeeper) (moves : ℕ) : Type 0 where
+-- It stands where `origin` asks of the job, behind so many moves, and what is known there of the program, and of the read that stopped a strict run.
+pub record HasArrived (strict : Bool) (known : Known) (job : Job) (reached : Reached) : Type 0 where
   pub loaded : Loaded
-  pub of : loaded.object ≡ object
+  pub of : loaded.object ≡ reached.object
+  pub is_known : IsKnown job loaded.object known
   pub at : Arrival
   pub opens : OpensSession job loaded
-  pub arrives : arrival_of job loaded ≡ Ok at
-  pub state : moment.state ≡ at.point.state
-  pub held : StandsFor RingHolds moment.keeper moment.state at.point.history
-  pub counted : moves ≡ at.moves
+  pub stop : reached.read ≡ stop_for strict known job loaded
+  pub line : reached.line.items ≡ stop_line known.places reached.read
+  pub arrives : arrival_of strict known job loaded ≡ Ok at
+  pub state : reached.arrived.timeline.state ≡ at.point.state
+  pub held : StandsFor RingHolds reached.arrived.timeline.keeper reached.arrived.timeline.state at.point.history
+  pub counted : reached.arrived.moves ≡ at.moves
 
 -- The job asks about these parts of a state.
-abbrev pub AreAskedParts : OriginAsk → State → List Part → Type 0
-AreAskedParts origin x parts = (what : Option What) × Asks origin.what x what × (parts ≡ parts_asked x what)
+abbrev pub AreAskedParts : OriginAsk → Option Unwritten → State → List Part → Type 0
+AreAskedParts origin read x parts = (what : Option What) × Asks origin.what x what × (parts ≡ parts_for what read x)
 
 -- It is asked there about these parts, and in this way.
-pub record IsAsked (origin : OriginAsk) (job : Job) (object : Option LinkedObject) (moment : Moment RingKeeper) (moves : ℕ) (parts : List Part) (q : Question) : Type 0 where
-  pub arrived : HasArrived job object moment moves
-  pub about : AreAskedParts origin moment.state parts
+pub record IsAsked (origin : OriginAsk) (job : Job) (reached : Reached) (parts : List Part) (q : Question) : Type 0 where
   pub known : Known
-  pub is_known : IsKnown job object known
+  pub arrived : HasArrived origin.is_strict known job reached
+  pub about : AreAskedParts origin reached.read reached.arrived.timeline.state parts
   pub way : q ≡ question_by known.places origin.scope arrived.at
 
 -- And this stands behind the answer.
-pub record HasTail (origin : OriginAsk) (job : Job) (object : Option LinkedObject) (moment : Moment RingKeeper) (moves : ℕ) (parts : List Part) (q : Question) (tail : Answer)
-    : Type 0 where
-  pub asked : IsAsked origin job object moment moves parts q
+pub record HasTail (origin : OriginAsk) (job : Job) (reached : Reached) (parts : List Part) (q : Question) (tail : Answer) : Type 0 where
+  pub asked : IsAsked origin job reached parts q
   pub is : IsTail origin.tells_branches q parts asked.arrived.at.point tail
 
--- What is written where the machine stands: the answer about these parts, and a text behind it.
-abbrev pub asked_text : Question → List Part → List Record → State → List ℕ → List ℕ
-asked_text q parts h x tail = found_text q.places x (followed_by (answer_about q parts h x) (record { text = tail; extent = Whole }))
+-- What is written where the machine stands: a line before that, the answer about these parts, and a text behind it.
+abbrev pub asked_text : List ℕ → Question → List Part → List Record → State → List ℕ → List ℕ
+asked_text stop q parts h x tail = found_text stop q.places x (followed_by (answer_about q parts h x) (record { text = tail; extent = Whole }))
 
 -- With the names of places in maps, where they are known.
-abbrev pub told_text : Option (Bor Names) → Question → List Part → List Record → State → List ℕ → List ℕ
-told_text names q parts h x tail = named_by (option_map (λ n. n.now) names) (asked_text q parts h x tail)
+abbrev pub told_text : Option (Bor Names) → List ℕ → Question → List Part → List Record → State → List ℕ → List ℕ
+told_text names stop q parts h x tail = named_by (option_map (λ n. n.now) names) (asked_text stop q parts h x tail)
 
 -- What is written of why the program did not come to some slots, with those names.
-abbrev pub why_text : Option (Bor Names) → (ℕ → List ℕ → Bool) → Query → List Record → State → List ℕ
-why_text names can q h x = named_by (option_map (λ n. n.now) names) (found_text q.question.places x (why_not can q h x))
+abbrev pub why_text : Option (Bor Names) → List ℕ → (ℕ → List ℕ → Bool) → Query → List Record → State → List ℕ
+why_text names stop can q h x = named_by (option_map (λ n. n.now) names) (found_text stop q.question.places x (why_not can q h x))

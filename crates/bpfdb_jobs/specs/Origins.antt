@@ -1,5 +1,5 @@
 -- What `origin` is asked, and what it answers: over the history that the journal keeps of a run to the program's end or to the limit of steps,
--- or of the session of a script.
+-- or to the read that stops a strict one, or of the session of a script.
 use Rattle.std.specs.Prelude.{ℕ, ◌≡◌, ◌==◌, Bool, true, false, List, [], ◌∷◌, ◌++◌, Option, Some, None, Result, Ok, Err, if◌then◌else◌, codes, length}
 use Rattle.std.specs.Borrow.{Bor}
 use Rattle.bpf_whynot.specs.Branches.{AreBranches}
@@ -7,7 +7,10 @@ use Rattle.bpf_journal.specs.Histories.{Record}
 use Rattle.bpf_journal.specs.Runs.{history_after}
 use Rattle.bpf_steps.specs.State.{State}
 use Rattle.bpf_origin.specs.Answers.{Answer}
+use Rattle.bpf_machine.specs.declared.moves.Move.TheVariants as move
+use Rattle.bpf_entries.specs.Status.{has_ended}
 use Rattle.bpf_origin.specs.Asked.{answer_about, parts_asked, what_in}
+use Rattle.bpf_origin.specs.Reads.{followed}
 use Rattle.bpf_origin.specs.declared.fault.WhatFault.{WhatFault}
 use Rattle.bpf_origin.specs.declared.place.Part.{Part}
 use Rattle.bpf_origin.specs.declared.question.Extent.{Extent}
@@ -35,6 +38,8 @@ use Rattle.bpfdb_script.specs.declared.refusal.Refusal.{Refusal}
 use Rattle.bpfdb_options.specs.declared.ask.Scope.{Scope}
 use Rattle.bpfdb_options.specs.declared.options.Options.{Options}
 use Rattle.bpf_trace.specs.Traces.{standing}
+use Rattle.bpf_trace.specs.UnwrittenTexts.{unwritten_line}
+use Rattle.bpf_trace.specs.declared.strict_run.Unwritten.{Unwritten}
 use Rattle.counted_io.specs.Lines.{lines}
 use Rattle.bpfdb_script.specs.SlotTexts.{SlotTexts}
 
@@ -89,6 +94,28 @@ abbrev pub arrival : Option (Bor (List ℕ)) → Options → State → Result Ar
 arrival None options x = Ok (run_arrival options x)
 arrival (Some script) options x = obeyed (bounds options) (lines script.now) (record { point = opening x; moves = 0 })
 
+-- A strict run ends before the read that stops it: as many steps as come before that are its limit. No script is obeyed so.
+abbrev pub strictly : Option (Bor (List ℕ)) → Bool → Bool
+strictly None strict = strict
+strictly (Some script) strict = false
+
+abbrev pub steps_to : Option Unwritten → ℕ → ℕ
+steps_to None limit = limit
+steps_to (Some read) limit = read.steps
+
+abbrev pub within : Option Unwritten → Options → Options
+within read options = record options { limit = steps_to read options.limit }
+
+-- Before that read it is asked, where nothing is named, about what its instruction reads.
+abbrev pub parts_read : Bool → State → List Part
+parts_read true x = parts_asked x None
+parts_read false x = followed false x move.Step
+
+abbrev pub parts_for : Option What → Option Unwritten → State → List Part
+parts_for (Some what) read x = parts_asked x (Some what)
+parts_for None None x = parts_asked x None
+parts_for None (Some read) x = parts_read (has_ended x.status) x
+
 -- How it is asked, with what is told of slots. The oldest kept state is the opening where the journal has each move.
 abbrev pub question_by : SlotTexts → Scope → Arrival → Question
 question_by places scope a = record {
@@ -99,8 +126,8 @@ question_by places scope a = record {
 }
 
 -- The answer there.
-abbrev pub answer_by : SlotTexts → Scope → Option What → Arrival → Answer
-answer_by places scope what a = answer_about (question_by places scope a) (parts_asked a.point.state what) a.point.history a.point.state
+abbrev pub answer_by : SlotTexts → Scope → List Part → Arrival → Answer
+answer_by places scope parts a = answer_about (question_by places scope a) parts a.point.history a.point.state
 
 -- What stands behind that: with `--branches` those branches that decided that the moves were made which the answer about these parts tells, and that the
 -- program came there; else nothing.
@@ -116,9 +143,14 @@ both_extents first second = first
 abbrev pub followed_by : Answer → Answer → Answer
 followed_by first second = record { text = first.text ++ second.text; extent = both_extents first.extent second.extent }
 
--- What is written of it: where the machine stands, with what is told of its slot, and the answer.
-abbrev pub found_text : SlotTexts → State → Answer → List ℕ
-found_text places end answer = standing places end ++ codes "\n" ++ answer.text
+-- What is written of it: the line of the read that stopped a strict run, if there is one; where the machine stands, with what is told of its slot; and the
+-- answer.
+abbrev pub stop_line : SlotTexts → Option Unwritten → List ℕ
+stop_line places None = []
+stop_line places (Some read) = unwritten_line places read
+
+abbrev pub found_text : List ℕ → SlotTexts → State → Answer → List ℕ
+found_text stop places end answer = stop ++ standing places end ++ codes "\n" ++ answer.text
 
 -- The names in the maps of a program that was linked; they stand in it where they are known.
 abbrev pub AreNamesOf : Option LinkedObject → List ℕ → Option Packet → Option Names → Type 0

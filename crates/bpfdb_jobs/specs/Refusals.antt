@@ -33,7 +33,7 @@ use Rattle.input_texts.specs.TraceFaults.{bad_line}
 use Rattle.bpf_diff.specs.Values.{Pair}
 use Rattle.bpf_steps.specs.Platform.{context_limit}
 use Rattle.bpfdb_jobs.specs.Jobs.{AsksGoals, IsKnown, IsOtherRun, Opens, OpensSession, arrival_of, asked_of, comparison_of, initial_of, is_listing, is_memory, links_first, opening_asked, other_bytes, section_of}
-use Rattle.bpfdb_jobs.specs.Origins.{Arrival, Asks, RefusesNames, RefusesWhat}
+use Rattle.bpfdb_jobs.specs.Origins.{Arrival, Asks, RefusesNames, RefusesWhat, arrival}
 use Rattle.bpfdb_jobs.specs.Programs.{AreSameMaps, IsOtherMap}
 use Rattle.bpfdb_jobs.specs.declared.diff.OtherFault.{OtherFault}
 use Rattle.bpfdb_jobs.specs.declared.diff.OtherFault.TheVariants as of_other
@@ -68,19 +68,19 @@ RefusesMachine job refusal = Refuses job refusal
 
 -- `origin` and `whynot` look at a session's, then at the lines of its script, then at what is asked about there, and last at the names in maps.
 abbrev pub RefusesArrival : Job → JobRefusal → Type 0
-RefusesArrival job (Script refusal) = (loaded : Loaded) × OpensSession job loaded × (arrival_of job loaded ≡ Err refusal)
+RefusesArrival job (Script refusal) = (loaded : Loaded) × OpensSession job loaded × (arrival job.other job.options (initial_of job loaded) ≡ Err refusal)
 RefusesArrival job refusal = Refuses job refusal
 
 abbrev pub RefusesOrigin : OriginAsk → Job → JobRefusal → Type 0
-RefusesOrigin origin job (What fault) = (loaded : Loaded) × (at : Arrival) × OpensSession job loaded × (arrival_of job loaded ≡ Ok at)
-    × RefusesWhat origin.what at.point.state fault
-RefusesOrigin origin job (Object fault name) = (loaded : Loaded) × (at : Arrival) × (what : Option Asked) × OpensSession job loaded
-    × (arrival_of job loaded ≡ Ok at) × Asks origin.what at.point.state what × RefusesNames loaded.object (section_of job) fault name.now
+RefusesOrigin origin job (What fault) = (loaded : Loaded) × (known : Known) × (at : Arrival) × OpensSession job loaded
+    × IsKnown job loaded.object known × (arrival_of origin.is_strict known job loaded ≡ Ok at) × RefusesWhat origin.what at.point.state fault
+RefusesOrigin origin job (Object fault name) = (loaded : Loaded) × (known : Known) × (at : Arrival) × (what : Option Asked) × OpensSession job loaded
+    × IsKnown job loaded.object known × (arrival_of origin.is_strict known job loaded ≡ Ok at) × Asks origin.what at.point.state what × RefusesNames loaded.object (section_of job) fault name.now
 RefusesOrigin origin job refusal = RefusesArrival job refusal
 
 abbrev pub RefusesGoal : WhynotAsk → Job → GoalFault → Bool → Type 0
 RefusesGoal why job fault lacks = (loaded : Loaded) × (known : Known) × (at : Arrival) × OpensSession job loaded × IsKnown job loaded.object known
-    × (arrival_of job loaded ≡ Ok at) × AsksGoals why job known at.point.state.program (Err fault) × (lacks_place fault (asked_of why) ≡ lacks)
+    × (arrival_of why.is_strict known job loaded ≡ Ok at) × AsksGoals why job known at.point.state.program (Err fault) × (lacks_place fault (asked_of why) ≡ lacks)
 
 -- (Memory may run out where the place of a listing is looked up.)
 abbrev pub RefusesWhynot : WhynotAsk → Job → JobRefusal → Type 0
@@ -88,7 +88,7 @@ RefusesWhynot why job (Listing fault) = (is_listing job.target.kind ≡ true) ×
 RefusesWhynot why job (Goal fault) = RefusesGoal why job fault false
 RefusesWhynot why job (NoPlace name) = (name.now ≡ asked_of why) × RefusesGoal why job NoSlot true
 RefusesWhynot why job (Object fault name) = (loaded : Loaded) × (known : Known) × (at : Arrival) × (goals : Goals) × OpensSession job loaded
-    × IsKnown job loaded.object known × (arrival_of job loaded ≡ Ok at) × AsksGoals why job known at.point.state.program (Ok goals)
+    × IsKnown job loaded.object known × (arrival_of why.is_strict known job loaded ≡ Ok at) × AsksGoals why job known at.point.state.program (Ok goals)
     × RefusesNames loaded.object (section_of job) fault name.now
 RefusesWhynot why job refusal = RefusesArrival job refusal
 

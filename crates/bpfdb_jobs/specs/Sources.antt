@@ -32,7 +32,7 @@ told_of (p ∷ parts) text = text
 
 abbrev pub source_about : Option Names → SlotTexts → Scope → List Part → Arrival → List ℕ
 source_about names texts scope parts at = told_of parts
-    (named_by names (found_text texts at.point.state (answer_about (question_by texts scope at) parts at.point.history at.point.state)))
+    (named_by names (found_text [] texts at.point.state (answer_about (question_by texts scope at) parts at.point.history at.point.state)))
 
 abbrev pub source_at : Option Names → SlotTexts → Scope → List Part → Arrival → List ℕ
 source_at names texts scope parts at =

@@ -66,19 +66,18 @@ pub fn open_again(
 }
 
 /// A machine before its first step, with an empty journal.
-pub fn timeline_of(
+pub fn timeline_over(
     alloc: Global,
     job: &Job<'_>,
-    program: Program,
+    cpu: Cpu,
 ) -> Result<Timeline<RingKeeper>, JobRefusal<'static>>
-    ensures ok { IfOk result (IsStart job.now program) }
-    ensures runs { IfOk result (λ timeline. has_ended timeline.state.status ≡ false) }
-    ensures err { IfErr result (Refuses job.now) }
+    ensures ok { (program : Checked) → OpensMachine job.now program cpu →
+        IfOk result (IsStart job.now program) }
+    ensures runs { (program : Checked) → OpensMachine job.now program cpu →
+        IfOk result (λ timeline. has_ended timeline.state.status ≡ false) }
+    ensures err { (program : Checked) → OpensMachine job.now program cpu →
+        IfErr result (Refuses job.now) }
 {
-    let cpu = match machine_of(alloc, job, program) {
-        Ok(cpu) => cpu,
-        Err(refusal) => return Err(refusal),
-    };
     match RingKeeper::open(alloc, job.options.journal as usize) {
         Ok(keeper) => Ok(Timeline::start(cpu, keeper)),
         Err(fault) => Err(JobRefusal::Journal(fault)),

@@ -10,7 +10,7 @@ ghost use Rattle.bpfdb_jobs.specs.Sources as spec;
 
 use crate::job::Job;
 use crate::opening::open_again;
-use crate::origin::{Arrived, put_told, question_of};
+use crate::origin::{Around, Arrived, put_told, question_of};
 use bpf_diff::Values;
 use bpf_journal::{JournalFault, RingKeeper, Timeline};
 use bpf_lines::Names;
@@ -116,6 +116,10 @@ fn source_of(
         return Ok(Vec::new(alloc));
     }
     let question = question_of(scope, &arrived, places);
+    let around = Around {
+        stop: &[],
+        tail: &[],
+    };
     let mut writer = Counted::new(Vec::new(alloc));
     let told = match put_told(
         alloc,
@@ -123,7 +127,7 @@ fn source_of(
         &mut arrived,
         asked.as_slice(),
         question,
-        &[],
+        around,
         &mut writer,
     ) {
         Ok(told) => told,
@@ -170,7 +174,7 @@ fn rerun(
 }
 
 /// Takes so many steps, or fewer where the machine ends, and keeps each. Answers how many.
-fn run_for(timeline: &mut Timeline<RingKeeper>, steps: u64) -> u64
+pub(crate) fn run_for(timeline: &mut Timeline<RingKeeper>, steps: u64) -> u64
     requires { has_ended timeline.old.state.status ≡ false }
     ensures { RunsKept steps timeline.old timeline.new result }
 {

@@ -3,8 +3,9 @@
 ghost use Rattle.std.specs.Prelude.{◌≡◌, IfErr, IfOk, option_map};
 ghost use Rattle.bpf_trace.specs.UnwrittenTexts.{unwritten_line};
 ghost use Rattle.counted_io.specs.Writing.{Writes};
-ghost use Rattle.bpfdb_jobs.specs.Conversations.{stop_line, told_stop};
+ghost use Rattle.bpfdb_jobs.specs.Conversations.{told_stop};
 ghost use Rattle.bpfdb_jobs.specs.Jobs.{OpensMachine, unwritten_in};
+ghost use Rattle.bpfdb_jobs.specs.Origins.{stop_line};
 ghost use Rattle.bpfdb_jobs.specs.Refusals.{RefusesMachine};
 ghost use Rattle.bpfdb_faults.specs.declared.refusal.JobRefusal.TheVariants.{Journal};
 ghost use Rattle.bpf_ring.specs.declared.fault.JournalFault.TheVariants.{OutOfMemory};

@@ -3,7 +3,7 @@ ghost use Rattle.std.specs.Prelude.{◌≡◌, ◌≤◌, ℕ, IfErr, IfOk, List
 ghost use Rattle.bpf_isa.specs.Programs.{Checked};
 ghost use Rattle.bpf_journal.specs.Histories.{Record, StandsFor};
 ghost use Rattle.bpf_journal.specs.Tracks.{RingHolds};
-ghost use Rattle.bpf_load.specs.Targets.{Loads, lent};
+ghost use Rattle.bpf_load.specs.Targets.{Loads};
 ghost use Rattle.bpf_whynot.specs.Answers.{why_not};
 ghost use Rattle.bpf_whynot.specs.Asking.{query};
 ghost use Rattle.bpf_whynot.specs.Tables.{AreGoals, told_by};
@@ -24,7 +24,7 @@ use crate::origin::{Arrived, FoundText, Reached, arrive, bytes_of, names_of, sta
 use crate::streams::Streams;
 use bpf_journal::{JournalFault, Keeper, RingKeeper, Timeline};
 use bpf_lines::{Names, is_place, listing_slots, put_named};
-use bpf_load::{LinkedObject, Loaded, SourceKind};
+use bpf_load::{Loaded, SourceKind};
 use bpf_origin::{Question, Told, Wanted};
 use bpf_trace::put_standing;
 use bpf_whynot::{Aim, AimFault, GoalFault, Search, put_whynot};
@@ -34,8 +34,9 @@ use counted_io::{Counted, WriteFault, put};
 use std::alloc::{AllocError, Global};
 use std::io::Write;
 
-/// Runs the program to its end or to the limit, or obeys the script where there is one, and writes
-/// where the machine stands then and why the program did not come to the slots that are asked about.
+/// Runs the program to its end or to the limit, or, if that is asked, to the first read of the stack where
+/// nothing was written; or obeys the script where there is one. Then it writes where the machine stands
+/// and why the program did not come to the slots that are asked about.
 pub fn whynot_job<W: Write, E: Write>(
     alloc: Global,
     why: &WhynotAsk<'_>,
@@ -51,22 +52,10 @@ pub fn whynot_job<W: Write, E: Write>(
         (between W.contents E.contents streams.old streams.new) result }
     ensures status { result ≤ 2 }
 {
-    let Reached {
-        mut arrived,
-        object,
-    } = match arrive(alloc, job, loaded) {
-        Ok(reached) => reached,
-        Err(refusal) => return give_up(&mut streams.errors, &JobFault::Refused(refusal)),
-    };
-    ask_why(
-        alloc,
-        why,
-        job,
-        object.as_ref(),
-        known,
-        &mut arrived,
-        streams,
-    )
+    match arrive(alloc, job, why.is_strict, known, loaded) {
+        Ok(reached) => ask_why(alloc, why, job, known, reached, streams),
+        Err(refusal) => give_up(&mut streams.errors, &JobFault::Refused(refusal)),
+    }
 }
 
 /// Writes where the machine stands, and why the program did not come to the slots.
@@ -74,24 +63,29 @@ fn ask_why<W: Write, E: Write>(
     alloc: Global,
     why: &WhynotAsk<'_>,
     job: &Job<'_>,
-    object: Option<&LinkedObject>,
     known: Known<'_>,
-    arrived: &mut Arrived,
+    reached: Reached,
     streams: &mut Streams<W, E>,
 ) -> u8
-    requires arrived { HasArrived job.now (lent object) arrived.old.timeline arrived.old.moves }
-    requires known { IsKnown job.now (lent object) known }
+    requires { HasArrived why.now.is_strict known job.now reached }
     ensures does { EndsPrinted (Whynot why.now) job.now
         (between W.contents E.contents streams.old streams.new) result }
     ensures status { result ≤ 2 }
 {
+    let Reached {
+        mut arrived,
+        object,
+        line,
+        ..
+    } = reached;
+    let source = object.as_ref();
     let aim = match aim_of(alloc, why, job, known, &arrived.timeline) {
         Ok(aim) => aim,
         Err(refusal) => return give_up(&mut streams.errors, &JobFault::Refused(refusal)),
     };
-    let names = match names_of(alloc, job, object) {
+    let names = match names_of(alloc, job, source) {
         Ok(names) => names,
-        Err(fault) => return refuse(job, bytes_of(object), &mut streams.errors, fault),
+        Err(fault) => return refuse(job, bytes_of(source), &mut streams.errors, fault),
     };
     let question = Question {
         addresses: why.scope.addresses,
@@ -106,7 +100,9 @@ fn ask_why<W: Write, E: Write>(
         question,
         alone: why.alone,
     };
-    match put_told(alloc, names.as_ref(), arrived, &search, &mut streams.output) {
+    let stop = line.as_slice();
+    let output = &mut streams.output;
+    match put_told(alloc, names.as_ref(), &mut arrived, &search, stop, output) {
         Ok(told) => match told.written {
             Ok(()) => status_of(told.extent),
             Err(WriteFault) => give_up(&mut streams.errors, &JobFault::Output),
@@ -204,17 +200,19 @@ pub(crate) fn asked<'a>(why: &WhynotAsk<'a>) -> &'a str
     }
 }
 
-/// Writes where a machine stands, and why its program did not come to the slots, and flushes.
+/// Writes a line and where a machine stands, and why its program did not come to the slots, and flushes.
 fn put_why<K: Keeper, W: Write>(
     timeline: &mut Timeline<K>,
     search: &Search<'_>,
     wanted: &mut Wanted,
+    stop: &[u8],
     writer: &mut Counted<W>,
 ) -> Told
     ensures text { (program : Checked) (goals : List ℕ) (h : List Record) →
         AreGoals program goals search.now.goals.now →
         StandsFor K.holds timeline.old.keeper timeline.old.state h →
-        Writes W.contents writer.old writer.new result.written (found_text search.now.question.places timeline.old.state
+        Writes W.contents writer.old writer.new result.written
+        (found_text stop.now search.now.question.places timeline.old.state
         (why_not (told_by search.now.reach.now) (query search.now goals) h timeline.old.state)) }
     ensures extent { (program : Checked) (goals : List ℕ) (h : List Record) →
         AreGoals program goals search.now.goals.now →
@@ -222,7 +220,8 @@ fn put_why<K: Keeper, W: Write>(
         ≡ (why_not (told_by search.now.reach.now) (query search.now goals) h
         timeline.old.state).extent }
 {
-    let placed = put_standing(writer, Ok(()), search.question.places, timeline.cpu());
+    let stopped = put(writer, Ok(()), stop);
+    let placed = put_standing(writer, stopped, search.question.places, timeline.cpu());
     let ended = put(writer, placed, b"\n");
     let told = put_whynot(timeline, search, wanted, writer, ended);
     Told {
@@ -239,13 +238,14 @@ fn put_told<W: Write>(
     names: Option<&Names<'_>>,
     arrived: &mut Arrived,
     search: &Search<'_>,
+    stop: &[u8],
     writer: &mut Counted<W>,
 ) -> Result<Told, AllocError>
     ensures text { (program : Checked) (goals : List ℕ) (h : List Record) →
         AreGoals program goals search.now.goals.now →
         StandsFor RingHolds arrived.old.timeline.keeper arrived.old.timeline.state h →
         IfOk result (λ told. Writes W.contents writer.old writer.new told.written
-        (why_text names.entry (told_by search.now.reach.now) (query search.now goals) h
+        (why_text names.entry stop.now (told_by search.now.reach.now) (query search.now goals) h
         arrived.old.timeline.state)) }
     ensures extent { (program : Checked) (goals : List ℕ) (h : List Record) →
         AreGoals program goals search.now.goals.now →
@@ -259,10 +259,11 @@ fn put_told<W: Write>(
         Some(names) => names,
         None => {
             let timeline = &mut arrived.timeline;
-            return Ok(put_why(timeline, search, &mut arrived.wanted, writer));
+            return Ok(put_why(timeline, search, &mut arrived.wanted, stop, writer));
         }
     };
-    let found = match why_found(alloc, &mut arrived.timeline, search, &mut arrived.wanted) {
+    let timeline = &mut arrived.timeline;
+    let found = match why_found(alloc, timeline, search, &mut arrived.wanted, stop) {
         Ok(found) => found,
         Err(error) => return Err(error),
     };
@@ -280,11 +281,12 @@ fn why_found<K: Keeper>(
     timeline: &mut Timeline<K>,
     search: &Search<'_>,
     wanted: &mut Wanted,
+    stop: &[u8],
 ) -> Result<FoundText, AllocError>
     ensures text { (program : Checked) (goals : List ℕ) (h : List Record) →
         AreGoals program goals search.now.goals.now →
         StandsFor K.holds timeline.old.keeper timeline.old.state h →
-        IfOk result (λ found. found.text.items ≡ found_text search.now.question.places
+        IfOk result (λ found. found.text.items ≡ found_text stop.now search.now.question.places
         timeline.old.state (why_not (told_by search.now.reach.now) (query search.now goals) h timeline.old.state)) }
     ensures extent { (program : Checked) (goals : List ℕ) (h : List Record) →
         AreGoals program goals search.now.goals.now →
@@ -294,7 +296,7 @@ fn why_found<K: Keeper>(
         timeline.old.state).extent) }
 {
     let mut writer = Counted::new(Vec::new(alloc));
-    let told = put_why(timeline, search, wanted, &mut writer);
+    let told = put_why(timeline, search, wanted, stop, &mut writer);
     match told.written {
         Ok(()) => Ok(FoundText {
             text: writer.into_inner(),

@@ -57,6 +57,8 @@ pub struct OriginAsk<'a> {
     pub scope: Scope,
     /// The branches that decided it are told, too.
     pub tells_branches: bool,
+    /// The run ends before the first read of the stack where nothing was written since the call.
+    pub is_strict: bool,
 }
 
 /// What is asked of slots that a program did not come to.
@@ -67,6 +69,8 @@ pub struct WhynotAsk<'a> {
     pub scope: Scope,
     /// Where the values came from that decided it is left out.
     pub alone: bool,
+    /// The run ends before the first read of the stack where nothing was written since the call.
+    pub is_strict: bool,
 }
 
 /// What a run is compared with.

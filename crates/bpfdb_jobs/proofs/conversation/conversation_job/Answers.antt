@@ -13,7 +13,8 @@ use Rattle.bpf_trace.specs.declared.strict_run.Unwritten.{Unwritten}
 use Rattle.bpfdb_script.specs.SlotTexts.{SlotTexts}
 use Rattle.bpfdb_faults.specs.Streams.{Spared, Stream, Told}
 use Rattle.bpfdb_jobs.specs.Connections.{ring_refusals}
-use Rattle.bpfdb_jobs.specs.Conversations.{Broken, Converses, IsView, Meets, Refused, Served, conversation_line, stop_by, stop_line}
+use Rattle.bpfdb_jobs.specs.Conversations.{Broken, Converses, IsView, Meets, Refused, Served, conversation_line, stop_by}
+use Rattle.bpfdb_jobs.specs.Origins.{stop_line}
 use Rattle.bpfdb_jobs.specs.Jobs.{initial_of, unwritten_in}
 use Rattle.bpfdb_jobs.specs.Scripts.{Exchanges}
 use Rattle.bpfdb_jobs.specs.Streams.{Outputs}

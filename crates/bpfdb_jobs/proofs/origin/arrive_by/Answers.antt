@@ -19,11 +19,9 @@ returns-in-Err-obey_script-clause-err c =
     c.in-Err-obey_script.refusal c.in-Err-obey_script.ensures
 
 pub returns-clause-ok : goal.returns-clause-ok
-returns-clause-ok c = (
-  refl,
-  script-arrives c.args.job.now c.args.loaded c.requires.loaded c.args.script c.requires.script c.in-Ok.session c.obey_script.new.session c.in-Ok.ensures.ok
-      c.in-Ok-obey_script.moves c.open.result
-      (c.open.ensures.state ∙ ap (λ (pair : State × RingKeeper). pair.0) c.close-cpu.ensures.same)
-      (c.open.ensures.keeper ∙ ap (λ (pair : State × RingKeeper). pair.1) c.close-cpu.ensures.same)
-      c.in-Ok-obey_script.ensures,
-)
+returns-clause-ok c = λ strict known is_known.
+    script-arrives c.args.job.now c.args.loaded c.requires.loaded c.args.script c.requires.script c.in-Ok.session c.obey_script.new.session c.in-Ok.ensures.ok
+    strict known is_known _ refl refl c.new.ensures.items
+    (c.open.ensures.state ∙ ap (λ (pair : State × RingKeeper). pair.0) c.close-cpu.ensures.same)
+    (c.open.ensures.keeper ∙ ap (λ (pair : State × RingKeeper). pair.1) c.close-cpu.ensures.same)
+    c.in-Ok-obey_script.ensures

@@ -10,7 +10,7 @@ pub tell-requires : goal.tell-requires
 tell-requires g c =
     let s = c.requires.asked in
     rw c.as_slice.ensures.value
-    (branches-behind c.args.origin.now c.args.job.now _ c.args.reached.arrived.timeline c.args.reached.arrived.moves c.args.asked.parts.now c.args.asked.question s c.in-Ok.found c.requires.branches
+    (branches-behind c.args.origin.now c.args.job.now c.args.reached c.args.asked.parts.now c.args.asked.question s c.in-Ok.found _ c.requires.branches
     (c.in-Ok.ensures s.arrived.at.point.history s.arrived.held))
 
 pub returns-in-Err-clause-does : goal.returns-in-Err-clause-does

@@ -4,6 +4,9 @@ use Rattle.bpf_lines.specs.NamedTexts.{named_text}
 use Rattle.counted_io.proofs.Appending.{Writes-none, Writes-text}
 use Rattle.bpfdb_jobs.proofs.origin.put_told.Goals as goal
 
+pub returns-in-None-clause-text : goal.returns-in-None-clause-text
+returns-in-None-clause-text g c = λ h stands. rw c.in-None.is (c.put_found.ensures.text h stands)
+
 pub returns-clause-text : goal.returns-clause-text
 returns-clause-text g c = λ h stands.
     let found = c.in-Ok.ensures.text h stands in

@@ -23,7 +23,7 @@ returns-in-Ok-written-clause-ok c =
     let history = (behind c.args.job.now.options c.args.values.steps (begun_for c.args.job.now.options c.args.run.cpu.program c.args.run.context.now)).point.history in
     let text : c.into_inner.result.items
     ≡ named_by (option_map (λ n. n.now) c.args.run.names)
-    (asked_text c.question_of-question.result c.asked_at-asked.result.items history c.in-Ok.arrived.timeline.state []) =
+    (asked_text [] c.question_of-question.result c.asked_at-asked.result.items history c.in-Ok.arrived.timeline.state []) =
     rw c.into_inner.ensures (rw (c.new-writer.ensures, c.new-2.ensures.items) at written.ok) in
     text
     ∙ something-told _ c.args.run.places c.args.scope.now c.args.job.now.options (value_of c.args.values) _ c.in-Ok.arrived.timeline c.in-Ok.arrived.moves ran
