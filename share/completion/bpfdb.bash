@@ -71,8 +71,8 @@ _bpfdb() {
     run) words="-m --mem --packet --maps --regs --steps --strict --words --listing --object --section --entry --entries --helper --fields --struct --with --no-linux --faithful --json -h --help" ;;
     trace) words="-m --mem --packet --maps --regs --steps --from --count --branches --profile --calls --strict --words --listing --object --section --entry --entries --helper --fields --struct --with --no-linux --faithful --json -h --help" ;;
     debug) words="-m --mem --packet --maps --regs --journal --steps --strict --words --listing --object --section --entry --entries --helper --fields --struct --with --no-linux --faithful --json --questions -h --help" ;;
-    origin) words="-m --mem --packet --maps --regs --journal --steps --branches --words --listing --object --section --entry --entries --helper --script --fields --struct --with --no-linux --faithful --lines --addresses --json --dot -h --help" ;;
-    whynot) words="-m --mem --packet --maps --regs --journal --steps --words --listing --object --section --entry --entries --helper --script --fields --struct --with --no-linux --faithful --lines --addresses --alone --json -h --help" ;;
+    origin) words="-m --mem --packet --maps --regs --journal --steps --branches --strict --words --listing --object --section --entry --entries --helper --script --fields --struct --with --no-linux --faithful --lines --addresses --json --dot -h --help" ;;
+    whynot) words="-m --mem --packet --maps --regs --journal --steps --strict --words --listing --object --section --entry --entries --helper --script --fields --struct --with --no-linux --faithful --lines --addresses --alone --json -h --help" ;;
     diff) words="-m --mem --packet --maps --regs --journal --steps --words --listing --object --section --entry --entries --helper --fields --struct --with --no-linux --faithful --lines --addresses --alone --other-mem --other-packet --trace --writes --json -h --help" ;;
     asm) words="-h --help" ;;
     disasm) words="--maps --words --listing --object --section --entry --entries --helper --fields --struct --with --no-linux --faithful --json -h --help" ;;

@@ -63,7 +63,7 @@ complete -c bpfdb -n "__fish_seen_subcommand_from trace" -l count -x -d "The mos
 complete -c bpfdb -n "__fish_seen_subcommand_from trace origin" -l branches -d "trace shows of these steps the conditional jumps alone"
 complete -c bpfdb -n "__fish_seen_subcommand_from trace" -l profile -d "Shows how often each instruction ran"
 complete -c bpfdb -n "__fish_seen_subcommand_from trace" -l calls -d "Shows the calls that leave FILE's own code"
-complete -c bpfdb -n "__fish_seen_subcommand_from run trace debug" -l strict -d "Stops at a read of the stack that nothing wrote"
+complete -c bpfdb -n "__fish_seen_subcommand_from run trace debug origin whynot" -l strict -d "Stops at a read of the stack that nothing wrote"
 complete -c bpfdb-shell -l strict -d "Stops at a read of the stack that nothing wrote"
 complete -c bpfdb-page -l strict -d "Stops at a read of the stack that nothing wrote"
 complete -c bpfdb -n "__fish_seen_subcommand_from run trace debug origin whynot diff disasm check load gdb" -l words -d "FILE is raw words"

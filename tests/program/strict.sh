@@ -152,6 +152,68 @@ row 'debug --strict: an empty script' 0 '' '' '' debug --strict --listing t.s
 refused 'refused C3: length is no multiple of 8' debug --strict ragged
 refused 'refused O1: context too long' debug --strict -m long --listing stop.s
 
+# Questions of a strict run: asked before that instruction, behind its line; of a value that isn't named about what the instruction reads.
+there='read of 0x2000001fe at 3: not written since the call\nat 3: ldxh r0, [r10-2]\n'
+bytes='-1 0x2000001ff:1 = 0x5; 2: stb [r10-1], 5\nleft 0x2000001fe:1 = 0x0; not written since the call\n'
+tells 0 "$there$bytes" origin --strict --listing t.s
+tells 0 "$there$bytes" origin --strict --steps 4 t.s
+tells 0 "$there-3 r1 = 0x1; 0: mov r1, 1\n" origin --strict t.s r1
+tells 0 "${there}left 0x2000001fe:1 = 0x0; not written since the call\n" origin --strict t.s 0x2000001fe
+tells 0 "${there}it can still be reached\n" whynot --strict t.s 4
+tells 0 "${there}it was reached 3 moves back\n" whynot --strict --alone t.s 0
+# The first step of all: it is asked at the opening. A step in a function that was called; a helper's map, and its key, of which some bytes were written.
+tells 0 'read of 0x2000001ff at 0: not written since the call\nat 0: ldxb r0, [r10-1]\nleft 0x2000001ff:1 = 0x0; not written since the call\n' origin --strict first.s
+tells 0 'read of 0x2000001ff at 0: not written since the call\nat 0: ldxb r0, [r10-1]\nit can still be reached\n' whynot --strict first.s 1
+tells 0 'read of 0x2000005ff at 2: not written since the call\nat 2: ldxb r0, [r10-1]\n-1 0x200000400:512; 0: callf L2; not written since the call\n' origin --strict called.s
+listing key.s 'stb [r10-4], 0;sth [r10-3], 0;ldmap r1, 0;mov r2, r10;add r2, -4;call 1;mov r0, 0;exit'
+tells 0 'read of 0x2000001ff at 6: not written since the call\nat 6: call 1\n-3 r1 = 0x400000000; 2: ldmap r1, 0\n-4 0x2000001fd:2 = 0x0; 1: sth [r10-3], 0\n-5 0x2000001fc:1 = 0x0; 0: stb [r10-4], 0\nleft 0x2000001ff:1 = 0x0; not written since the call\n' \
+    origin --strict --maps 16x2 key.s
+tells 1 'read of 0x2000001ff at 6: not written since the call\nat 6: call 1\n-3 r1 = 0x400000000; 2: ldmap r1, 0\ncut: there are more lines\n' origin --strict --lines 1 --maps 16x2 key.s
+tells 0 'read of 0x2000001ff at 6: not written since the call\nat 6: call 1\nleft r3 = 0x0; at the opening\n' origin --strict --maps 16x2 key.s r3
+# With registers at the start, a small journal and branches.
+tells 0 "${there}left r5 = 0x7; at the opening\n" origin --strict --regs r5=7 --journal 1024 t.s r5
+tells 0 "$there-3 r1 = 0x1; 0: mov r1, 1\nno other branch; at the opening\n" origin --strict --branches t.s r1
+# As JSON, and as a graph.
+tells 0 '{"kind":"unwritten","address":"0x2000001fe","slot":3}
+{"kind":"at","slot":3,"insn":"ldxh r0, [r10-2]"}
+{"kind":"move","moves":3,"slot":0,"insn":"mov r1, 1","parts":[{"part":"r1","value":"0x1"}]}\n' origin --strict --json t.s r1
+tells 0 '{"kind":"unwritten","address":"0x2000001fe","slot":3}
+{"kind":"at","slot":3,"insn":"ldxh r0, [r10-2]"}
+{"kind":"reached","moves":3}\n' whynot --strict --json t.s 0
+tells 0 'strict digraph origin {
+  node [shape=box];
+  n0 [label="read of 0x2000001fe at 3: not written since the call"];
+  n1 [label="at 3: ldxh r0, [r10-2]"];
+  n2 [label="-3 r1 = 0x1; 0: mov r1, 1"];
+}\n' origin --strict --dot t.s r1
+# What is refused is refused so, by the state there.
+refused 'refused V2: address not present' origin --strict t.s 0x1
+refused 'refused V1: neither r0 to r9 nor ADDRESS:COUNT' origin --strict t.s r10
+refused 'refused O1: context too long' origin --strict -m long stop.s
+usage "the argument '--strict' cannot be used with '--script <PATH>'" origin --strict --script t.s t.s
+usage "the argument '--strict' cannot be used with '--script <PATH>'" whynot --strict --script t.s t.s 0
+
+# same WORD..: what is printed, told and answered with --strict behind the subcommand is what comes of it without.
+same() {
+    subcommand=$1
+    shift
+    run "$subcommand" "$@"
+    cp found/out wanted/out
+    cp found/err wanted/err
+    status=$(cat found/status)
+    run "$subcommand" --strict "$@"
+    count=$((count + 1))
+    { cmp -s wanted/out found/out && cmp -s wanted/err found/err && [ "$status" = "$(cat found/status)" ]; } || complain "as without --strict: $subcommand $*"
+}
+for file in stop.s over.s 'late.s --steps 1' 't.s --steps 3' ragged; do
+    for ask in origin 'origin --branches' 'origin --json' 'origin --dot' 'whynot --json'; do
+        what=''
+        [ "${ask%% *}" = whynot ] && what=0
+        # shellcheck disable=SC2086
+        same $ask $file $what
+    done
+done
+
 # The planted bug of examples/bugs, and the packet with which it doesn't show.
 if has_clang 'a strict run of examples/bugs/limits.c'; then
     clang -O2 -target bpf -c -o limits.o "$top/examples/bugs/limits.c" 2> found/err || complain "examples/bugs/limits.c: $(cat found/err)"
@@ -160,6 +222,18 @@ if has_clang 'a strict run of examples/bugs/limits.c'; then
     grep -q -x 'read of 0x2000001fc at [0-9]*: not written since the call' found/out || complain "a strict run of examples/bugs/limits.c: $(cat found/out)"
     bytes whole 05 01 10
     result '0x15\n' run --strict --object -m whole limits.o
+
+    # With its lines both lines tell where that is in C.
+    cp "$top/examples/bugs/limits.c" limits.c
+    clang -O2 -g -target bpf -c -o lined.o limits.c 2> found/err || complain "limits.c with its lines: $(cat found/err)"
+    where="in in_flight (limits.c:$(sed -n '/limits.rate + limits.burst/=' limits.c))"
+    printf '%s\n' "read of 0x2000001fc at N: not written since the call; $where" "at N: ldxw r, [r10-4]; $where" > wanted/lined
+    for ask in 'origin' 'whynot limits.c:20'; do
+        count=$((count + 1))
+        # shellcheck disable=SC2086
+        "$program" ${ask%% *} --strict --object -m "$top/examples/bugs/limits.packet" lined.o ${ask#"${ask%% *}"} > found/out 2> found/err
+        head -n 2 found/out | sed 's/at [0-9]*:/at N:/; s/ldxw r[0-9]*,/ldxw r,/' | cmp -s - wanted/lined || complain "with lines, $ask --strict: $(cat found/out found/err)"
+    done
 fi
 
 # Programs at random.
