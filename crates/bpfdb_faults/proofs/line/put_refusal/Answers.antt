@@ -1,3 +1,6 @@
+use Rattle.std.proofs.Common.{ℕ, List, ◌++◌, subst}
+use Rattle.bpf_lines.specs.DebugInfos.{no_place_line}
+use Rattle.counted_io.specs.Writing.{Writes}
 use Rattle.bpfdb_faults.proofs.line.put_refusal.Goals as goal
 
 pub returns-in-Object : goal.returns-in-Object
@@ -11,7 +14,9 @@ returns-in-NoTest g c = rw c.in-NoTest.is c.put_no_such.ensures
 
 pub returns-in-NoPlace : goal.returns-in-NoPlace
 returns-in-NoPlace g c = λ first front known.
-    rw c.in-NoPlace.is (rw c.as_bytes.ensures.value at (c.put_no_place.ensures first front known))
+    rw c.in-NoPlace.is
+    (subst (λ (n : List ℕ). Writes g.E.Write.contents first c.put_no_place.new.writer c.put_no_place.result (front ++ no_place_line n))
+    c.as_bytes.ensures.value (c.put_no_place.ensures first front known))
 
 pub returns-in-Tests : goal.returns-in-Tests
 returns-in-Tests g c = λ first front known.
