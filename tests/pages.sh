@@ -265,7 +265,7 @@ refusals() {
         }
     ' > "$work/unsorted"
     # (a name that no test has is a job's, not a test file's; so is that of no place)
-    sed -n 's/.*b"refused \([TV][0-9]*\): \([^"\\]*\).*/\1 \2/p' crates/bpfdb_faults/src/line.rt >> "$work/unsorted"
+    sed -n 's/.*b"refused \([TV][0-9]*\): \([^":\\]*\).*/\1 \2/p' crates/bpfdb_faults/src/line.rt crates/bpf_lines/src/debug_info.rt >> "$work/unsorted"
     sort -u "$work/unsorted" > "$work/numbers"
     sed -n 's/^| \([CAMEOJQTV][0-9]*\) | \([^|]*\) |.*/\1 \2/p' docs/COMMANDS.md | sort > "$work/rows"
     diff "$work/numbers" "$work/rows" > "$work/diff" && [ -s "$work/numbers" ] && return
