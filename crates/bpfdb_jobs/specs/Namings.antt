@@ -1,21 +1,25 @@
 -- What names the places of a job's program: the labels of a listing; what is told of the objects that it was linked of; or nothing, where that can't be read.
-use Rattle.std.specs.Prelude.{◌≡◌, ⊤, All, Bool, true, false, Option, Some, None}
+use Rattle.std.specs.Prelude.{◌≡◌, ⊤, ℕ, All, Bool, true, false, Option, Some, None}
 use Rattle.bpf_lines.specs.Objects.{HasPartLines}
 use Rattle.bpf_lines.specs.declared.debug_info.DebugInfo.{DebugInfo}
 use Rattle.bpf_lines.specs.declared.debug_info.DebugInfo.TheVariants as info
 use Rattle.bpf_load.specs.declared.loading.LinkedObject.{LinkedObject}
 use Rattle.bpf_text.specs.LineTable.{IsLineTable}
 use Rattle.bpf_text.specs.Listing.{IsFaultOf}
-use Rattle.bpf_text.specs.declared.fault.AsmFault.{AsmFault}
+use Rattle.bpf_text.specs.declared.fault.AsmFault.TheVariants.{Line}
+use Rattle.bpf_text.specs.declared.fault.LineFault.{LineFault}
 use Rattle.bpfdb_jobs.specs.Jobs.{AreLinesFor, LacksLines, is_listing}
 use Rattle.bpfdb_jobs.specs.declared.job.Job.{Job}
 use Rattle.bpfdb_jobs.specs.declared.naming.Naming.{Naming}
 use Rattle.bpfdb_jobs.specs.declared.naming.Naming.TheVariants as naming
 
--- A listing that was loaded has a table: no fault but want of memory, which is refused, leaves it without.
+-- A listing has no table by a fault of one of its lines, and one that was loaded has none. (Want of memory is refused.)
+abbrev pub HasNoTable : Job → Type 0
+HasNoTable job = (why : LineFault) × (line : ℕ) × IsFaultOf job.file.now (Line why line)
+
 abbrev pub NamesLabels : Bool → Job → DebugInfo → Type 0
 NamesLabels true job (info.Listing table) = IsLineTable job.file.now table.now
-NamesLabels true job info.Nothing = (why : AsmFault) × IsFaultOf job.file.now why
+NamesLabels true job info.Nothing = HasNoTable job
 NamesLabels false job info.Nothing = ⊤
 NamesLabels listing job named = ⊥
 
@@ -29,7 +33,7 @@ NamesPlaces job None named = NamesLabels (is_listing job.target.kind) job named
 -- Scaffolding: no public contract cites this. The same, in memory.
 abbrev pub HasLabels : Bool → Job → Naming → Type 0
 HasLabels true job (naming.Listing table) = IsLineTable job.file.now table.items
-HasLabels true job naming.Nothing = (why : AsmFault) × IsFaultOf job.file.now why
+HasLabels true job naming.Nothing = HasNoTable job
 HasLabels false job naming.Nothing = ⊤
 HasLabels listing job named = ⊥
 
